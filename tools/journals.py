@@ -21,15 +21,17 @@ MARKER = b"%journal\n"
 PATHS = ("bias-own", "bias-taken", "stack-first", "stack-again", "monitor-first", "monitor-again")
 FAULTS = ("NotInt", "Overflow", "NotRef", "TooDeep", "IllegalMonitorState", "Range", "Unguarded", "TooManyDumps", "TooMany")
 ENDS = ("fault", "spent", "done")
-MARKS = ("print", "dump", "hash") + ENDS
+MARKS = ("new", "print", "dump", "hash") + ENDS
 STAMPS = range(1, 1 << 46)
 INTEGERS = range(-(1 << 61), 1 << 61)
 HASHES = range(1 << 32)
+MADE = range(1024)  # the objects that a thread may make are numbered so
 
 NAME = r"[A-Za-z_][A-Za-z0-9_]*"
 NUMBER = r"(?:0|[1-9][0-9]{0,18})"
-OBJECT = rf"(?P<object>{NAME}(?:\[{NUMBER}\])?)"
-VALUE = rf"(?P<value>-?[1-9][0-9]{{0,18}}|0|{NAME}(?:\[{NUMBER}\])?)"
+OBJECT_NAME = rf"{NAME}(?:\[{NUMBER}\]|\.{NUMBER})?"
+OBJECT = rf"(?P<object>{OBJECT_NAME})"
+VALUE = rf"(?P<value>-?[1-9][0-9]{{0,18}}|0|{OBJECT_NAME})"
 LINE = re.compile(rf"@(?P<stamp>{NUMBER}) (?P<thread>{NAME}) (?P<kind>[a-z]+)(?P<rest>(?: \S+)*)")
 FORMS = {
     "enter": rf" {OBJECT} (?P<path>{'|'.join(PATHS)})",
@@ -38,6 +40,7 @@ FORMS = {
     "resume": f" {OBJECT}",
     "get": f" {OBJECT} {NUMBER} {VALUE}",
     "put": f" {OBJECT} {NUMBER} {VALUE}",
+    "new": rf" {OBJECT} (?P<class>{NAME})",
     "notify": rf" {OBJECT} (?P<woken>{NAME})",
     "notifyall": rf" {OBJECT} (?P<count>{NUMBER})",
     "hash": rf" {OBJECT} (?P<hash>{NUMBER})(?: draw {NUMBER})?",
@@ -63,7 +66,7 @@ class Entry:
     stamp: int
     thread: str
     kind: str
-    parts: dict  # what its form names: object, path, value, woken, count, hash, fault
+    parts: dict  # what its form names: object, path, value, class, woken, count, hash, fault
     line: str
 
     @property
@@ -155,25 +158,43 @@ def halves(data):
     return data[:at], data[at + len(MARKER) :]
 
 
+def is_made(word):
+    """Whether it is the name of an object that a thread makes: the thread's name, a dot, and how many the thread has made before."""
+    return "." in word
+
+
+class Objects:
+    """Which names of objects there may be: the declared ones, and those that threads make."""
+
+    def __init__(self, threads, declared):
+        self.threads, self.declared = set(threads), declared
+
+    def __contains__(self, word):
+        thread, _, place = word.partition(".")
+        return word in self.declared or (is_made(word) and thread in self.threads and int(place) in MADE)
+
+
 def declared(program):
-    """The names of the threads and of the objects of a program, whose lines are taken to be right."""
-    threads, objects = [], set()
+    """The names of the threads, of the classes and of the objects of a program, whose lines are taken to be right."""
+    threads, classes, objects = [], set(), set()
     for line in program.decode("latin-1").replace("\r\n", "\n").split("\n"):
         words = line.partition("#")[0].split()
         if words[:1] == ["thread"]:
             threads += words[1:2]
+        elif words[:1] == ["class"]:
+            classes |= set(words[1:2])
         elif words[:1] == ["object"]:
             objects |= set(words[1:2])
         elif words[:1] == ["array"] and words[3:4] and words[3].isdigit():
             objects |= {f"{words[1]}[{element}]" for element in range(min(int(words[3]), 4096))}
-    return threads, objects
+    return threads, classes, Objects(threads, objects)
 
 
 def is_value(word, objects):
     return int(word) in INTEGERS if word.lstrip("-").isdigit() else word == "nil" or word in objects
 
 
-def entry_of(number, line, threads, objects):
+def entry_of(number, line, threads, classes, objects):
     """The entry that a line tells; nothing where it tells none."""
     head = LINE.fullmatch(line)
     form = FORMS[head["kind"]].fullmatch(head["rest"]) if head and head["kind"] in FORMS else None
@@ -183,15 +204,16 @@ def entry_of(number, line, threads, objects):
     fits = (
         "object" not in parts or parts["object"] in objects,
         is_value(parts.get("value", "nil"), objects),
+        "class" not in parts or (parts["class"] in classes and is_made(parts["object"])),
         parts.get("woken", "none") in ["none", *threads],
         int(parts.get("hash", 0)) in HASHES,
     )
     return Entry(number, int(head["stamp"]), head["thread"], head["kind"], parts, line) if all(fits) else None
 
 
-def entries_of(journal, threads, objects):
+def entries_of(journal, threads, classes, objects):
     *lines, rest = journal.decode("latin-1").split("\n")
-    entries = [entry_of(number, line, threads, objects) for number, line in enumerate(lines, 1)]
+    entries = [entry_of(number, line, threads, classes, objects) for number, line in enumerate(lines, 1)]
     if None in entries:
         raise Refused(f"journal {entries.index(None) + 1}: unreadable")
     if rest:
@@ -216,6 +238,7 @@ class Monitors:
         self.taken = {}  # each object that was taken: the last hold of it
         self.waiting = collections.defaultdict(list)  # each object: the waits that nobody notified, the longest first
         self.asleep = {}  # each thread that waits: its wait
+        self.made = collections.Counter()  # how many objects each thread has made
         self.ended = set()
         self.last = (0, -1)
 
@@ -224,12 +247,26 @@ class Monitors:
         need(place > self.last and entry.thread not in self.ended)
         need((entry.thread in self.asleep) == (entry.kind == "resume"))
         self.last = place
-        if entry.kind in MARKS:
+        need(entry.kind == "new" or self.is_there(entry.object or ""))
+        need(entry.kind == "get" or self.is_there(entry.parts.get("value", "")))
+        if entry.kind == "new":
+            self.new(entry)
+        elif entry.kind in MARKS:
             self.mark(entry)
         elif entry.kind in ("get", "put"):
             self.history.slots.append((entry, self.own(entry)))
         else:
             getattr(self, entry.kind)(entry)
+
+    def is_there(self, word):
+        """Whether no object is named that a thread is still to make."""
+        thread, _, place = word.partition(".")
+        return not is_made(word) or int(place) < self.made[thread]
+
+    def new(self, entry):
+        need(entry.object == f"{entry.thread}.{self.made[entry.thread]}")
+        self.made[entry.thread] += 1
+        self.history.marks.append(entry)
 
     def own(self, entry):
         """The hold that the entry's thread has of its object."""
@@ -308,8 +345,8 @@ def need(allowed):
 def history_of(data):
     """The history that a program with a journal tells."""
     program, journal = halves(data)
-    threads, objects = declared(program)
-    history = History(threads, entries_of(journal, threads, objects))
+    threads, classes, objects = declared(program)
+    history = History(threads, entries_of(journal, threads, classes, objects))
     monitors = Monitors(history)
     for entry in history.entries:
         try:

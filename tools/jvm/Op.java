@@ -2,7 +2,7 @@ package jvm;
 
 /**
  * The instructions of the object language, each with its operands: x is a local, v a number, n a declaration
- * of objects, k a slot and l a label.
+ * of objects, c a class, k a slot and l a label.
  */
 enum Op {
     SET("xv"),
@@ -19,6 +19,7 @@ enum Op {
     GET("xxk"),
     PUT("xkx"),
     HASH("xx"),
+    NEW("xc"),
     PRINT("x"),
     JUMP("l"),
     JLT("xxl"),

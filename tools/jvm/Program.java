@@ -3,12 +3,39 @@ package jvm;
 import java.util.ArrayList;
 import java.util.List;
 
-/** A program as data: its objects, its declarations of objects, and its threads. */
+/** A program as data: its classes, its objects, its declarations of objects, and its threads. */
 final class Program {
-    /** Objects by their numbers. */
+    static final int MOST_MADE = 1024;
+
+    final List<Kind> kinds = new ArrayList<>();
+    /** Declared objects by their numbers. */
     final List<Cell> objects = new ArrayList<>();
     final List<Declared> declarations = new ArrayList<>();
     final List<Section> threads = new ArrayList<>();
+    /** How many slots an object has that a thread makes: as many as the largest class that a `new` names. */
+    int madeSlots;
+
+    /** How many numbers of objects there are: of the declared ones, and of those that threads may make. */
+    int total() {
+        return objects.size() + MOST_MADE * threads.size();
+    }
+
+    /** A class of the program. */
+    static final class Kind {
+        final String name;
+        final int slots;
+        private final Class<?> made;
+
+        Kind(String name, int slots, Class<?> made) {
+            this.name = name;
+            this.slots = slots;
+            this.made = made;
+        }
+
+        Cell make() throws ReflectiveOperationException {
+            return (Cell) made.getConstructor().newInstance();
+        }
+    }
 
     /** An object or an array: the objects first to first + size - 1. */
     static final class Declared {

@@ -9,8 +9,7 @@ import java.util.Map;
 final class Reader {
     private final Program program = new Program();
     private final Classes classes = new Classes();
-    private final Map<String, Class<?>> kinds = new HashMap<>();
-    private final Map<String, Integer> slots = new HashMap<>();
+    private final Map<String, Integer> kinds = new HashMap<>();
     private final Map<String, Integer> declarations = new HashMap<>();
     private final Map<String, Integer> locals = new HashMap<>();
     private final Map<String, Integer> labels = new HashMap<>();
@@ -57,8 +56,8 @@ final class Reader {
 
     private void declare(String[] words) throws ReflectiveOperationException {
         if (words[0].equals("class")) {
-            kinds.put(words[1], classes.object(words[1]));
-            slots.put(words[1], Integer.parseInt(words[2]));
+            kinds.put(words[1], program.kinds.size());
+            program.kinds.add(new Program.Kind(words[1], Integer.parseInt(words[2]), classes.object(words[1])));
             return;
         }
         boolean array = words[0].equals("array");
@@ -68,10 +67,11 @@ final class Reader {
         int size = array ? Integer.parseInt(words[3]) : 1;
         declarations.put(words[1], program.declarations.size());
         program.declarations.add(new Program.Declared(program.objects.size(), size));
+        Program.Kind kind = program.kinds.get(kinds.get(words[2]));
         for (int element = 0; element < size; element++) {
-            Cell cell = (Cell) kinds.get(words[2]).getConstructor().newInstance();
+            Cell cell = kind.make();
             String name = array ? words[1] + "[" + element + "]" : words[1];
-            cell.open(name, program.objects.size(), slots.get(words[2]));
+            cell.open(name, program.objects.size(), kind.slots);
             program.objects.add(cell);
         }
     }
@@ -116,6 +116,9 @@ final class Reader {
             operands[index] = operand(op.operands.charAt(index), words[index + 1]);
         }
         section.code.add(new Program.Code(op, operands));
+        if (op == Op.NEW) {
+            program.madeSlots = Math.max(program.madeSlots, program.kinds.get((int) operands[1]).slots);
+        }
         if (op == Op.END) {
             section = null;
         }
@@ -125,6 +128,8 @@ final class Reader {
         switch (kind) {
             case 'x':
                 return locals.get(word);
+            case 'c':
+                return kinds.get(word);
             case 'n':
                 return declarations.get(word);
             case 'l':

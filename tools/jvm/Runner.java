@@ -32,6 +32,9 @@ public final class Runner {
     private final Program program;
     private final int number;
     private final Object[] locals;
+    /** The objects that this thread has entered, by their numbers. */
+    private final Cell[] entered;
+    private int objectsMade;
     private int fuel;
     private int depth;
     private int draws;
@@ -53,7 +56,8 @@ public final class Runner {
         this.fuel = fuel;
         section = program.threads.get(number);
         locals = new Object[section.locals];
-        holds = new int[program.objects.size()];
+        holds = new int[program.total()];
+        entered = new Cell[program.total()];
     }
 
     // What is logged
@@ -134,6 +138,7 @@ public final class Runner {
     public void entered() {
         Cell cell = asked;
         boolean again = holds[cell.number]++ > 0;
+        entered[cell.number] = cell;
         depth++;
         log(after(cell), "enter", cell, again ? "monitor-again" : "monitor-first");
     }
@@ -159,7 +164,7 @@ public final class Runner {
     public Object unwinds() {
         for (int object = 0; depth > 0; object++) {
             if (holds[object] > 0) {
-                return leaves(program.objects.get(object));
+                return leaves(entered[object]);
             }
         }
         log(leaving);
@@ -195,6 +200,9 @@ public final class Runner {
                 break;
             case ELEM:
                 locals[code.operand(0)] = element(code, at);
+                break;
+            case NEW:
+                locals[code.operand(0)] = makes(program.kinds.get(code.operand(1)), at);
                 break;
             case PRINT:
                 log("print", locals[code.operand(0)]);
@@ -235,6 +243,22 @@ public final class Runner {
             throw faults("Range", at);
         }
         return program.objects.get(declared.first + (int) element);
+    }
+
+    private Cell makes(Program.Kind kind, int at) {
+        if (objectsMade == Program.MOST_MADE) {
+            throw faults("TooMany", at);
+        }
+        try {
+            Cell cell = kind.make();
+            int its = program.objects.size() + Program.MOST_MADE * number + objectsMade;
+            cell.open(section.name + "." + objectsMade, its, program.madeSlots);
+            objectsMade++;
+            log("new", cell, kind.name);
+            return cell;
+        } catch (ReflectiveOperationException cause) {
+            throw Main.noAnswer(section.name + " can't make an object: " + cause);
+        }
     }
 
     // Instructions on an object

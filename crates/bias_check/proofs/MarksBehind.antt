@@ -13,7 +13,7 @@ use Rattle.lock_policy.specs.Draws.{state_after, next_state, value_of, nth_value
 use Rattle.plain_monitor.specs.declared.entry.Entry.{Entry}
 use Rattle.plain_monitor.specs.declared.entry.Entry.TheVariants.{Hash}
 use Rattle.plain_monitor.specs.declared.entry.Logged.{Logged}
-use Rattle.object_program.specs.Program.{ProgramText, declared_total}
+use Rattle.object_program.specs.Program.{ProgramText, objects_total}
 use Rattle.lock_journal.specs.Hashes.{first_word, hash_in, hashes_of, is_draw, is_draw_of, draws_by, is_right, are_right, hash_fits}
 use Rattle.bias_check.specs.inner.HashState.{HashState}
 use Rattle.bias_check.specs.declared.hashes.Mark.{Mark}
@@ -108,9 +108,9 @@ gives_right start t o value number done d h =
 
 -- what holds behind each entry
 pub record IsBehind (p : ProgramText) (start : ℕ) (done : List (ℕ × Logged)) (h : HashState) : Type 0 where
-  pub objects : length h.marks ≡ declared_total p
+  pub objects : length h.marks ≡ objects_total p
   pub threads : length h.drawers ≡ length p.threads
-  pub marks : (o : ℕ) → o < declared_total p → MarkAt start o done (get_or h.marks o Unseen)
+  pub marks : (o : ℕ) → o < objects_total p → MarkAt start o done (get_or h.marks o Unseen)
   pub drawers : (t : ℕ) → t < length p.threads → DrawerAt start t done (drawer_at h t)
 
 and_no : (c : Bool) → (c && false) ≡ false
@@ -151,7 +151,7 @@ apart_test q o h = grind (arith, nat_tests)
 same_test : (q : ℕ) → (q == q) ≡ true
 same_test q = grind (arith, nat_tests)
 
-behind_undrawn : (p : ProgramText) (start : ℕ) (done : List (ℕ × Logged)) (h : HashState) (t s q v : ℕ) → q < declared_total p → IsBehind p start done h
+behind_undrawn : (p : ProgramText) (start : ℕ) (done : List (ℕ × Logged)) (h : HashState) (t s q v : ℕ) → q < objects_total p → IsBehind p start done h
     → IsBehind p start (done ++ (t, record { stamp = s; entry = Hash q v None }) ∷ []) (marked_at h q v None)
 behind_undrawn p start done h t s q v within b =
     let x : ℕ × Logged = (t, record { stamp = s; entry = Hash q v None }) in
@@ -179,7 +179,7 @@ drawers_behind start t u done x drawers within thread draw h =
           rw there (drawer_stays start u done x (get_or drawers u (new_drawer 0 0)) none h)
     ]
 
-behind_drawn : (p : ProgramText) (start : ℕ) (done : List (ℕ × Logged)) (h : HashState) (t s q v n : ℕ) → q < declared_total p → t < length p.threads → IsBehind p start done h
+behind_drawn : (p : ProgramText) (start : ℕ) (done : List (ℕ × Logged)) (h : HashState) (t s q v n : ℕ) → q < objects_total p → t < length p.threads → IsBehind p start done h
     → IsBehind p start (done ++ (t, record { stamp = s; entry = Hash q v (Some n) }) ∷ []) (drawn_at h t q v n)
 behind_drawn p start done h t s q v n within thread b =
     let x : ℕ × Logged = (t, record { stamp = s; entry = Hash q v (Some n) }) in
@@ -193,12 +193,12 @@ behind_drawn p start done h t s q v n within thread b =
       drawers = λ u lt. drawers_behind start t u done x h.drawers (omega (arith, b.threads, thread)) refl refl (b.drawers u lt);
     }
 
--- a hash is of a declared object
-abbrev pub HashesDeclared : ProgramText → Entry → Type 0
-HashesDeclared p (Hash o v drawn) = o < declared_total p
-HashesDeclared p e = Unit {0}
+-- a hash is of one of the program's objects
+abbrev pub HashesOwn : ProgramText → Entry → Type 0
+HashesOwn p (Hash o v drawn) = o < objects_total p
+HashesOwn p e = Unit {0}
 
-behind_entry : (p : ProgramText) (start : ℕ) (done : List (ℕ × Logged)) (h : HashState) (t s : ℕ) (e : Entry) → t < length p.threads → HashesDeclared p e → IsBehind p start done h
+behind_entry : (p : ProgramText) (start : ℕ) (done : List (ℕ × Logged)) (h : HashState) (t s : ℕ) (e : Entry) → t < length p.threads → HashesOwn p e → IsBehind p start done h
     → IsBehind p start (done ++ (t, record { stamp = s; entry = e }) ∷ []) (noted h t e)
 behind_entry p start done h t s (Hash q v None) thread valid b = behind_undrawn p start done h t s q v valid b
 behind_entry p start done h t s (Hash q v (Some n)) thread valid b = behind_drawn p start done h t s q v n valid thread b
@@ -211,7 +211,7 @@ noted_all h [] = h
 noted_all h (x ∷ xs) = noted_all (noted h x.0 x.1.entry) xs
 
 abbrev pub AreEntriesIn : ProgramText → List (ℕ × Logged) → Type 0
-AreEntriesIn p xs = AllByRecursion (λ x. (x.0 < length p.threads) × HashesDeclared p x.1.entry) xs
+AreEntriesIn p xs = AllByRecursion (λ x. (x.0 < length p.threads) × HashesOwn p x.1.entry) xs
 
 behind_from : (p : ProgramText) (start : ℕ) (done xs : List (ℕ × Logged)) (h : HashState) → AreEntriesIn p xs → IsBehind p start done h → IsBehind p start (done ++ xs) (noted_all h xs)
 behind_from p start done [] h valid b = rw append-nil b
@@ -235,9 +235,9 @@ first_drawer start (suc n) t h =
 
 first_behind : (p : ProgramText) (start : ℕ) → IsBehind p start [] (new_hashes p start)
 first_behind p start = record {
-  objects = length-replicate (declared_total p) Unseen;
+  objects = length-replicate (objects_total p) Unseen;
   threads = length-drawers start (length p.threads);
-  marks = λ o lt. rw (get_or-replicate (declared_total p) o Unseen Unseen lt) (refl, refl, refl);
+  marks = λ o lt. rw (get_or-replicate (objects_total p) o Unseen Unseen lt) (refl, refl, refl);
   drawers = λ t lt. rw (first_drawer start (length p.threads) t lt) (refl, refl);
 }
 
@@ -245,19 +245,19 @@ pub all_behind : (p : ProgramText) (start : ℕ) (xs : List (ℕ × Logged)) →
 all_behind p start xs valid = behind_from p start [] xs (new_hashes p start) valid (first_behind p start)
 
 -- a mark tells whether the hashes of its object fit
-pub marks_tell : (p : ProgramText) (start : ℕ) (xs : List (ℕ × Logged)) (o : ℕ) → AreEntriesIn p xs → o < declared_total p
+pub marks_tell : (p : ProgramText) (start : ℕ) (xs : List (ℕ × Logged)) (o : ℕ) → AreEntriesIn p xs → o < objects_total p
     → hash_fits start xs o ≡ not (is_bad (get_or (noted_all (new_hashes p start) xs).marks o Unseen))
 marks_tell p start xs o valid lt =
     mark_tells (hashes_of o xs) (draws_on o xs) (are_right start o [] xs) _ ((all_behind p start xs valid).marks o lt)
 
 -- no entry hashes an object that the program doesn't have
-unhashed : (p : ProgramText) (o : ℕ) (e : Entry) → declared_total p ≤ o → HashesDeclared p e → hash_in o e ≡ None
+unhashed : (p : ProgramText) (o : ℕ) (e : Entry) → objects_total p ≤ o → HashesOwn p e → hash_in o e ≡ None
 unhashed p o (Hash q v drawn) h valid = let apart : (q == o) ≡ false = let lt = valid in grind (arith, nat_tests) in rw apart refl
 unhashed p o e h valid = refl
 
-pub no_hashes : (p : ProgramText) (o : ℕ) (xs : List (ℕ × Logged)) → declared_total p ≤ o → AreEntriesIn p xs → hashes_of o xs ≡ []
+pub no_hashes : (p : ProgramText) (o : ℕ) (xs : List (ℕ × Logged)) → objects_total p ≤ o → AreEntriesIn p xs → hashes_of o xs ≡ []
 no_hashes p o [] h valid = refl
 no_hashes p o (x ∷ xs) h valid = rw (unhashed p o x.1.entry h valid.0.1) (no_hashes p o xs h valid.1)
 
-pub fits_beyond : (p : ProgramText) (start o : ℕ) (xs : List (ℕ × Logged)) → declared_total p ≤ o → AreEntriesIn p xs → hash_fits start xs o ≡ true
+pub fits_beyond : (p : ProgramText) (start o : ℕ) (xs : List (ℕ × Logged)) → objects_total p ≤ o → AreEntriesIn p xs → hash_fits start xs o ≡ true
 fits_beyond p start o xs h valid = rw (no_hashes p o xs h valid) refl

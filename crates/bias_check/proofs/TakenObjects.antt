@@ -1,26 +1,22 @@
 -- The machine's objects stay as many, and it takes no hash of another one.
 use Rattle.std.proofs.Common.{◌≡◌, ℕ, List, length, refl, sym, ◌∙◌, ap, arith, slice_get, Option, Some, None}
-use Rattle.std.proofs.lemmas.List.{take_all}
+use Rattle.std.proofs.lemmas.List.{length-map}
 use Rattle.std.proofs.lemmas.Option.{same_Some}
 use Rattle.plain_monitor.specs.declared.entry.Entry.{Entry}
 use Rattle.plain_monitor.specs.declared.entry.Entry.TheVariants.{Hash}
-use Rattle.plain_monitor.specs.Objects.{PlainObject, new_objects, take_entry}
-use Rattle.object_program.specs.declared.program.ObjectDef.{ObjectDef}
-use Rattle.object_program.specs.Program.{ProgramText, declared_total, shape_from}
+use Rattle.plain_monitor.specs.Objects.{PlainObject, new_object, take_entry}
+use Rattle.object_program.specs.Program.{ProgramText, objects_total, shape_of}
 use Rattle.object_program.specs.Valid.{IsProgram}
-use Rattle.object_program.proofs.Made.{declared_shape}
+use Rattle.object_program.proofs.Made.{shape_total}
 use Rattle.plain_machine.specs.Thread.{ThreadState}
 use Rattle.plain_machine.specs.Machine.{PlainMachine, new_machine, moved, take, made_behind}
 use Rattle.plain_machine.proofs.Behind.{length_behind}
-use Rattle.plain_machine.proofs.Starts.{total_at_end}
 use Rattle.bias_check.proofs.Options.{and_then}
 use Rattle.bias_check.proofs.ThreadsRead.{get_within}
-use Rattle.bias_check.proofs.MarksBehind.{HashesDeclared}
+use Rattle.bias_check.proofs.MarksBehind.{HashesOwn}
 
-pub first_count : (p : ProgramText) (fuel : ℕ) → IsProgram p → length (new_machine p fuel).objects ≡ declared_total p
-first_count p fuel h =
-    total_at_end p.classes p.objects p.objects (length p.objects) (new_machine p fuel).objects
-    (ap new_objects (declared_shape p h) ∙ ap (λ (ds : List ObjectDef). new_objects (shape_from p.classes ds)) (sym (take_all (length p.objects) p.objects (omega arith)))) refl (omega arith)
+pub first_count : (p : ProgramText) (fuel : ℕ) → IsProgram p → length (new_machine p fuel).objects ≡ objects_total p
+first_count p fuel h = length-map (shape_of p) (λ (x : ℕ × ℕ). new_object x.1) ∙ shape_total p
 
 -- the objects behind an entry that the machine takes
 record IsBehind (m n : PlainMachine) (t : ℕ) (e : Entry) : Type 0 where
@@ -44,10 +40,10 @@ pub as_many : (m n : PlainMachine) (t : ℕ) (e : Entry) → take m t e ≡ Some
 as_many m n t e h =
     let b = behind m n t e h in ap length (sym b.are) ∙ length_behind m.objects b.objects t e b.takes
 
-hashed : (p : ProgramText) (objects after : List PlainObject) (t : ℕ) (e : Entry) → length objects ≡ declared_total p → take_entry objects t e ≡ Some after → HashesDeclared p e
+hashed : (p : ProgramText) (objects after : List PlainObject) (t : ℕ) (e : Entry) → length objects ≡ objects_total p → take_entry objects t e ≡ Some after → HashesOwn p e
 hashed p objects after t (Hash o v drawn) count h =
     and_then _ (slice_get objects o) after h (λ x some f. let lt = get_within objects o x some in omega (arith, lt, count))
 hashed p objects after t e count h = tt
 
-pub hash_is_declared : (p : ProgramText) (m n : PlainMachine) (t : ℕ) (e : Entry) → length m.objects ≡ declared_total p → take m t e ≡ Some n → HashesDeclared p e
-hash_is_declared p m n t e count h = let b = behind m n t e h in hashed p m.objects b.objects t e count b.takes
+pub hash_is_own : (p : ProgramText) (m n : PlainMachine) (t : ℕ) (e : Entry) → length m.objects ≡ objects_total p → take m t e ≡ Some n → HashesOwn p e
+hash_is_own p m n t e count h = let b = behind m n t e h in hashed p m.objects b.objects t e count b.takes

@@ -4,7 +4,7 @@ use Rattle.std.specs.Prelude.{Result, position}
 use Rattle.std.specs.List.{AllByRecursion, position_or_len}
 use Rattle.std.proofs.lemmas.Bool.{cases_lt, cases_eq}
 use Rattle.plain_monitor.specs.declared.entry.Logged.{Logged}
-use Rattle.object_program.specs.Program.{ProgramText, declared_total}
+use Rattle.object_program.specs.Program.{ProgramText, objects_total}
 use Rattle.object_program.specs.Valid.{IsProgram}
 use Rattle.plain_machine.specs.Machine.{PlainMachine, new_machine}
 use Rattle.bias_check.specs.declared.answer.Checked.{Checked}
@@ -25,17 +25,17 @@ use Rattle.bias_check.specs.Answer.{IsFirstUnreadable, IsFirstWithoutStep, IsLea
 use Rattle.bias_check.specs.inner.Checking.{first_check, checked_from, hash_verdict, verdict_of, answer_of}
 use Rattle.bias_check.proofs.Cuts.{first_at, none_at}
 use Rattle.bias_check.proofs.MarksBehind.{noted_all, AreEntriesIn, all_behind, marks_tell, fits_beyond}
-use Rattle.bias_check.proofs.TakenObjects.{first_count, as_many, hash_is_declared}
+use Rattle.bias_check.proofs.TakenObjects.{first_count, as_many, hash_is_own}
 use Rattle.bias_check.proofs.RunsChecked.{going, run_checked, all_readable, unread, HasRun, HasStop, Ends, ends}
 
--- the entries of a run are of the program's threads, and no hash is of an object that isn't there
-entries_from : (p : ProgramText) (before : Option (ℕ × Logged)) (m n : PlainMachine) (lines : List (List ℕ)) (xs : List (ℕ × Logged)) → length m.objects ≡ declared_total p → IsRun p before m lines xs n → AreEntriesIn p xs
+-- the entries of a run are of the program's threads, and no hash is of another object than the program's
+entries_from : (p : ProgramText) (before : Option (ℕ × Logged)) (m n : PlainMachine) (lines : List (List ℕ)) (xs : List (ℕ × Logged)) → length m.objects ≡ objects_total p → IsRun p before m lines xs n → AreEntriesIn p xs
 entries_from p before m n [] [] count run = tt
 entries_from p before m n [] (x ∷ xs) count run = absurd run
 entries_from p before m n (line ∷ lines) [] count run = absurd run
 entries_from p before m n (line ∷ lines) (x ∷ xs) count run =
     let taken = run.1.taken in (
-      (run.1.tells.thread, hash_is_declared p m run.0 x.0 x.1.entry count taken),
+      (run.1.tells.thread, hash_is_own p m run.0 x.0 x.1.entry count taken),
       entries_from p (Some x) run.0 n lines xs (as_many m run.0 x.0 x.1.entry taken ∙ count) run.2,
     )
 
@@ -85,8 +85,8 @@ bad_place : (p : ProgramText) (start : ℕ) (xs : List (ℕ × Logged)) (o : ℕ
 bad_place p start xs o valid h =
     let marks = marks_of p start xs in
     let t = first_at is_bad marks o h in
-    let count : length marks ≡ declared_total p = (all_behind p start xs valid).objects in
-    let within : o < declared_total p = omega (arith, t.same, t.less, count) in
+    let count : length marks ≡ objects_total p = (all_behind p start xs valid).objects in
+    let within : o < objects_total p = omega (arith, t.same, t.less, count) in
     let bad : is_bad (get_or marks o Unseen) ≡ true = rw t.same (passes is_bad marks Unseen t.less) in
     record {
       bad = marks_tell p start xs o valid within ∙ ap not bad;
@@ -96,9 +96,9 @@ bad_place p start xs o valid h =
 no_place : (p : ProgramText) (start : ℕ) (xs : List (ℕ × Logged)) (o : ℕ) → AreEntriesIn p xs → None ≡ position is_bad (marks_of p start xs) → hash_fits start xs o ≡ true
 no_place p start xs o valid h =
     let marks = marks_of p start xs in
-    let count : length marks ≡ declared_total p = (all_behind p start xs valid).objects in
+    let count : length marks ≡ objects_total p = (all_behind p start xs valid).objects in
     let past = none_at is_bad marks h in
-    elim (cases_lt o (declared_total p)) [
+    elim (cases_lt o (objects_total p)) [
       | inl lt ↦ marks_tell p start xs o valid lt ∙ ap not (fails is_bad marks Unseen o (omega (arith, count, lt, past)))
       | inr beyond ↦ fits_beyond p start o xs beyond valid
     ]

@@ -1,8 +1,8 @@
 //! Whether the hashes of objects are those of the threads' generators.
 
 ghost use Rattle.std.specs.Prelude.{◌≡◌, ◌<◌, ◌≤◌, IfOk, OnOk, length, position, replicate};
-ghost use Rattle.plain_monitor.specs.Limits.{most_objects};
-ghost use Rattle.object_program.specs.Program.{declared_total};
+ghost use Rattle.plain_monitor.specs.Limits.{most_in_all};
+ghost use Rattle.object_program.specs.Program.{objects_total};
 ghost use Rattle.bias_check.specs.inner.Marks.{new_drawer, drawer_next, gives, drawers_to, new_hashes, noted, marked_at, marked, first_mark, is_bad};
 
 use lock_policy::Draw;
@@ -140,13 +140,13 @@ fn bad_place(marks: &[Mark]) -> Option<usize>
     marks.iter().position(|mark| is_bad(*mark))
 }
 
-/// How many objects the program has, at most 4,096.
+/// How many numbers the program's objects have, of those that it declares and those that its threads may make.
 fn object_count(program: &Program) -> u32
-    ensures total { result ≡ declared_total program.now }
-    ensures few { result ≤ most_objects }
+    ensures total { result ≡ objects_total program.now }
+    ensures few { result ≤ most_in_all }
 {
     let _objects = program.objects.items();
-    program.declared_total()
+    program.objects_total()
 }
 
 /// No object has a hash entry.

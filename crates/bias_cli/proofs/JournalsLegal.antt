@@ -53,7 +53,7 @@ module _ (o : Options) (p : ProgramText) (r : RunRecord) (c : ClosedSeen) (m : P
   -- the journal stands behind all other lines
   pub journal_written : (stats : Bool) → IsRunOf o p r c m → lines_of_run stats true r m ≡ lines_of_run stats false r m ++ journal_of p r.logs
   journal_written stats run =
-      let others : List (List ℕ) = told ++ thread_lines m 0 m.threads ++ only_where stats (class_lines r.program 0 r.classes (order r.logs)) in
+      let others : List (List ℕ) = told ++ thread_lines m 0 m.threads ++ only_where stats (class_lines r.program m 0 r.classes (order r.logs)) in
       ap (λ (lines : List (List ℕ)). lines ++ journal_of r.program r.logs) (sym (append-nil others))
       ∙ ap (λ (q : ProgramText). lines_of_run stats false r m ++ journal_of q r.logs) run.ran.of.program
     where

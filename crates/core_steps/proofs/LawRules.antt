@@ -70,7 +70,7 @@ use Rattle.core_counts.proofs.LoggedKinds as logged
 use Rattle.core_counts.proofs.QuietKinds as quiet
 use Rattle.core_law.specs.Takings.{StampsTaking, StampsNote, TakesExactly}
 use Rattle.core_law.specs.Logic.{Heap, Stands, Keeps}
-use Rattle.core_world.proofs.There.{slot_there, limits_there, kept_there}
+use Rattle.core_world.proofs.There.{limits_there, kept_there}
 use Rattle.core_law.proofs.Standing.{home, away, inside, valid_here}
 use Rattle.core_law.specs.MadeLaw.{MadeLawHolds}
 use Rattle.core_made.specs.Steps.{IsFairQuietly}
@@ -355,7 +355,7 @@ module _ (heap : Heap) (k : Known) where
   gets e o slot may begins =
       enters_in_log (λ s y. MayGet s y e o slot) (λ t y. get_plan e o slot) (get_entry o slot) (get_law e o slot) (logged.gets e o slot)
       (λ t y h. refl) (λ v. tt) (λ s y a. a.touches.runs)
-      (λ v. let a = (may v).touches in ((a.object.within, slot_there heap.shape o slot (limits v) a.object.within a.within), tt)) may
+      (λ v. let a = (may v).touches in ((a.object.within, a.within), tt)) may
       (λ v. (
         tt,
         tt,
@@ -373,7 +373,7 @@ module _ (heap : Heap) (k : Known) where
   puts e o slot value may =
       enters_in_log (λ s y. MayPut s y o slot value) (λ t y. put_plan e o slot value) (λ n. Put o slot value) (put_law e o slot value)
       (logged.puts e o slot value) (λ t y h. refl) (λ v. tt) (λ s y a. a.touches.runs)
-      (λ v. let a = (may v).touches in ((a.object.within, slot_there heap.shape o slot (limits v) a.object.within a.within), tt)) may
+      (λ v. let a = (may v).touches in ((a.object.within, a.within), tt)) may
       (λ v. (
         tt,
         tt,

@@ -22,14 +22,14 @@ bits_enough : (f b n : ℕ) → n ≤ 2 ^ (b + f) → n ≤ 2 ^ bits_for f b n
 bits_enough zero b n h = let same : b + 0 ≡ b = omega arith in subst (λ m. n ≤ 2 ^ m) same h
 bits_enough (suc f) b n h = enough_of (nat_le n (2 ^ b)) b (bits_for f (b + 1) n) n refl (bits_enough f (b + 1) n (let same : b + suc f ≡ b + 1 + f = omega arith in subst (λ m. n ≤ 2 ^ m) same h))
 
-pub ring_few : (s : Shape) → ring_bits s ≤ 13
+pub ring_few : (s : Shape) → ring_bits s ≤ 15
 unfolding ring_bits
-ring_few s = bits_most 13 0 (monitor_count s)
+ring_few s = bits_most 15 0 (monitor_count s)
 
 -- each monitor has a place
 pub ring_enough : (s : Shape) → IsInLimits s → monitor_count s ≤ 2 ^ ring_bits s
 unfolding ring_bits
-ring_enough s h = bits_enough 13 0 (monitor_count s) (omega (arith, h.threads, h.objects))
+ring_enough s h = bits_enough 15 0 (monitor_count s) (omega (arith, h.threads, h.objects))
 
 -- the place of a position is that of its word
 pub place_of_word : (n b : ℕ) → b ≤ 64 → n % 2 ^ 64 % 2 ^ b ≡ n % 2 ^ b

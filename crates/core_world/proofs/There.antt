@@ -15,7 +15,7 @@ use Rattle.core_world.specs.declared.name.Name.{Name}
 use Rattle.core_world.specs.declared.name.Name.TheVariants.{Mark, Hold, Waiting, Owner, Class}
 use Rattle.core_world.specs.Clauses.WordForms.{IsMark, IsHold, IsWait, IsOwner}
 use Rattle.core_world.specs.Words.Forms.{waits_on, waits_form}
-use Rattle.core_world.specs.Words.Shape.{Shape, IsInLimits, class_of, slots_of, monitor_count}
+use Rattle.core_world.specs.Words.Shape.{Shape, IsInLimits, class_of, monitor_count}
 use Rattle.core_world.specs.Words.Names.{class_by}
 use Rattle.core_world.specs.Threads.AtRest.{SawClass, SawClassIf}
 use Rattle.core_world.specs.Threads.Known.{Known, StepMade, last_seen}
@@ -67,9 +67,6 @@ class_seen s f seen o c stays saw = by_test (nat_lt o s.declared) saw
     by_test : (b : Bool) → SawClassIf b s seen o c → cond b (class_of s o) (f (Class o) - 1) ≡ c
     by_test true h = sym h
     by_test false h = let is = stays (c + 1) h (λ z. absurd (omega (arith, z))) in omega (arith, is)
-
-pub slot_there : (s : Shape) (o slot : ℕ) → IsInLimits s → o < length s.objects → slot < slots_of s o → slot < most_slots
-slot_there s o slot limits object within = let most = (of_each s.objects s.classes o limits.each object).1 in omega (arith, within, most)
 
 pub limits_there : (w : World) (P : List PlainObject) → IsValid w P → IsInLimits w.shape
 limits_there w P valid = elim valid [ inl v ↦ v.limits | inr s ↦ subst IsInLimits (sym s.shape) s.fits.limits ]

@@ -1,15 +1,15 @@
 -- What a step asks of its heap and its thread besides: that the heap has the word, and that there is a place for the shot that it takes.
 use Rattle.std.specs.Prelude.{ℕ, ◌<◌, ◌≤◌, length}
-use Rattle.plain_monitor.specs.Limits.{most_slots, most_holds}
+use Rattle.plain_monitor.specs.Limits.{most_holds}
 use Rattle.core_world.specs.declared.name.Name.{Name}
 use Rattle.core_world.specs.declared.name.Name.TheVariants.{Safepoint, Prototype, Revocations, LastBulk, Mark, Stamp, Slot, Hold, Displaced, Waiting, Length, Owner, Recursions, Header, Object, Claim, End, Ring, Class}
 use Rattle.core_world.specs.declared.plan.Own.{Own}
 use Rattle.core_world.specs.declared.plan.Own.TheVariants.{TakeShot}
 use Rattle.core_world.specs.declared.plan.StepPlan.{StepPlan}
 use Rattle.core_world.specs.Threads.Known.{Known}
-use Rattle.core_world.specs.Words.Shape.{Shape, monitor_count, ring_places}
+use Rattle.core_world.specs.Words.Shape.{Shape, slots_of, monitor_count, ring_places}
 
--- the heap has such a word: each object has room for the most slots, and each thread for the most lock records
+-- the heap has such a word: each object has its slots, and each thread room for the most lock records
 abbrev pub IsIn : Shape → Name → Type 0
 IsIn s Safepoint = Unit {0}
 IsIn s (Prototype c) = c < s.classes
@@ -17,7 +17,7 @@ IsIn s (Revocations c) = c < s.classes
 IsIn s (LastBulk c) = c < s.classes
 IsIn s (Mark o) = o < length s.objects
 IsIn s (Stamp o) = o < length s.objects
-IsIn s (Slot o i) = (o < length s.objects) × (i < most_slots)
+IsIn s (Slot o i) = (o < length s.objects) × (i < slots_of s o)
 IsIn s (Hold t p) = (t < s.threads) × (p < most_holds)
 IsIn s (Displaced t p) = (t < s.threads) × (p < most_holds)
 IsIn s (Waiting t) = t < s.threads

@@ -8,7 +8,8 @@ use Rattle.plain_machine.specs.declared.call.Mode.{Mode}
 use Rattle.plain_machine.specs.declared.call.Mode.TheVariants.{Calling, Waiting, Unwinding, Ended}
 use Rattle.plain_machine.specs.Thread.{ThreadState}
 use Rattle.plain_machine.specs.Machine.{PlainMachine}
-use Rattle.machine_laws.specs.Reached.{AtEach, HasMonitor, IsReached}
+use Rattle.machine_laws.specs.Reached.{AtEach, HasMonitor, HasMade, IsReached}
+use Rattle.machine_laws.specs.References.{IsThere, ThreadRefersTo}
 use Rattle.machine_laws.specs.ReachedMonitor.{StandsAt}
 use Rattle.machine_laws.specs.ReachedThread.{IsStateOf, IsThreadOf, IsModeOf}
 use Rattle.every_outcome.specs.Fuel.{with_fuel, refuelled}
@@ -28,12 +29,17 @@ threads_full top p (s ∷ ss) some h =
     let state : IsStateOf p (with_fuel top s) = record { holds = st.holds; few = st.few; dumps = st.dumps; locals = st.locals } in
     (record { state = state; mode = mode_full top p s s.mode some h.0.mode }, threads_full top p ss some h.1)
 
+references_full : (top : ℕ) (These : ℕ → Type 0) (ss : List ThreadState) → AllByRecursion (ThreadRefersTo These) ss
+    → AllByRecursion (ThreadRefersTo These) (map (λ s. with_fuel top s) ss)
+references_full top These [] h = tt
+references_full top These (s ∷ ss) h =
+    (record { locals = h.0.locals; holds = h.0.holds; mode = h.0.mode }, references_full top These ss h.1)
+
 pub reached_full : (top : ℕ) (m : PlainMachine) → 1 ≤ top → IsReached m → IsReached (refuelled top m)
 reached_full top m some h =
     let same : length (map (λ s. with_fuel top s) m.threads) ≡ length m.threads = length_map (λ s. with_fuel top s) m.threads in
     record {
       program = h.program;
-      made = h.made;
       thread_count = same ∙ h.thread_count;
       object_count = h.object_count;
       threads = threads_full top m.program m.threads some h.threads;
@@ -44,6 +50,13 @@ reached_full top m some h =
           let u = get_unmap (λ s. with_fuel top s) m.threads t s here in
           let k = h.standing o x at t u.0 u.1 in
           subst (λ (z : ThreadState). StandsAt o t x.monitor z) u.2 (record { holds = k.holds; listed = k.listed });
+      row_count = h.row_count;
+      rows = h.rows;
+      made = λ t s here.
+          let u = get_unmap (λ s. with_fuel top s) m.threads t s here in
+          subst (λ (z : ThreadState). HasMade m.made t z) u.2 (h.made t u.0 u.1);
+      references = references_full top (IsThere m.program m.made) m.threads h.references;
+      slot_references = h.slot_references;
     }
 
 there : (xs : List PlainObject) (k : ℕ) → k < length xs → (x : PlainObject) × (slice_get xs k ≡ Some x)

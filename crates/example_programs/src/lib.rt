@@ -4,11 +4,13 @@
 #![tactic(auto)]
 
 mod blocks;
+mod made;
 
 pub use blocks::{
     BOUNDED_BUFFER_SYNC, COUNTING_SYNC, CROSSED_BLOCKS_SYNC, PHILOSOPHERS_SYNC,
     READERS_AND_WRITERS_SYNC,
 };
+pub use made::{MADE_BY_EACH_SYNC, MADE_QUEUE_SYNC};
 
 /// One object, one thread: it enters, prints and leaves.
 pub const ANSWER: &str = "\
@@ -316,6 +318,36 @@ thread t2
 end
 ";
 
+/// An object that a thread makes, enters and prints.
+pub const MADE: &str = "\
+class C 1
+thread t1
+local x
+new x C
+enter x
+print x
+exit x
+end
+";
+
+/// A thread that would make 1,025 objects: the last `new` is a fault.
+pub const TOO_MANY: &str = "\
+class C 0
+thread t1
+local x
+local i
+local n
+local one
+set i 0
+set n 1025
+set one 1
+label l
+new x C
+add i i one
+jlt i n l
+end
+";
+
 /// 40 objects that one thread enters, and another one after it: what `make 40` writes.
 pub const HANDOVER_40: &str = "\
 class Item 0
@@ -424,7 +456,7 @@ end
 ";
 
 /// All of them.
-pub const EXAMPLES: [&str; 15] = [
+pub const EXAMPLES: [&str; 17] = [
     ANSWER,
     EXIT_TOO_OFTEN,
     WAIT_WITHOUT_HOLD,
@@ -438,6 +470,8 @@ pub const EXAMPLES: [&str; 15] = [
     HAND_OVER,
     CROSSWISE,
     MANY_OBJECTS,
+    MADE,
+    TOO_MANY,
     HANDOVER_40,
     COUNTING,
 ];

@@ -1,12 +1,12 @@
 -- The world at the start is sound, and the first seat knows all of it.
-use Rattle.std.proofs.Common.{◌≡◌, ◌≢◌, ℕ, zero, suc, ◌+◌, ◌*◌, ◌-◌, ◌<◌, ◌≤◌, nat_lt, ◌&&◌, Bool, true, false, List, [], ◌∷◌, ◌++◌, length, get_or, refl, sym, ap, ◌∙◌, subst, arith, inl, inr, add-one, append-nil}
+use Rattle.std.proofs.Common.{append_assoc, replicate, ◌≡◌, ◌≢◌, ℕ, zero, suc, ◌+◌, ◌*◌, ◌-◌, ◌<◌, ◌≤◌, nat_lt, ◌&&◌, Bool, true, false, List, [], ◌∷◌, ◌++◌, length, get_or, refl, sym, ap, ◌∙◌, subst, arith, inl, inr, add-one, append-nil}
 use Rattle.std.proofs.Math.Nat.{mul-suc}
-use Rattle.std.specs.Prelude.{All, map, slice_index, replicate}
+use Rattle.std.specs.Prelude.{All, map, slice_index}
 use Rattle.std.specs.List.{AllByRecursion}
 use Rattle.std.proofs.lemmas.Bool.{cases_lt}
 use Rattle.std.proofs.lemmas.Bool.Decides.{nat_tests}
-use Rattle.std.proofs.lemmas.List.{get_or-replicate}
-use Rattle.plain_monitor.specs.Limits.{most_threads, most_classes, most_slots, most_objects}
+use Rattle.std.proofs.lemmas.List.{length-append, length-replicate, replicate_more}
+use Rattle.plain_monitor.specs.Limits.{most_threads, most_classes, most_slots, most_objects, most_made, most_in_all}
 use mathlib.Core.Option.{some, some-injective, some-ne-none}
 use lib.ListN.{get_elem?}
 use Rattle.atomic_table.specs.Table.{Me, opening as opening_state}
@@ -19,7 +19,7 @@ use Rattle.core_law.specs.HeapLaw.{HeapLaw}
 use Rattle.core_law.specs.Logic.{Heap}
 use Rattle.core_law.specs.Reached.{opens as at_opening}
 use Rattle.core_world.specs.There.{IsIn}
-use Rattle.heap_table.specs.Layout.{place_of, word_count, many, objects_from}
+use Rattle.heap_table.specs.Layout.{place_of, word_count, many, object_size, objects_from, threads_from}
 use Rattle.core_world.specs.Threads.Known.{Known}
 use Rattle.heap_table.specs.Fresh.{IsFresh}
 use Rattle.heap_table.specs.inner.Firsts.{first_knowns}
@@ -31,6 +31,7 @@ use Rattle.heap_table.specs.inner.Ruled.{Each, Differ, Ruled, others}
 use Rattle.heap_table.specs.declared.setting.Setting.{Setting}
 use Rattle.heap_table.specs.Seen.{HeapSeen, PassSeen, first_pass, first_passes}
 use Rattle.heap_table.proofs.Lawful.{by_law}
+use Rattle.heap_table.proofs.Sizes.{size_room, size_some, rows_split}
 
 append_append : (xs ys zs : List ℕ) → (xs ++ ys) ++ zs ≡ xs ++ (ys ++ zs)
 append_append [] ys zs = refl
@@ -112,8 +113,28 @@ in_numbers (suc n) i h =
       | inr top ↦ let last : n ≡ i = omega (arith, h, top) in behind (numbers n) (n ∷ []) i 0 (omega (arith, long, last)) ∙ last
     ]
 
-slot_word : (mark i : ℕ) → i < 16 → get_or (object_words mark) (2 + i) 0 ≡ 9223372036854775809
-slot_word mark i h = behind (mark ∷ 0 ∷ []) (replicate 16 9223372036854775809 ++ replicate 14 0) (2 + i) i (omega arith) ∙ in_front (replicate 16 9223372036854775809) (replicate 14 0) i h ∙ get_or-replicate 16 i 9223372036854775809 0 h
+in_singles : (n x i : ℕ) → i < n → get_or (copies n (x ∷ [])) i 0 ≡ x
+in_singles zero x i h = absurd (omega (arith, h))
+in_singles (suc n) x zero h = refl
+in_singles (suc n) x (suc i) h = in_singles n x i (omega (arith, h))
+
+slot_word : (size mark i : ℕ) → 3 + i < size → get_or (object_words size mark) (3 + i) 0 ≡ 9223372036854775809
+slot_word size mark i h =
+    behind (mark ∷ 0 ∷ 0 ∷ []) (copies (size - 3) (9223372036854775809 ∷ [])) (3 + i) i (omega arith)
+    ∙ in_singles (size - 3) 9223372036854775809 i (omega (arith, h))
+
+object_long : (s : Shape) (mark : ℕ) → length (object_words (object_size s) mark) ≡ object_size s
+object_long s mark = let slots = length_copies (object_size s - 3) (9223372036854775809 ∷ []) in let some = size_some s in omega (arith, slots, some)
+
+-- the words of so many objects
+objects_long : (s : Shape) (mark n : ℕ) → length (object_words (object_size s) mark) * n ≡ object_size s * n
+objects_long s mark n = ap (λ (x : ℕ). x * n) (object_long s mark)
+
+-- the words of those that are declared and of the others
+all_long : (s : Shape) (mark other : ℕ) → s.declared ≤ many s
+    → length (object_words (object_size s) mark) * s.declared + length (object_words (object_size s) other) * (many s - s.declared) ≡ object_size s * many s
+all_long s mark other few =
+    (λ i. objects_long s mark s.declared i + objects_long s other (many s - s.declared) i) ∙ rows_split (object_size s) s.declared (many s) few
 
 and_true : (a : Bool) → (a && true) ≡ a
 and_true true = refl
@@ -124,15 +145,28 @@ and_false true = refl
 and_false false = refl
 
 -- the word at this place of the group of an object, which is declared or not
-object_word : (s : Shape) (biasing : Bool) (o i at : ℕ) (b : Bool) → nat_lt o s.declared ≡ b → s.declared ≤ many s → o < many s → i < 32
-    → at ≡ objects_from s + (32 * o + i) → get_or (opening_words s biasing) at 0 ≡ get_or (object_words (first_mark (biasing && b))) i 0
+object_word : (s : Shape) (biasing : Bool) (o i at : ℕ) (b : Bool) → nat_lt o s.declared ≡ b → s.declared ≤ many s → o < many s → i < object_size s
+    → at ≡ objects_from s + (object_size s * o + i) → get_or (opening_words s biasing) at 0 ≡ get_or (object_words (object_size s) (first_mark (biasing && b))) i 0
 object_word s biasing o i at true e few h l is =
     let low : o < s.declared = grind (arith, nat_tests, e) in
-    found s biasing 2 o i at (omega (arith, is)) low l ∙ ap (λ (z : Bool). get_or (object_words (first_mark z)) i 0) (sym (and_true biasing))
+    let long = object_long s (first_mark biasing) in
+    let behind_them = objects_long s (first_mark biasing) o in
+    found s biasing 2 o i at (omega (arith, is, behind_them)) low (omega (arith, l, long))
+    ∙ ap (λ (z : Bool). get_or (object_words (object_size s) (first_mark z)) i 0) (sym (and_true biasing))
 object_word s biasing o i at false e few h l is =
     let high : s.declared ≤ o = grind (arith, nat_tests, e) in
-    found s biasing 3 (o - s.declared) i at (omega (arith, is, high)) (omega (arith, high, h)) l
-    ∙ ap (λ (z : Bool). get_or (object_words (first_mark z)) i 0) (sym (and_false biasing))
+    let long = object_long s (first_mark false) in
+    let first = objects_long s (first_mark biasing) s.declared in
+    let behind_them = objects_long s (first_mark false) (o - s.declared) in
+    let split = rows_split (object_size s) s.declared o high in
+    found s biasing 3 (o - s.declared) i at (omega (arith, is, first, behind_them, split)) (omega (arith, high, h)) (omega (arith, l, long))
+    ∙ ap (λ (z : Bool). get_or (object_words (object_size s) (first_mark z)) i 0) (sym (and_false biasing))
+
+-- the words of threads and monitors are 0
+zero_word : (s : Shape) (biasing : Bool) (i at : ℕ) → s.declared ≤ many s → at ≡ threads_from s + i → i < 144 * s.threads + 11 * (many s + s.threads)
+    → get_or (opening_words s biasing) at 0 ≡ 0
+zero_word s biasing i at few is h =
+    let long = all_long s (first_mark biasing) (first_mark false) few in found s biasing 4 i 0 at (omega (arith, is, long)) h (omega arith)
 
 words_at : (s : Shape) (biasing : Bool) → s.declared ≤ many s → (n : Name) → IsIn s n → get_or (opening_words s biasing) (place_of s n) 0 ≡ first_word s biasing n
 words_at s biasing few Safepoint h = found s biasing 0 0 0 (place_of s Safepoint) (omega arith) (omega arith) (omega arith)
@@ -141,21 +175,27 @@ words_at s biasing few End h = found s biasing 0 0 7 (place_of s End) (omega ari
 words_at s biasing few (Prototype c) h = found s biasing 1 c 0 (place_of s (Prototype c)) (omega arith) h (omega arith)
 words_at s biasing few (Revocations c) h = found s biasing 1 c 1 (place_of s (Revocations c)) (omega arith) h (omega arith)
 words_at s biasing few (LastBulk c) h = found s biasing 1 c 2 (place_of s (LastBulk c)) (omega arith) h (omega arith)
-words_at s biasing few (Mark o) h = object_word s biasing o 0 (place_of s (Mark o)) (nat_lt o s.declared) refl few h (omega arith) (omega arith)
-words_at s biasing few (Stamp o) h = object_word s biasing o 1 (place_of s (Stamp o)) (nat_lt o s.declared) refl few h (omega arith) (omega arith)
-words_at s biasing few (Class o) h = object_word s biasing o 18 (place_of s (Class o)) (nat_lt o s.declared) refl few h.0 (omega arith) (omega arith)
+words_at s biasing few (Mark o) h =
+    let some = size_some s in object_word s biasing o 0 (place_of s (Mark o)) (nat_lt o s.declared) refl few h (omega (arith, some)) (omega arith)
+words_at s biasing few (Stamp o) h =
+    let some = size_some s in object_word s biasing o 1 (place_of s (Stamp o)) (nat_lt o s.declared) refl few h (omega (arith, some)) (omega arith)
+words_at s biasing few (Class o) h =
+    let some = size_some s in object_word s biasing o 2 (place_of s (Class o)) (nat_lt o s.declared) refl few h.0 (omega (arith, some)) (omega arith)
 words_at s biasing few (Slot o i) h =
-    object_word s biasing o (2 + i) (place_of s (Slot o i)) (nat_lt o s.declared) refl few h.0 (omega (arith, h.1)) (omega arith)
-    ∙ slot_word (first_mark (biasing && nat_lt o s.declared)) i (omega (arith, h.1))
-words_at s biasing few (Hold t p) h = found s biasing 4 (144 * t + p) 0 (place_of s (Hold t p)) (omega (arith, few)) (omega (arith, h.0, h.1)) (omega arith)
-words_at s biasing few (Displaced t p) h = found s biasing 4 (144 * t + 64 + p) 0 (place_of s (Displaced t p)) (omega (arith, few)) (omega (arith, h.0, h.1)) (omega arith)
-words_at s biasing few (Length t) h = found s biasing 4 (144 * t + 128) 0 (place_of s (Length t)) (omega (arith, few)) (omega (arith, h)) (omega arith)
-words_at s biasing few (Waiting t) h = found s biasing 4 (144 * t + 136) 0 (place_of s (Waiting t)) (omega (arith, few)) (omega (arith, h)) (omega arith)
-words_at s biasing few (Owner m) h = found s biasing 4 (144 * s.threads + 16 * m) 0 (place_of s (Owner m)) (omega (arith, few)) (omega (arith, h)) (omega arith)
-words_at s biasing few (Recursions m) h = found s biasing 4 (144 * s.threads + 16 * m + 1) 0 (place_of s (Recursions m)) (omega (arith, few)) (omega (arith, h)) (omega arith)
-words_at s biasing few (Header m) h = found s biasing 4 (144 * s.threads + 16 * m + 2) 0 (place_of s (Header m)) (omega (arith, few)) (omega (arith, h)) (omega arith)
-words_at s biasing few (Object m) h = found s biasing 4 (144 * s.threads + 16 * m + 3) 0 (place_of s (Object m)) (omega (arith, few)) (omega (arith, h)) (omega arith)
-words_at s biasing few (Ring p) h = in_rest (opening_groups s biasing) (numbers (ring_places s)) p (place_of s (Ring p)) (omega (arith, few)) ∙ in_numbers (ring_places s) p h
+    let room = size_room s o i h.1 in
+    object_word s biasing o (3 + i) (place_of s (Slot o i)) (nat_lt o s.declared) refl few h.0 (omega (arith, room)) (omega arith)
+    ∙ slot_word (object_size s) (first_mark (biasing && nat_lt o s.declared)) i (omega (arith, room))
+words_at s biasing few (Hold t p) h = zero_word s biasing (144 * t + p) (place_of s (Hold t p)) few (omega arith) (omega (arith, h.0, h.1))
+words_at s biasing few (Displaced t p) h = zero_word s biasing (144 * t + 64 + p) (place_of s (Displaced t p)) few (omega arith) (omega (arith, h.0, h.1))
+words_at s biasing few (Length t) h = zero_word s biasing (144 * t + 128) (place_of s (Length t)) few (omega arith) (omega (arith, h))
+words_at s biasing few (Waiting t) h = zero_word s biasing (144 * t + 136) (place_of s (Waiting t)) few (omega arith) (omega (arith, h))
+words_at s biasing few (Owner m) h = zero_word s biasing (144 * s.threads + 11 * m) (place_of s (Owner m)) few (omega arith) (omega (arith, h))
+words_at s biasing few (Recursions m) h = zero_word s biasing (144 * s.threads + 11 * m + 1) (place_of s (Recursions m)) few (omega arith) (omega (arith, h))
+words_at s biasing few (Header m) h = zero_word s biasing (144 * s.threads + 11 * m + 2) (place_of s (Header m)) few (omega arith) (omega (arith, h))
+words_at s biasing few (Object m) h = zero_word s biasing (144 * s.threads + 11 * m + 3) (place_of s (Object m)) few (omega arith) (omega (arith, h))
+words_at s biasing few (Ring p) h =
+    let long = all_long s (first_mark biasing) (first_mark false) few in
+    in_rest (opening_groups s biasing) (numbers (ring_places s)) p (place_of s (Ring p)) (omega (arith, long)) ∙ in_numbers (ring_places s) p h
 
 wide_as : (rs : List (ℕ × List ℕ)) (ws : List ℕ) → length (spread rs ws) ≡ total rs + length ws
 wide_as [] ws = omega arith
@@ -165,7 +205,8 @@ pub opening_count : (s : Shape) (biasing : Bool) (ws : List ℕ) → s.declared 
 opening_count s biasing ws few e =
     let h = wide_as (opening_groups s biasing) (numbers (ring_places s)) in
     let n = length_numbers (ring_places s) in
-    let g : length ws ≡ length (spread (opening_groups s biasing) (numbers (ring_places s))) = ap length e in omega (arith, h, n, g, few)
+    let g : length ws ≡ length (spread (opening_groups s biasing) (numbers (ring_places s))) = ap length e in
+    let long = all_long s (first_mark biasing) (first_mark false) few in omega (arith, h, n, g, long)
 
 -- five kinds of group that were put behind one another, and the ring behind them
 pub chained : (w x y z v u t a b c d k r : List ℕ) → w ≡ [] → x ≡ w ++ a → y ≡ x ++ b → z ≡ y ++ c → v ≡ z ++ d → u ≡ v ++ k → t ≡ u ++ r
@@ -189,7 +230,7 @@ objects_few : (slots classes : List ℕ) → length {A = ℕ × ℕ} (map (λ c.
 objects_few slots [] = refl
 objects_few slots (c ∷ cs) = let h = objects_few slots cs in omega (arith, h)
 
-pub shape_fits : (threads : ℕ) (slots classes : List ℕ) (declared : ℕ) (objects : List (ℕ × ℕ)) → (threads ≤ most_threads) × (length slots ≤ most_classes) × (length classes ≤ most_objects)
+pub shape_fits : (threads : ℕ) (slots classes : List ℕ) (declared : ℕ) (objects : List (ℕ × ℕ)) → (threads ≤ most_threads) × (length slots ≤ most_classes) × (length classes ≤ most_in_all)
     → declared ≤ length classes → All (λ n. n ≤ most_slots) slots → All (λ c. c < length slots) classes → objects ≡ map (λ c. (c, slice_index slots c)) classes
     → IsInLimits (record { threads = threads; classes = length slots; declared = declared; objects = objects })
 shape_fits threads slots classes declared objects few within h g e =
@@ -201,6 +242,34 @@ shape_fits threads slots classes declared objects few within h g e =
       declared = omega (arith, n, within);
       objects = omega (arith, n, few.2);
       each = each_fits slots classes h g;
+    })
+
+-- and so are those of a shape with numbers for made objects
+each_joined : (classes : ℕ) (xs ys : List (ℕ × ℕ)) → AllByRecursion {X = ℕ × ℕ} (λ x. (x.0 < classes) × (x.1 ≤ most_slots)) xs
+    → AllByRecursion {X = ℕ × ℕ} (λ x. (x.0 < classes) × (x.1 ≤ most_slots)) ys
+    → AllByRecursion {X = ℕ × ℕ} (λ x. (x.0 < classes) × (x.1 ≤ most_slots)) (xs ++ ys)
+each_joined classes [] ys h g = g
+each_joined classes (x ∷ xs) ys h g = (h.0, each_joined classes xs ys h.1 g)
+
+each_made : (classes slots n : ℕ) → 1 ≤ classes → slots ≤ most_slots
+    → AllByRecursion {X = ℕ × ℕ} (λ x. (x.0 < classes) × (x.1 ≤ most_slots)) (replicate n (0, slots))
+each_made classes slots zero class few = tt
+each_made classes slots (suc n) class few = ((omega (arith, class), few), each_made classes slots n class few)
+
+pub made_fits : (s : Shape) (slots : ℕ) (objects : List (ℕ × ℕ)) → IsInLimits s → length s.objects ≤ most_objects → 1 ≤ s.classes → slots ≤ most_slots
+    → objects ≡ s.objects ++ replicate (most_made * s.threads) (0, slots) → IsInLimits (record s { objects = objects })
+made_fits s slots objects limits few class low e =
+    let made = length-replicate {A = ℕ × ℕ} (most_made * s.threads) (0, slots) in
+    let all = length-append s.objects (replicate (most_made * s.threads) (0, slots)) in
+    let threads = limits.threads in
+    let declared = limits.declared in
+    subst (λ (z : List (ℕ × ℕ)). IsInLimits (record s { objects = z })) (sym e)
+    (record {
+      threads = limits.threads;
+      classes = limits.classes;
+      declared = omega (arith, all, declared);
+      objects = omega (arith, all, made, few, threads);
+      each = each_joined s.classes s.objects _ limits.each (each_made s.classes slots (most_made * s.threads) class low);
     })
 
 abbrev nobody_else : ℕ → ℕ
@@ -264,6 +333,20 @@ numbers_more ws xs n e = ap (λ (l : List ℕ). l ++ n ∷ []) e ∙ append_appe
 -- one more copy behind those that were put there
 pub one_more : (ws xs g : List ℕ) (n : ℕ) → ws ≡ xs ++ copies n g → ws ++ g ≡ xs ++ copies (n + 1) g
 one_more ws xs g n e = ap (λ (l : List ℕ). l ++ g) e ∙ append_append xs (copies n g) g ∙ ap (λ (l : List ℕ). xs ++ l) (copies_more n g ∙ ap (λ (k : ℕ). copies k g) (sym (add-one n)))
+
+-- one more object behind those that were put there
+pub one_made_more : (xs ys : List (ℕ × ℕ)) (n slots : ℕ) → xs ≡ ys ++ replicate n (0, slots) → xs ++ (0, slots) ∷ [] ≡ ys ++ replicate (n + 1) (0, slots)
+one_made_more xs ys n slots e =
+    ap (λ (l : List (ℕ × ℕ)). l ++ (0, slots) ∷ []) e ∙ append_assoc ys (replicate n (0, slots)) ((0, slots) ∷ [])
+    ∙ ap (λ (l : List (ℕ × ℕ)). ys ++ l) (replicate_more n (0, slots))
+
+-- the words of one more object behind those that were put there
+pub one_object_more : (ws xs more all : List ℕ) (size mark n : ℕ) → ws ≡ xs ++ copies n (object_words size mark) → more ≡ ws ++ (mark ∷ 0 ∷ 0 ∷ [])
+    → all ≡ more ++ copies (size - 3) (9223372036854775809 ∷ []) → all ≡ xs ++ copies (n + 1) (object_words size mark)
+one_object_more ws xs more all size mark n e f g =
+    g ∙ ap (λ (l : List ℕ). l ++ copies (size - 3) (9223372036854775809 ∷ [])) f
+    ∙ append_append ws (mark ∷ 0 ∷ 0 ∷ []) (copies (size - 3) (9223372036854775809 ∷ []))
+    ∙ one_more ws xs (object_words size mark) n e
 
 -- what `first_pass` makes is a pass
 pub own_pass : (m : Mirror) (me old : Me (Unit {0}) (List Known)) (t n : ℕ) → me ≡ (only old.0 ∷ [], []) → old.0 ≡ first_knowns t (n - t) → t < n → Follows m (first_known t)

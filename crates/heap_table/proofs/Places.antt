@@ -1,14 +1,16 @@
 -- No two names have one place.
-use Rattle.std.proofs.Common.{◌≡◌, ◌⊎◌, ℕ, zero, suc, ◌+◌, ◌-◌, ◌*◌, ◌<◌, ◌≤◌, ◌==◌, ◌&&◌, nat_lt, List, [], ◌∷◌, true, false, cond, if◌then◌else◌, true≢false, eq-eqb, inl, inr, ⊎_elim, ◌≢◌, refl, sym, ap, ◌∙◌, subst, arith}
-use Rattle.std.proofs.lemmas.Bool.Decides.{nat_tests}
+use Rattle.std.proofs.Common.{◌≡◌, ◌⊎◌, ℕ, zero, suc, ◌+◌, ◌-◌, ◌*◌, ◌<◌, ◌≤◌, ◌==◌, ◌&&◌, nat_lt, List, [], ◌∷◌, true, false, cond, if◌then◌else◌, true≢false, eq-eqb, inl, inr, ⊎_elim, ◌≢◌, refl, sym, ap, ◌∙◌, arith}
+use Rattle.std.proofs.Math.Nat.{mul_comm}
+use Rattle.std.proofs.lemmas.Nat.{same_from_place}
 use Rattle.core_world.specs.declared.name.Name.{Name}
 use Rattle.core_world.specs.declared.name.Name.TheVariants.{Safepoint, Prototype, Revocations, LastBulk, Mark, Stamp, Slot, Hold, Displaced, Waiting, Length, Owner, Recursions, Header, Object, Claim, End, Ring, Class}
 use Rattle.core_world.specs.Words.Names.{kind_of, first_index, second_index, same_name}
 use Rattle.core_world.specs.Words.Shape.{Shape, ring_places}
 use Rattle.core_world.proofs.Naming.{same_named}
 use Rattle.core_world.specs.There.{IsIn}
-use Rattle.heap_table.specs.Layout.{group, number, many, place_of, word_count}
+use Rattle.heap_table.specs.Layout.{group, number, many, object_size, place_of, word_count}
 use Rattle.heap_table.specs.inner.Layout.{IsPlaced}
+use Rattle.heap_table.proofs.Sizes.{size_room, size_some, next_row}
 
 -- where it lies in its group; here each place of the ring is a group of one word
 abbrev pub offset : Name → ℕ
@@ -20,8 +22,8 @@ offset (Revocations c) = 1
 offset (LastBulk c) = 2
 offset (Mark o) = 0
 offset (Stamp o) = 1
-offset (Slot o i) = 2 + i
-offset (Class o) = 18
+offset (Slot o i) = 3 + i
+offset (Class o) = 2
 offset (Hold t p) = p
 offset (Displaced t p) = 64 + p
 offset (Length t) = 128
@@ -33,8 +35,8 @@ offset (Object m) = 3
 offset (Ring p) = 0
 
 -- how many words a group of each kind has
-abbrev width : ℕ → ℕ
-width g = if g == 2 then 32 else if g == 3 then 144 else if g == 5 then 1 else 16
+abbrev width : Shape → ℕ → ℕ
+width s g = if g == 2 then object_size s else if g == 3 then 144 else if g == 4 then 11 else if g == 5 then 1 else 16
 
 -- how many words its group has at least from it on
 abbrev room : Name → ℕ
@@ -43,7 +45,7 @@ room _ = 8
 
 -- how many words all groups of each kind have
 abbrev pub sizes : Shape → List ℕ
-sizes s = 16 ∷ (16 * s.classes) ∷ (32 * many s) ∷ (144 * s.threads) ∷ (16 * (many s + s.threads)) ∷ ring_places s ∷ []
+sizes s = 16 ∷ (16 * s.classes) ∷ (object_size s * many s) ∷ (144 * s.threads) ∷ (11 * (many s + s.threads)) ∷ ring_places s ∷ []
 
 abbrev pub before : ℕ → List ℕ → ℕ
 before zero xs = 0
@@ -60,8 +62,8 @@ rising (x ∷ xs) (suc a) (suc b) h = let r = rising xs a b (omega (arith, h)) i
 record Lies (s : Shape) (n : Name) : Type 0 where
   from : before (group n) (sizes s) ≤ place_of s n
   to : place_of s n + room n ≤ before (suc (group n)) (sizes s)
-  at : place_of s n ≡ before (group n) (sizes s) + (width (group n) * first_index n + offset n)
-  low : offset n + room n ≤ width (group n)
+  at : place_of s n ≡ before (group n) (sizes s) + (width s (group n) * first_index n + offset n)
+  low : offset n + room n ≤ width s (group n)
 
 lies : (s : Shape) (n : Name) → IsIn s n → Lies s n
 lies s Safepoint h = record { from = omega arith; to = omega arith; at = omega arith; low = omega arith }
@@ -70,10 +72,22 @@ lies s End h = record { from = omega arith; to = omega arith; at = omega arith; 
 lies s (Prototype c) h = record { from = omega (arith, h); to = omega (arith, h); at = omega arith; low = omega arith }
 lies s (Revocations c) h = record { from = omega (arith, h); to = omega (arith, h); at = omega arith; low = omega arith }
 lies s (LastBulk c) h = record { from = omega (arith, h); to = omega (arith, h); at = omega arith; low = omega arith }
-lies s (Mark o) h = record { from = omega (arith, h); to = omega (arith, h); at = omega arith; low = omega arith }
-lies s (Stamp o) h = record { from = omega (arith, h); to = omega (arith, h); at = omega arith; low = omega arith }
-lies s (Slot o i) h = record { from = omega (arith, h.0, h.1); to = omega (arith, h.0, h.1); at = omega arith; low = omega (arith, h.1) }
-lies s (Class o) h = record { from = omega (arith, h.0); to = omega (arith, h.0); at = omega arith; low = omega arith }
+lies s (Mark o) h =
+    let next = next_row (object_size s) o (many s) h in
+    let some = size_some s in
+    record { from = omega arith; to = omega (arith, next, some); at = omega arith; low = omega (arith, some) }
+lies s (Stamp o) h =
+    let next = next_row (object_size s) o (many s) h in
+    let some = size_some s in
+    record { from = omega arith; to = omega (arith, next, some); at = omega arith; low = omega (arith, some) }
+lies s (Class o) h =
+    let next = next_row (object_size s) o (many s) h.0 in
+    let some = size_some s in
+    record { from = omega arith; to = omega (arith, next, some); at = omega arith; low = omega (arith, some) }
+lies s (Slot o i) h =
+    let next = next_row (object_size s) o (many s) h.0 in
+    let fits = size_room s o i h.1 in
+    record { from = omega arith; to = omega (arith, next, fits); at = omega arith; low = omega (arith, fits) }
 lies s (Hold t p) h = record { from = omega (arith, h.0, h.1); to = omega (arith, h.0, h.1); at = omega arith; low = omega (arith, h.1) }
 lies s (Displaced t p) h = record { from = omega (arith, h.0, h.1); to = omega (arith, h.0, h.1); at = omega arith; low = omega (arith, h.1) }
 lies s (Waiting t) h = record { from = omega (arith, h); to = omega (arith, h); at = omega arith; low = omega arith }
@@ -139,13 +153,13 @@ abbrev kind_in : ℕ → ℕ → ℕ
 kind_in g i =
     if g == 0 then cond (i == 0) 0 (cond (i == 8) 15 16)
     else if g == 1 then 1 + i
-    else if g == 2 then cond (i == 0) 4 (cond (i == 1) 5 (cond (i == 18) 18 6))
+    else if g == 2 then cond (i == 0) 4 (cond (i == 1) 5 (cond (i == 2) 18 6))
     else if g == 3 then cond (nat_lt i 64) 7 (cond (nat_lt i 128) 8 (cond (i == 128) 10 9))
     else if g == 4 then 11 + i
     else 17
 
 abbrev second_in : ℕ → ℕ → ℕ
-second_in g i = if g == 2 then cond (i == 18) 0 (i - 2) else if g == 3 then cond (nat_lt i 64) i (cond (nat_lt i 128) (i - 64) 0) else 0
+second_in g i = if g == 2 then i - 3 else if g == 3 then cond (nat_lt i 64) i (cond (nat_lt i 128) (i - 64) 0) else 0
 
 lower : (i : ℕ) → i < 64 → nat_lt i 64 ≡ true
 lower i h = search (arith, h)
@@ -155,9 +169,6 @@ not_lower i = search arith
 
 middle : (i : ℕ) → i < 64 → nat_lt (64 + i) 128 ≡ true
 middle i h = search (arith, h)
-
-before_class : (i : ℕ) → i < 16 → (2 + i == 18) ≡ false
-before_class i h = grind (arith, nat_tests, h)
 
 record Told (n : Name) : Type 0 where
   kind_is : kind_of n ≡ kind_in (group n) (offset n)
@@ -173,12 +184,12 @@ told s (LastBulk c) h = record { kind_is = refl; second_is = refl }
 told s (Mark o) h = record { kind_is = refl; second_is = refl }
 told s (Stamp o) h = record { kind_is = refl; second_is = refl }
 told s (Slot o i) h =
-    let e : (2 + i == 0) ≡ false = search arith in
-    let f : (2 + i == 1) ≡ false = search arith in
-    let g = before_class i h.1 in
-    let d : i ≡ 2 + i - 2 = omega arith in record {
+    let e : (3 + i == 0) ≡ false = search arith in
+    let f : (3 + i == 1) ≡ false = search arith in
+    let g : (3 + i == 2) ≡ false = search arith in
+    record {
       kind_is = λ j. cond (sym e j) 4 (cond (sym f j) 5 (cond (sym g j) 18 6));
-      second_is = d ∙ λ j. cond (sym g j) 0 (2 + i - 2);
+      second_is = omega arith;
     }
 told s (Class o) h = record { kind_is = refl; second_is = refl }
 told s (Hold t p) h =
@@ -201,38 +212,9 @@ told s (Header m) h = record { kind_is = refl; second_is = refl }
 told s (Object m) h = record { kind_is = refl; second_is = refl }
 told s (Ring p) h = record { kind_is = refl; second_is = refl }
 
-abbrev IsWidth : ℕ → Type 0
-IsWidth d = (d ≡ 16) ⊎ (d ≡ 32) ⊎ (d ≡ 144) ⊎ (d ≡ 1)
-
-widths : (n : Name) → IsWidth (width (group n))
-widths Safepoint = inl refl
-widths Claim = inl refl
-widths End = inl refl
-widths (Prototype c) = inl refl
-widths (Revocations c) = inl refl
-widths (LastBulk c) = inl refl
-widths (Mark o) = inr (inl refl)
-widths (Stamp o) = inr (inl refl)
-widths (Slot o i) = inr (inl refl)
-widths (Class o) = inr (inl refl)
-widths (Hold t p) = inr (inr (inl refl))
-widths (Displaced t p) = inr (inr (inl refl))
-widths (Waiting t) = inr (inr (inl refl))
-widths (Length t) = inr (inr (inl refl))
-widths (Owner m) = inl refl
-widths (Recursions m) = inl refl
-widths (Header m) = inl refl
-widths (Object m) = inl refl
-widths (Ring p) = inr (inr (inr refl))
-
-abbrev Parts : ℕ → ℕ → ℕ → ℕ → ℕ → Type 0
-Parts d a i b j = i < d → j < d → d * a + i ≡ d * b + j → (a ≡ b) × (i ≡ j)
-
-parts : (d a i b j : ℕ) → IsWidth d → Parts d a i b j
-parts d a i b j (inl e) = subst (λ (x : ℕ). Parts x a i b j) (sym e) (λ p q h. (omega (arith, p, q, h), omega (arith, p, q, h)))
-parts d a i b j (inr (inl e)) = subst (λ (x : ℕ). Parts x a i b j) (sym e) (λ p q h. (omega (arith, p, q, h), omega (arith, p, q, h)))
-parts d a i b j (inr (inr (inl e))) = subst (λ (x : ℕ). Parts x a i b j) (sym e) (λ p q h. (omega (arith, p, q, h), omega (arith, p, q, h)))
-parts d a i b j (inr (inr (inr e))) = subst (λ (x : ℕ). Parts x a i b j) (sym e) (λ p q h. (omega (arith, p, q, h), omega (arith, p, q, h)))
+-- a number of groups and a place in one are told by their sum, where the place is within a group
+parts : (d a i b j : ℕ) → i < d → j < d → d * a + i ≡ d * b + j → (a ≡ b) × (i ≡ j)
+parts d a i b j p q h = same_from_place a i b j d p q (ap (λ (x : ℕ). x + i) (mul_comm a d) ∙ h ∙ ap (λ (x : ℕ). x + j) (mul_comm d b))
 
 one_group : (s : Shape) (m n : Name) → IsIn s m → IsIn s n → place_of s m ≡ place_of s n → group m ≡ group n
 one_group s m n h g e =
@@ -251,25 +233,20 @@ same_place s m n h g e =
     let c = told s m h in
     let d = told s n g in
     let k = one_group s m n h g e in
-    let wide : width (group m) ≡ width (group n) = ap width k in
+    let wide : width s (group m) ≡ width s (group n) = ap (width s) k in
     let low : before (group m) (sizes s) ≡ before (group n) (sizes s) = ap (λ (x : ℕ). before x (sizes s)) k in
-    let at : place_of s n ≡ before (group n) (sizes s) + (width (group m) * first_index n + offset n) = b.at ∙ ap (λ (x : ℕ). before (group n) (sizes s) + (x * first_index n + offset n)) (sym wide) in
+    let at : place_of s n ≡ before (group n) (sizes s) + (width s (group m) * first_index n + offset n) = b.at ∙ ap (λ (x : ℕ). before (group n) (sizes s) + (x * first_index n + offset n)) (sym wide) in
     let some = some_room m in
     let too = some_room n in
-    let x = parts (width (group m)) (first_index m) (offset m) (first_index n) (offset n) (widths m) (omega (arith, a.low, some)) (omega (arith, b.low, too, wide)) (omega (arith, a.at, at, low, e)) in
+    let x = parts (width s (group m)) (first_index m) (offset m) (first_index n) (offset n) (omega (arith, a.low, some)) (omega (arith, b.low, too, wide)) (omega (arith, a.at, at, low, e)) in
     let f : (kind_of m == kind_of n) ≡ true = eq-eqb _ _ (c.kind_is ∙ (λ i. kind_in (k i) (x.1 i)) ∙ sym d.kind_is) in
     let t : (second_index m == second_index n) ≡ true = eq-eqb _ _ (c.second_is ∙ (λ i. second_in (k i) (x.1 i)) ∙ sym d.second_is) in
     let u : (first_index m == first_index n) ≡ true = eq-eqb _ _ x.0 in
     λ i. f i && t i && u i
 
-abbrev Far : ℕ → ℕ → ℕ → ℕ → ℕ → Type 0
-Far d a i b j = i + 8 ≤ d → a < b → d * a + i + 8 ≤ d * b + j
-
-far : (d a i b j : ℕ) → IsWidth d → Far d a i b j
-far d a i b j (inl e) = subst (λ (x : ℕ). Far x a i b j) (sym e) (λ p h. omega (arith, p, h))
-far d a i b j (inr (inl e)) = subst (λ (x : ℕ). Far x a i b j) (sym e) (λ p h. omega (arith, p, h))
-far d a i b j (inr (inr (inl e))) = subst (λ (x : ℕ). Far x a i b j) (sym e) (λ p h. omega (arith, p, h))
-far d a i b j (inr (inr (inr e))) = subst (λ (x : ℕ). Far x a i b j) (sym e) (λ p h. omega (arith, p, h))
+-- 8 words before the end of a group, or further, is 8 words before each later group
+far : (d a i b j : ℕ) → i + 8 ≤ d → a < b → d * a + i + 8 ≤ d * b + j
+far d a i b j p h = let next = next_row d a b h in omega (arith, p, next)
 
 -- the words of a group lie 8 words or more before those of a later one
 before_by_8 : (s : Shape) (m n : Name) → IsIn s m → IsIn s n → (group m < group n) ⊎ ((group m ≡ group n) × (number m < number n)) → place_of s m + 8 ≤ place_of s n
@@ -283,13 +260,13 @@ before_by_8 s m n h g (inr (k, lt)) =
     let a = lies s m h in
     let b = lies s n g in
     let low : before (group m) (sizes s) ≡ before (group n) (sizes s) = ap (λ (x : ℕ). before x (sizes s)) k in
-    let at : place_of s n ≡ before (group n) (sizes s) + (width (group m) * first_index n + offset n) = b.at ∙ ap (λ (x : ℕ). before (group n) (sizes s) + (width x * first_index n + offset n)) (sym k) in
+    let at : place_of s n ≡ before (group n) (sizes s) + (width s (group m) * first_index n + offset n) = b.at ∙ ap (λ (x : ℕ). before (group n) (sizes s) + (width s x * first_index n + offset n)) (sym k) in
     let no_ring : group n < 5 = one_ring n (omega (arith, lt)) in
     let nor_there : group m < 5 = omega (arith, k, no_ring) in
     let much = much_room m nor_there in
     let first = number_is m nor_there in
     let second = number_is n no_ring in
-    let r = far (width (group m)) (first_index m) (offset m) (first_index n) (offset n) (widths m) (omega (arith, a.low, much)) (omega (arith, lt, first, second)) in
+    let r = far (width s (group m)) (first_index m) (offset m) (first_index n) (offset n) (omega (arith, a.low, much)) (omega (arith, lt, first, second)) in
     omega (arith, a.at, at, low, r)
 
 order : (a b : ℕ) → (a < b) ⊎ (b < a) ⊎ (a ≡ b)

@@ -25,7 +25,7 @@ bits_least (suc f) b n k h within = least_of (nat_le n (2 ^ b)) b k (bits_for f 
 
 ring_least : (s : Shape) (k : ℕ) → monitor_count s ≤ 2 ^ k → ring_bits s ≤ k
 unfolding ring_bits
-ring_least s k h = bits_least 13 0 (monitor_count s) k h (omega arith)
+ring_least s k h = bits_least 15 0 (monitor_count s) k h (omega arith)
 
 -- a power of two that is large enough, and of which half isn't
 same_bits : (s : Shape) (m k : ℕ) → IsInLimits s → m ≡ 2 ^ k → monitor_count s ≤ m → m / 2 < max 1 (monitor_count s) → ring_bits s ≡ k
@@ -43,9 +43,9 @@ same_bits s m (suc j) limits is enough half =
 pub ring_is : (s : Shape) (m k : ℕ) → IsInLimits s → m ≡ 2 ^ k → monitor_count s ≤ m → m / 2 < max 1 (monitor_count s) → m ≡ 2 ^ ring_bits s
 ring_is s m k limits is enough half = is ∙ ap (λ j. 2 ^ j) (sym (same_bits s m k limits is enough half))
 
--- they are from 1 to 8192
+-- they are from 1 to 32768
 pub places_some : (s : Shape) → 1 ≤ 2 ^ ring_bits s
 places_some s = let some = pow_pos (ring_bits s) in omega (arith, some)
 
-pub places_few : (s : Shape) → 2 ^ ring_bits s ≤ 8192
-places_few s = let most : 2 ^ ring_bits s ≤ 2 ^ 13 = pow_mono (ring_few s) in omega (arith, most)
+pub places_few : (s : Shape) → 2 ^ ring_bits s ≤ 32768
+places_few s = let most : 2 ^ ring_bits s ≤ 2 ^ 15 = pow_mono (ring_few s) in omega (arith, most)

@@ -1,6 +1,6 @@
 -- What the law of the heap says of steps that are due.
 use Rattle.std.proofs.Common.{◌≡◌, ℕ, ◌+◌, ◌^◌, ◌<◌, ◌≤◌, ◌&&◌, if◌then◌else◌, Bool, true, false, length, refl, sym, ap, ◌∙◌, subst, inl, inr}
-use Rattle.plain_monitor.specs.Limits.{most_objects}
+use Rattle.plain_monitor.specs.Limits.{most_in_all}
 use Rattle.plain_monitor.specs.History.{last_stamp}
 use Rattle.core_world.specs.declared.name.Name.TheVariants.{Stamp}
 use Rattle.core_world.specs.declared.plan.StepPlan.{StepPlan}
@@ -56,14 +56,14 @@ stamp_room h p e o stamp f is_of due =
     stamp_fits h.heap p.known (raise_stamp_plan e o stamp) (is_of.real.world.words (Stamp o)) (last_stamp p.known.log) (would h p e.task (raise_stamp_plan e o stamp) f is_of due refl) refl refl
 
 -- it has few objects
-sound_few : (w : World) → Sound w → length w.shape.objects ≤ most_objects
+sound_few : (w : World) → Sound w → length w.shape.objects ≤ most_in_all
 sound_few w sound = elim sound.valid.is [
   | inl a ↦ a.0.limits.objects
-  | inr s ↦ subst (λ (z : Shape). length z.objects ≤ most_objects) (sym s.0.shape) s.0.fits.limits.objects
+  | inr s ↦ subst (λ (z : Shape). length z.objects ≤ most_in_all) (sym s.0.shape) s.0.fits.limits.objects
 ]
 
-pub few_objects : (h : HeapSeen) (p : PassSeen) → IsOf h p → length h.heap.shape.objects ≤ most_objects
-few_objects h p is_of = let r = is_of.real in subst (λ (z : Heap). length z.shape.objects ≤ most_objects) r.is_of (sound_few r.world r.sound)
+pub few_objects : (h : HeapSeen) (p : PassSeen) → IsOf h p → length h.heap.shape.objects ≤ most_in_all
+few_objects h p is_of = let r = is_of.real in subst (λ (z : Heap). length z.shape.objects ≤ most_in_all) r.is_of (sound_few r.world r.sound)
 
 -- NO CALL COMES to where its steps say that no valid world comes: not in its middle,
 both : (a b : Bool) → (a && b) ≡ true → b ≡ true

@@ -1,5 +1,5 @@
 //! The words before the first step.
-ghost use Rattle.std.specs.Prelude.{◌≡◌, ◌++◌, IfOk, length};
+ghost use Rattle.std.specs.Prelude.{◌≡◌, ◌≤◌, ◌++◌, IfOk, length};
 ghost use Rattle.core_world.specs.Opening.{first_mark};
 ghost use Rattle.heap_table.specs.Layout.{word_count};
 ghost use Rattle.heap_table.specs.inner.Openings.{copies, numbers, object_words, opening_words};
@@ -37,14 +37,21 @@ fn mark_word(biasing: bool) -> u64
     if biasing { 5 } else { 1 }
 }
 
-// An object's words at first, by its mark.
-fn object_group(mark: u64) -> [u64; 32]
-    ensures { result ≡ object_words mark }
+// Puts the words of so many objects with this mark behind the words, in groups of this size.
+fn push_objects(
+    words: &mut Vec<u64>,
+    count: usize,
+    size: usize,
+    mark: u64,
+) -> Result<(), AllocError>
+    requires { 3 ≤ size }
+    ensures { IfOk result (λ _. words.new.items ≡ words.old.items ++ copies count (object_words size mark)) }
 {
-    [
-        mark, 0, ZERO, ZERO, ZERO, ZERO, ZERO, ZERO, ZERO, ZERO, ZERO, ZERO, ZERO, ZERO, ZERO,
-        ZERO, ZERO, ZERO, 0, 0, 0, 0, 0, 0, 0, 0, 0, 0, 0, 0, 0, 0,
-    ]
+    for _i in 0..count {
+        words.extend_from_slice(&[mark, 0, 0])?;
+        push_copies(words, size - 3, &[ZERO])?;
+    }
+    Ok(())
 }
 
 /// The words of the opening world, by their places.
@@ -56,22 +63,18 @@ pub fn opening_words(alloc: Global, setting: &Setting) -> Result<Vec<u64>, Alloc
     let classes = setting.shape.classes() as usize;
     let objects = setting.shape.objects();
     let declared = setting.shape.declared() as usize;
+    let size = setting.shape.object_size();
     let mark = mark_word(setting.biasing);
     let monitors = objects + threads;
     let places = setting.shape.ring_places();
-    let rest = 144 * threads + 16 * monitors;
+    let rest = 144 * threads + 11 * monitors;
     let own = [0, 0, 0, 0, 0, 0, 0, monitors as u64, 0, 0, 0, 0, 0, 0, 0, 0];
     let class = [mark, 0, 0, 0, 0, 0, 0, 0, 0, 0, 0, 0, 0, 0, 0, 0];
-    let count = 16 + 16 * classes + 32 * objects + rest + places as usize;
-    let mut words = Vec::with_capacity(alloc, count)?;
+    let mut words = Vec::with_capacity(alloc, setting.shape.word_count())?;
     push_copies(&mut words, 1, &own)?;
     push_copies(&mut words, classes, &class)?;
-    push_copies(&mut words, declared, &object_group(mark))?;
-    push_copies(
-        &mut words,
-        objects - declared,
-        &object_group(mark_word(false)),
-    )?;
+    push_objects(&mut words, declared, size, mark)?;
+    push_objects(&mut words, objects - declared, size, mark_word(false))?;
     push_copies(&mut words, rest, &[0])?;
     push_numbers(&mut words, places)?;
     Ok(words)

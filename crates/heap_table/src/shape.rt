@@ -1,26 +1,31 @@
 //! How many there are of everything, and where each word lies.
-ghost use Rattle.std.specs.Prelude.{◌≡◌, ◌≢◌, ◌⊎◌, ◌<◌, ◌≤◌, ◌+◌, ◌*◌, All, IfOk, length, map, slice_index};
-ghost use Rattle.plain_monitor.specs.Limits.{most_threads, most_classes, most_slots, most_objects, most_holds};
+ghost use Rattle.std.specs.Prelude.{◌≡◌, ◌≢◌, ◌⊎◌, ◌<◌, ◌≤◌, ◌+◌, ◌*◌, ◌/◌, ◌++◌, All, IfOk, length, map, replicate, slice_index};
+ghost use Rattle.plain_monitor.specs.Limits.{most_threads, most_classes, most_slots, most_objects, most_in_all, most_holds};
 ghost use Rattle.core_world.specs.Words.Shape.{Shape, IsInLimits, class_of, slots_of, ring_places};
 ghost use Rattle.core_world.specs.There.{IsIn};
-ghost use Rattle.heap_table.specs.Layout.{group, number, place_of, word_count, many, shape_of, classes_from, objects_from, threads_from, monitors_from, ring_from};
+ghost use Rattle.heap_table.specs.Layout.{group, number, place_of, word_count, many, shape_of, with_made, widest, object_size, classes_from, objects_from, threads_from, monitors_from, ring_from};
 
 use core_world::Name;
 use plain_monitor::NoMemory;
+use plain_monitor::limits::MADE;
 use std::alloc::{AllocError, Global};
 use std::marker::Model;
 
-/// The shape of a heap. It keeps how many objects are declared, and the class and the number of slots of each object.
+/// The shape of a heap. It keeps how many objects are declared, the class and the number of slots of each object, and
+/// how many words each object's group has.
 #[derive(Drop)]
 pub struct HeapShape {
     threads: u32,
     classes: u32,
     declared: u32,
     objects: Vec<(u32, u32)>,
+    size: u32,
 }
 
 impl Model for HeapShape {
+    ghost use Rattle.std.specs.Prelude.{◌≡◌};
     ghost use Rattle.core_world.specs.Words.Shape.{Shape, IsInLimits};
+    ghost use Rattle.heap_table.specs.Layout.{object_size};
 
     ghost Value = { Shape };
 
@@ -31,7 +36,12 @@ impl Model for HeapShape {
       classes = s.classes;
       declared = s.declared;
       objects = s.objects.items;
-    }) };
+    }) × (s.size ≡ object_size (record {
+      threads = s.threads;
+      classes = s.classes;
+      declared = s.declared;
+      objects = s.objects.items;
+    })) };
 }
 
 /// Places in the table. Each of these is the place of the word of that name.
@@ -122,16 +132,16 @@ impl HeapShape {
         requires { object < many self.now }
         ensures { result ≡ place_of self.now (Name.Class object) }
     {
-        self.group_at(object) + 18
+        self.group_at(object) + 2
     }
 
-    /// This slot of the object.
+    /// This slot of the object. A slot that the object doesn't have has no word, and its place may be another word's.
     #[inline(always)]
     pub fn slot_at(&self, object: u32, slot: u32) -> usize
-        requires { (object < many self.now) × (slot < most_slots) }
+        requires { object < many self.now }
         ensures { result ≡ place_of self.now (Name.Slot object slot) }
     {
-        self.group_at(object) + 2 + slot as usize
+        self.group_at(object) + 3 + slot as usize
     }
 
     /// The thread's hold word of this place.
@@ -249,13 +259,32 @@ impl HeapShape {
         16 + 16 * class as usize
     }
 
+    // How many words so many objects have.
+    #[inline(always)]
+    fn words_of(&self, objects: usize) -> usize
+        requires { objects ≤ most_in_all }
+        ensures words { result ≡ object_size self.now * objects }
+        ensures low { result ≤ 655360 }
+    {
+        self.size as usize * objects
+    }
+
     #[inline(always)]
     fn group_at(&self, object: u32) -> usize
         requires { object < many self.now }
-        ensures place { result ≡ objects_from self.now + 32 * object }
+        ensures place { result ≡ objects_from self.now + object_size self.now * object }
         ensures low { result < 1000000 }
     {
-        16 + 16 * self.classes as usize + 32 * object as usize
+        16 + 16 * self.classes as usize + self.words_of(object as usize)
+    }
+
+    // Where the groups of the threads begin.
+    #[inline(always)]
+    fn threads_from(&self) -> usize
+        ensures place { result ≡ threads_from self.now }
+        ensures low { result ≤ 656400 }
+    {
+        16 + 16 * self.classes as usize + self.words_of(self.objects.len())
     }
 
     #[inline(always)]
@@ -264,28 +293,46 @@ impl HeapShape {
         ensures place { result ≡ threads_from self.now + 144 * thread }
         ensures low { result < 1000000 }
     {
-        16 + 16 * self.classes as usize + 32 * self.objects.len() + 144 * thread as usize
+        let _threads = self.threads;
+        self.threads_from() + 144 * thread as usize
     }
 
     #[inline(always)]
     fn monitor_at(&self, monitor: u32) -> usize
         requires { monitor < many self.now + self.now.threads }
-        ensures place { result ≡ monitors_from self.now + 16 * monitor }
+        ensures place { result ≡ monitors_from self.now + 11 * monitor }
         ensures low { result < 1000000 }
     {
-        let objects = 16 + 16 * self.classes as usize;
-        let threads = objects + 32 * self.objects.len();
-        threads + 144 * self.threads as usize + 16 * monitor as usize
+        self.threads_from() + 144 * self.threads as usize + 11 * monitor as usize
     }
 
     #[inline(always)]
     fn ring_from(&self) -> usize
         ensures place { result ≡ ring_from self.now }
-        ensures low { result < 1000000 }
+        ensures low { result ≤ 884160 }
     {
-        let threads = 16 + 16 * self.classes as usize + 32 * self.objects.len();
         let monitors = self.objects.len() + self.threads as usize;
-        threads + 144 * self.threads as usize + 16 * monitors
+        self.threads_from() + 144 * self.threads as usize + 11 * monitors
+    }
+}
+
+// How many words there are.
+impl HeapShape {
+    /// How many words the group of each object has.
+    #[inline(always)]
+    pub fn object_size(&self) -> usize
+        ensures size { result ≡ object_size self.now }
+        ensures one_of_three { (result ≡ 16) ⊎ (result ≡ 24) ⊎ (result ≡ 32) }
+    {
+        self.size as usize
+    }
+
+    /// How many words the table has, at most 916,928.
+    pub fn word_count(&self) -> usize
+        ensures count { result ≡ word_count self.now }
+        ensures few { result ≤ 916928 }
+    {
+        self.ring_from() + self.ring_places() as usize
     }
 }
 
@@ -301,9 +348,39 @@ fn objects_of(alloc: Global, slots: &[u32], classes: &[u32]) -> Result<Vec<(u32,
     Ok(objects)
 }
 
+// So many objects more, with so many slots.
+fn push_made(objects: &mut Vec<(u32, u32)>, count: usize, slots: u32) -> Result<(), AllocError>
+    ensures { IfOk result (λ _. objects.new.items ≡ objects.old.items ++ replicate count (0, slots)) }
+{
+    for _i in 0..count {
+        objects.push((0, slots))?;
+    }
+    Ok(())
+}
+
+// The most slots of any of these objects.
+fn widest(objects: &[(u32, u32)]) -> u32
+    ensures { result ≡ widest objects.now }
+{
+    let mut most = 0;
+    for object in objects {
+        most = most.max(object.1);
+    }
+    most
+}
+
+// The words of an object's group: its three first ones, its slots, and seven that lie free, in whole lines.
+fn size_for(slots: u32) -> u32
+    requires { slots ≤ most_slots }
+    ensures { result ≡ 8 * ((slots + 10 + 7) / 8) }
+{
+    8 * ((slots + 10 + 7) / 8)
+}
+
 impl HeapShape {
     /// The shape of so many threads, of classes whose objects have so many slots, and of an object of each of these
-    /// classes. So many of the objects, the first ones, are declared; threads make the others.
+    /// classes. So many of the objects, the first ones, are declared; threads make the others. `with_made` adds numbers
+    /// for these.
     pub fn of(
         alloc: Global,
         threads: u32,
@@ -312,7 +389,7 @@ impl HeapShape {
         declared: u32,
     ) -> Result<HeapShape, NoMemory>
         requires counts { (threads ≤ most_threads) × (length slots.now ≤ most_classes)
-            × (length classes.now ≤ most_objects) }
+            × (length classes.now ≤ most_in_all) }
         requires declared { declared ≤ length classes.now }
         requires slots { All (λ n. n ≤ most_slots) slots.now }
         requires classes { All (λ c. c < length slots.now) classes.now }
@@ -320,12 +397,54 @@ impl HeapShape {
     {
         match objects_of(alloc, slots, classes) {
             Err(_) => Err(NoMemory),
-            Ok(objects) => Ok(HeapShape {
-                threads,
-                classes: slots.len() as u32,
-                declared,
-                objects,
-            }),
+            Ok(objects) => Ok(HeapShape::with_size(threads, slots.len() as u32, declared, objects)),
+        }
+    }
+
+    // The shape with these objects.
+    fn with_size(threads: u32, classes: u32, declared: u32, objects: Vec<(u32, u32)>) -> HeapShape
+        requires { IsInLimits (record {
+          threads = threads;
+          classes = classes;
+          declared = declared;
+          objects = objects.items;
+        }) }
+        ensures { result ≡ record {
+          threads = threads;
+          classes = classes;
+          declared = declared;
+          objects = objects.items;
+        } }
+    {
+        let size = size_for(widest(&objects));
+        HeapShape {
+            threads,
+            classes,
+            declared,
+            objects,
+            size,
+        }
+    }
+
+    /// This shape with numbers for the objects that threads make: 1,024 for each thread, behind the objects that are
+    /// there, which are at most 4,096. Each has so many slots, at most 16, whatever its class, which it gets when it is
+    /// made. Without a class nothing could be made.
+    pub fn with_made(self, slots: u32) -> Result<HeapShape, NoMemory>
+        requires room { length self.objects ≤ most_objects }
+        requires class { 1 ≤ self.classes }
+        requires slots { slots ≤ most_slots }
+        ensures { IfOk result (λ s. s ≡ with_made self slots) }
+    {
+        let HeapShape {
+            threads,
+            classes,
+            declared,
+            mut objects,
+            ..
+        } = self;
+        match push_made(&mut objects, (MADE * threads) as usize, slots) {
+            Err(_) => Err(NoMemory),
+            Ok(()) => Ok(HeapShape::with_size(threads, classes, declared, objects)),
         }
     }
 
@@ -344,7 +463,7 @@ impl HeapShape {
         self.classes
     }
 
-    /// The number of objects, at most 4096.
+    /// The number of objects, at most 20,480.
     pub fn objects(&self) -> usize
         ensures { result ≡ length self.now.objects }
     {
@@ -360,10 +479,10 @@ impl HeapShape {
     }
 
     /// How many places the ring of monitors has: the least power of two that is at least the number of monitors, one
-    /// for each object and each thread. From 1 to 8192.
+    /// for each object and each thread. From 1 to 32,768.
     pub fn ring_places(&self) -> u32
         ensures places { result ≡ ring_places self.now }
-        ensures few { (1 ≤ result) × (result ≤ 8192) }
+        ensures few { (1 ≤ result) × (result ≤ 32768) }
     {
         (self.objects.len() as u32 + self.threads).next_power_of_two()
     }

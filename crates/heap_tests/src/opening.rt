@@ -78,15 +78,15 @@ fn each_monitor_stands_in_the_ring_at_first(rt: HostRuntime) -> Result<(), Fail>
         same(&rt, monitor(&closed, place), Some(number));
     }
     same(&rt, monitor(&closed, 8), None);
-    // 16 words of the heap, 16 of a class, 3 * 32 of objects, 2 * 144 of threads, 5 * 16 of monitors, and the 8 places.
-    same(&rt, closed.words().items().len(), 504);
+    // 16 words of the heap, 16 of a class, 3 * 16 of objects, 2 * 144 of threads, 5 * 11 of monitors, and the 8 places.
+    same(&rt, closed.words().items().len(), 431);
     Ok(())
 }
 
 #[test]
 fn objects_that_are_not_made_yet_have_no_bias_and_no_class(rt: HostRuntime) -> Result<(), Fail> {
     // With biases a declared object's mark is biased to nobody, at epoch 0: the bias pattern 101, and so the word 5. Object 2
-    // isn't there yet: its mark is the neutral one, 1, and its class word is 0, behind its mark, its stamp and 16 slots.
+    // isn't there yet: its mark is the neutral one, 1, and its class word is 0, behind its mark and its stamp.
     let (heap, first, second) = begin(rt.alloc(), 2, true)?;
     let closed = end(rt.alloc(), 2, heap, first, second)?;
     let shape = closed.shape();
@@ -94,7 +94,7 @@ fn objects_that_are_not_made_yet_have_no_bias_and_no_class(rt: HostRuntime) -> R
     same(&rt, word(&closed, shape.mark_at(0)), Some(5));
     same(&rt, word(&closed, shape.mark_at(1)), Some(5));
     same(&rt, word(&closed, shape.mark_at(2)), Some(1));
-    same(&rt, shape.class_at(2), shape.mark_at(2) + 18);
+    same(&rt, shape.class_at(2), shape.mark_at(2) + 2);
     same(&rt, word(&closed, shape.class_at(2)), Some(0));
     Ok(())
 }

@@ -1,10 +1,10 @@
 -- Each entry of a run can be told by a line.
-use Rattle.std.proofs.Common.{◌≡◌, ℕ, zero, suc, ◌+◌, ◌*◌, ◌<◌, ◌≤◌, ◌^◌, ◌==◌, ◌&&◌, true, false, List, [], ◌∷◌, length, slice_get, Option, Some, None, refl, sym, ap, ◌∙◌, subst, arith, eqb-true}
+use Rattle.std.proofs.Common.{◌≡◌, ℕ, ◌+◌, ◌*◌, ◌<◌, ◌≤◌, ◌^◌, ◌==◌, ◌&&◌, true, false, List, [], ◌∷◌, length, Option, Some, None, refl, sym, ap, ◌∙◌, subst, arith, eqb-true}
 use Rattle.std.specs.List.{AllByRecursion}
 use Rattle.std.proofs.lemmas.Bool.{and_parts, false≢true}
 use Rattle.std.proofs.lemmas.List.{length-append}
 use Rattle.std.proofs.lemmas.Option.{cond_some, none-some, slice_get_within}
-use Rattle.plain_monitor.specs.Limits.{most_slots, most_fuel, most_threads}
+use Rattle.plain_monitor.specs.Limits.{most_fuel, most_threads}
 use Rattle.plain_monitor.specs.declared.entry.Value.{Value}
 use Rattle.plain_monitor.specs.declared.entry.Value.TheVariants.{Nil, Int, Ref}
 use Rattle.plain_monitor.specs.declared.entry.Fault.{Fault}
@@ -19,8 +19,7 @@ use Rattle.plain_monitor.proofs.Lists.{all_at, all_weaker}
 use Rattle.plain_history.specs.ExactStamps.{StampsAreExact}
 use Rattle.plain_history.proofs.Joined.{first_some}
 use Rattle.object_program.specs.Limits.{most_code}
-use Rattle.object_program.specs.declared.program.ClassDef.{ClassDef}
-use Rattle.object_program.specs.Program.{ProgramText, declared_total, slots_in, slots_of, class_of}
+use Rattle.object_program.specs.Program.{ProgramText, objects_total, slots_of}
 use Rattle.object_program.specs.Valid.{IsProgram}
 use Rattle.plain_machine.specs.Values.{IsValueOf}
 use Rattle.plain_machine.specs.declared.call.Call.{Call}
@@ -38,9 +37,8 @@ use Rattle.machine_laws.proofs.ReachedAsked.{IsAskedOf, asked_of, taken, taken_a
 use Rattle.machine_laws.proofs.ReachedEntries.{progress}
 use Rattle.machine_laws.proofs.ReachedFirst.{first_is_reached}
 use Rattle.machine_laws.proofs.ReachedKinds.{thread_of}
-use Rattle.machine_laws.proofs.ReachedNeeds.{asks_no_new}
 use Rattle.machine_laws.proofs.ReachedRange.{taken_in_range}
-use Rattle.object_program.proofs.Made.{all_declared, slots_few}
+use Rattle.object_program.proofs.Made.{made_few, slots_few}
 use Rattle.core_world.specs.Clauses.Draws.{AreDraws, first_draw}
 use Rattle.lock_journal.specs.Hashes.{hash_fits}
 use Rattle.hash_laws.proofs.DrawsAgain.{are_drawn}
@@ -84,6 +82,15 @@ module _ (p : ProgramText) (is : IsProgram p) (s : ThreadState) where
   put_slot (Leaves q) o k v asked fit = absurd (false≢true fit)
   put_slot (Ends (ending.Trap f i)) o k v asked fit = absurd (false≢true fit)
   put_slot (Ends g) o k v asked fit = absurd (false≢true fit)
+
+  -- the class of a new object is one of the program's
+  new_class : (a : Asked) (o c : ℕ) → IsAskedOf p s a → fits a (New o c) ≡ true → c < length p.classes
+  new_class (Calls (call.New x k)) o c asked fit = subst (λ (i : ℕ). i < length p.classes) (eqb-true k c fit) asked.call.0
+  new_class (Calls k) o c asked fit = absurd (false≢true fit)
+  new_class (Resumes q) o c asked fit = absurd (false≢true fit)
+  new_class (Leaves q) o c asked fit = absurd (false≢true fit)
+  new_class (Ends (ending.Trap f i)) o c asked fit = absurd (false≢true fit)
+  new_class (Ends g) o c asked fit = absurd (false≢true fit)
 
   -- the number of a trap is that of an instruction
   trap_number : (a : Asked) (f : Fault) (i : ℕ) → UnwindsWithin most_code s.mode → IsAskedOf p s a → fits a (Trap f i) ≡ true → i < 2 ^ 32
@@ -150,7 +157,7 @@ told m t s a (Put o k v) after h near asked fit takes is draw = (is.0, put_slot 
 told m t s a (Notify o woken) after h near asked fit takes is draw = is
 told m t s a (NotifyAll o many) after h near asked fit takes is draw = (is, many_few m t o many after h takes)
 told m t s a (Hash o v drawn) after h near asked fit takes is draw = let below = is.1.1 in (is.0, omega (arith, below), draw)
-told m t s a (New o c) after h near asked fit takes is draw = absurd (none-some (o, c) (sym (asks_no_new m.program s a (New o c) asked fit)))
+told m t s a (New o c) after h near asked fit takes is draw = (is, new_class m.program h.program s a o c asked fit)
 told m t s a (Print v) after h near asked fit takes is draw = is
 told m t s a (Dump n) after h near asked fit takes is draw = omega (arith, is)
 told m t s a (Trap f i) after h near asked fit takes is draw = trap_number m.program h.program s a f i near asked fit
@@ -162,10 +169,10 @@ module _ (m next : PlainMachine) (t : ℕ) (e : Entry) (h : IsReached m) (near :
   taken_is_told draw =
       let k = taken m t e next takes in
       let asked = asked_of m.program k.s k.asked (thread_of m t k.s (record { reached = h; at = k.at })) k.asks in
-      let declared : IsEntryOf (declared_total m.program) (length m.program.threads) e =
-      subst (λ n. IsEntryOf n (length m.program.threads) e) (h.object_count ∙ all_declared m.program h.program)
+      let own : IsEntryOf (objects_total m.program) (length m.program.threads) e =
+      subst (λ n. IsEntryOf n (length m.program.threads) e) h.object_count
       (subst (λ n. IsEntryOf (length m.objects) n e) h.thread_count (taken_in_range m next t e h takes)) in
-      let range = entry_of_more (declared_total m.program) (numbers_total m.program) (length m.program.threads) e (omega arith) declared in
+      let range = entry_of_more (objects_total m.program) (numbers_total m.program) (length m.program.threads) e (omega (arith, made_few m.program)) own in
       told m t k.s k.asked e k.objects h (all_at (λ (s : ThreadState). UnwindsWithin most_code s.mode) m.threads t k.s near k.at) asked k.fit k.takes range draw
 
   thread_is_there : t < length m.program.threads

@@ -32,7 +32,7 @@ none_held : (n : ℕ) → sum (replicate n 0) ≡ 0
 none_held n = let nothing = sum_by-replicate (λ (x : ℕ). x) n 0 in omega (arith, nothing)
 
 module _ (p : ProgramText) (fuel : ℕ) (is : IsProgram p) (few : fuel ≤ most_fuel) where
-  first_work : (d : ThreadDef) → RunsAll (length p.objects) d → work_of (first_state p d fuel) ≤ 2 * most_fuel + 1
+  first_work : (d : ThreadDef) → RunsAll p d → work_of (first_state p d fuel) ≤ 2 * most_fuel + 1
   first_work d runs =
       let r = first_run p d fuel is runs in
       let holds : sum (first_state p d fuel).holds ≡ 0 = ap (λ (ns : List ℕ). sum ns) r.holds_stay ∙ none_held (objects_total p) in
@@ -40,7 +40,7 @@ module _ (p : ProgramText) (fuel : ℕ) (is : IsProgram p) (few : fuel ≤ most_
       let one = r.one_entry in
       omega (arith, holds, fuels, one, few)
 
-  first_works : (ds : List ThreadDef) → AllByRecursion (RunsAll (length p.objects)) ds → work_in (map (λ d. first_state p d fuel) ds) ≤ length ds * (2 * most_fuel + 1)
+  first_works : (ds : List ThreadDef) → AllByRecursion (RunsAll p) ds → work_in (map (λ d. first_state p d fuel) ds) ≤ length ds * (2 * most_fuel + 1)
   first_works [] runs = omega arith
   first_works (d ∷ ds) runs =
       let here = first_work d runs.0 in

@@ -143,7 +143,7 @@ code_near : (p : ProgramText) (t : ℕ) → IsProgram p → length (code_of p t)
 code_near p t is =
     all_or (λ (cs : List Code). length cs ≤ most_code) (map (λ (d : ThreadDef). d.code) p.threads) t [] (omega arith)
     (all_map (λ (cs : List Code). length cs ≤ most_code) (λ (d : ThreadDef). d.code) p.threads
-    (all_weaker (IsThread (length p.objects)) (λ (d : ThreadDef). length d.code ≤ most_code) (λ d h. h.code_few) p.threads is.threads))
+    (all_weaker (IsThread (length p.classes) (length p.objects)) (λ (d : ThreadDef). length d.code ≤ most_code) (λ d h. h.code_few) p.threads is.threads))
 
 first_near : (p : ProgramText) (fuel : ℕ) (d : ThreadDef) → length d.code ≤ most_code → UnwindsWithin most_code (first_state p d fuel).mode
 first_near p fuel d few = unwinds_within (length d.code) most_code (first_state p d fuel).mode few (running p d.code fuel _)
@@ -151,7 +151,7 @@ first_near p fuel d few = unwinds_within (length d.code) most_code (first_state 
 pub new_near : (p : ProgramText) (fuel : ℕ) → IsProgram p → TrapsAreNear (new_machine p fuel)
 new_near p fuel is =
     all_map (λ (s : ThreadState). UnwindsWithin most_code s.mode) (λ d. first_state p d fuel) p.threads
-    (all_weaker (IsThread (length p.objects)) (λ d. UnwindsWithin most_code (first_state p d fuel).mode) (λ d h. first_near p fuel d h.code_few) p.threads is.threads)
+    (all_weaker (IsThread (length p.classes) (length p.objects)) (λ d. UnwindsWithin most_code (first_state p d fuel).mode) (λ d h. first_near p fuel d h.code_few) p.threads is.threads)
 
 module _ (p : ProgramText) (cs : List Code) (few : length cs ≤ most_code) where
   run_near : (fuel : ℕ) (s : ThreadState) → UnwindsWithin most_code (run_on p cs fuel s).mode

@@ -8,7 +8,7 @@ use program_syntax::read_program;
 #[test]
 fn texts_that_are_read(rt: HostRuntime) {
     let alloc = rt.alloc();
-    let texts: [&[u8]; 7] = [
+    let texts: [&[u8]; 8] = [
         b"thread t\nend",
         b"thread t\r\nend\r",
         b"\t thread\t t \t\n  end\t",
@@ -39,6 +39,15 @@ jump l
 label l
 end
 ",
+        b"\
+thread t
+end
+class n 1
+thread u
+local n
+new n n
+end
+",
     ];
     for text in texts {
         assert!(rt; is_read(alloc, text));
@@ -48,6 +57,7 @@ end
 /// Each instruction with its operands, and labels before and behind the jumps.
 const EACH_INSTRUCTION: &[u8] = b"\
 class C 3
+class D 0
 array s C 4
 object a C
 thread t
@@ -71,6 +81,7 @@ put x 1 z
 label mid
 label also
 hash y x
+new z D
 print y
 jump top
 jlt x y low
@@ -103,15 +114,16 @@ fn each_instruction(rt: HostRuntime) {
         Code::Get { x: 2, o: 0, k: 2 },
         Code::Put { o: 0, k: 1, x: 2 },
         Code::Hash { x: 1, o: 0 },
+        Code::New { x: 2, c: 1 },
         Code::Print { x: 1 },
         Code::Jump { l: 1 },
-        Code::Jlt { x: 0, y: 1, l: 20 },
+        Code::Jlt { x: 0, y: 1, l: 21 },
         Code::Jeq { x: 1, y: 2, l: 14 },
         Code::Dump,
         Code::End,
     ];
     assert!(rt; thread.code.items() == code.as_slice());
-    let targets = [1, 14, 14, 20];
+    let targets = [1, 14, 14, 21];
     assert!(rt; thread.labels.items().len() == 4);
     for (label, target) in thread.labels.items().iter().zip(targets.as_slice()) {
         assert!(rt; label.index == *target);
@@ -152,6 +164,31 @@ end
             assert!(rt; program.place_of(o) == place, "{o}");
         }
     }
+}
+
+/// Each thread has numbers for the objects that it makes, where some thread makes one. Their slots are those of the largest
+/// class that a `new` names.
+#[test]
+fn objects_that_threads_make(rt: HostRuntime) {
+    let text = b"\
+class C 3
+class D 5
+class E 9
+object a E
+thread t
+local x
+new x D
+new x C
+end
+thread u
+end
+";
+    let Ok(program) = read_program(rt.alloc(), text) else {
+        panic!(rt; "refused")
+    };
+    assert!(rt; program.declared_total() == 1);
+    assert!(rt; program.objects_total() == 2049);
+    assert!(rt; program.made_slots() == 5);
 }
 
 #[test]

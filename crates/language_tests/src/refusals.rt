@@ -32,7 +32,7 @@ fn each_front_of_an_example(rt: HostRuntime) -> Result<(), Fail> {
 #[test]
 fn causes_of_lines_outside_sections(rt: HostRuntime) {
     let alloc = rt.alloc();
-    let rows: [(&[u8], u32, Why); 32] = [
+    let rows: [(&[u8], u32, Why); 33] = [
         (b"class C\x01 1\nthread t\nend\n", 1, Why::NotAscii),
         (b"thread t\nend\n# \xff\n", 3, Why::NotAscii),
         (b"thread t\nend\n\x7f", 3, Why::NotAscii),
@@ -42,6 +42,7 @@ fn causes_of_lines_outside_sections(rt: HostRuntime) {
         (b"Class C 1\n", 1, Why::UnknownWord),
         (b"local x\n", 1, Why::UnknownWord),
         (b"end\n", 1, Why::UnknownWord),
+        (b"class C 1\nnew x C\n", 2, Why::UnknownWord),
         (b"thread t\nend\nend\n", 3, Why::UnknownWord),
         (b"thread t\nend\nprint v\n", 3, Why::UnknownWord),
         (b"class C\n", 1, Why::Operands),
@@ -140,6 +141,58 @@ fn causes_of_lines_of_sections(rt: HostRuntime) {
         (b"thread t\nclass C 1\nend\n", 1, Why::NoEnd),
         (b"thread t\nend\nthread u\nset x\n", 3, Why::NoEnd),
         (b"thread t\nfoo # \xff\nend\n", 2, Why::NotAscii),
+    ];
+    for (text, line, why) in rows {
+        assert!(rt; is_refused(alloc, text, line, why), "{line} {why:?}");
+    }
+}
+
+#[test]
+fn causes_of_lines_that_make_objects(rt: HostRuntime) {
+    let alloc = rt.alloc();
+    let rows: [(&[u8], u32, Why); 10] = [
+        (
+            b"class C 1\nthread t\nlocal x\nnew x\nend\n",
+            4,
+            Why::Operands,
+        ),
+        (
+            b"class C 1\nthread t\nlocal x\nnew x C 1\nend\n",
+            4,
+            Why::Operands,
+        ),
+        (
+            b"class C 1\nthread t\nlocal x\nnew x 1\nend\n",
+            4,
+            Why::BadName,
+        ),
+        (b"class C 1\nthread t\nnew x C\nend\n", 3, Why::Undeclared),
+        (
+            b"class C 1\nthread t\nnew x C\nlocal x\nend\n",
+            3,
+            Why::Undeclared,
+        ),
+        (
+            b"class C 1\nthread t\nlocal x\nend\nthread u\nnew x C\nend\n",
+            6,
+            Why::Undeclared,
+        ),
+        (b"thread t\nlocal x\nnew x C\nend\n", 3, Why::Undeclared),
+        (
+            b"thread t\nlocal x\nnew x C\nend\nclass C 1\n",
+            3,
+            Why::Undeclared,
+        ),
+        (
+            b"class C 1\nobject a C\nthread t\nlocal x\nnew x a\nend\n",
+            5,
+            Why::Undeclared,
+        ),
+        (
+            b"class C 1\nthread t\nlocal x\nlocal C\nnew C x\nend\n",
+            5,
+            Why::Undeclared,
+        ),
     ];
     for (text, line, why) in rows {
         assert!(rt; is_refused(alloc, text, line, why), "{line} {why:?}");

@@ -5,10 +5,12 @@ use program_syntax::{read_program, write_program};
 use std::process::Abort;
 use std::test::Fail;
 
-/// The text of two threads with an array, labels before one instruction, jumps and a negative number.
+/// The text of two threads with an array, labels before one instruction, jumps, a negative number and an object that a thread
+/// makes.
 const CANONICAL: &str = "\
 class C 2
 class D 0
+class E 4
 object a D
 array b C 3
 thread t1
@@ -23,11 +25,13 @@ jlt x x top
 jump top
 end
 thread t2
+local z
+new z E
 end
 ";
 
-/// The same program with other spaces, comments, zeros and ends of lines, with a local and a class where they are needed, and with
-/// a jump to the other label.
+/// The same program with other spaces, comments, zeros and ends of lines, with a local and classes where they are needed, one of
+/// them between the threads, and with a jump to the other label.
 const LOOSE: &str = "\
 class\tC 002\r
 # two classes
@@ -46,7 +50,10 @@ put y 01 x
 jlt x x top
 jump again
 end
+class E 04
 thread t2
+local z
+new\tz  E # one more
 end";
 
 /// Compares what is written of the text's program, behind what `out` has already, with this.

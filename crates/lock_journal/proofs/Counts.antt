@@ -4,7 +4,7 @@ use Rattle.plain_monitor.specs.declared.entry.Path.{Path}
 use Rattle.plain_monitor.specs.declared.entry.Path.TheVariants.{BiasOwn, BiasTaken, StackFirst, StackAgain, MonitorFirst, MonitorAgain}
 use Rattle.plain_monitor.specs.declared.entry.Logged.{Logged}
 use Rattle.plain_monitor.specs.Order.{order}
-use Rattle.object_program.specs.Program.{ProgramText}
+use Rattle.plain_machine.specs.Machine.{PlainMachine}
 use Rattle.lock_journal.specs.RunText.{is_enter_by}
 use Rattle.lock_journal.specs.inner.Enters.{enters_in, enters_in_all, enters_of, count_at}
 use Rattle.lock_journal.proofs.EntersOfLogs.{enters_by-order}
@@ -14,16 +14,16 @@ enter_by-few true = omega arith
 enter_by-few false = omega arith
 
 -- a log has no more enters than entries
-pub enters_in-few : (p : ProgramText) (c : ℕ) (path : Path) (log : List Logged) → enters_in p c path log ≤ length log
-enters_in-few p c path [] = omega arith
-enters_in-few p c path (l ∷ log) = omega (arith, enter_by-few (is_enter_by p c path l.entry), enters_in-few p c path log)
+pub enters_in-few : (m : PlainMachine) (c : ℕ) (path : Path) (log : List Logged) → enters_in m c path log ≤ length log
+enters_in-few m c path [] = omega arith
+enters_in-few m c path (l ∷ log) = omega (arith, enter_by-few (is_enter_by m c path l.entry), enters_in-few m c path log)
 
 six_counts : (ns : List ℕ) → length ns ≡ 6 → ns ≡ get_or ns 0 0 ∷ get_or ns 1 0 ∷ get_or ns 2 0 ∷ get_or ns 3 0 ∷ get_or ns 4 0 ∷ get_or ns 5 0 ∷ []
 six_counts (a ∷ b ∷ c ∷ d ∷ e ∷ f ∷ []) h = refl
 six_counts ns h = absurd (omega arith)
 
 -- the six counts are those of the entries in one order
-pub counts_are : (p : ProgramText) (c : ℕ) (logs : List (List Logged)) (ns : List ℕ) → length ns ≡ 6 → ((path : Path) → count_at ns path ≡ enters_in_all p c path logs) → ns ≡ enters_of p c (order logs)
-counts_are p c logs ns h f =
-    let is = λ (path : Path). f path ∙ sym (enters_by-order p c path logs) in
+pub counts_are : (m : PlainMachine) (c : ℕ) (logs : List (List Logged)) (ns : List ℕ) → length ns ≡ 6 → ((path : Path) → count_at ns path ≡ enters_in_all m c path logs) → ns ≡ enters_of m c (order logs)
+counts_are m c logs ns h f =
+    let is = λ (path : Path). f path ∙ sym (enters_by-order m c path logs) in
     six_counts ns h ∙ rw (is BiasOwn, is BiasTaken, is StackFirst, is StackAgain, is MonitorFirst, is MonitorAgain) refl

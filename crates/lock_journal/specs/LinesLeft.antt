@@ -35,8 +35,8 @@ abbrev pub threads_left : PlainMachine → ℕ → List (List ℕ)
 threads_left m t = thread_lines m t (drop t m.threads)
 
 -- the lines on class c and those after it
-abbrev pub classes_left : RunRecord → ℕ → List (List ℕ)
-classes_left run c = class_lines run.program c (drop c run.classes) (order run.logs)
+abbrev pub classes_left : RunRecord → PlainMachine → ℕ → List (List ℕ)
+classes_left run m c = class_lines run.program m c (drop c run.classes) (order run.logs)
 
 -- the lines of the journal that a merge has left
 abbrev pub journal_left : RunRecord → List ℕ → List (List ℕ)
@@ -46,7 +46,7 @@ journal_left run places = map (journal_line run.program) (order (left_of run.log
 abbrev pub lines_left : RunRecord → PlainMachine → Lines → List (List ℕ)
 lines_left run m lines =
     cells_left run lines.cells ++ prints_left run lines.prints ++ threads_left m lines.thread
-    ++ only_where lines.stats (classes_left run lines.class)
+    ++ only_where lines.stats (classes_left run m lines.class)
     ++ only_where lines.journal (journal_left run lines.entries)
 
 -- the lines of the run can be given: its entries can be put into one order, and the machine has the program of the run, with

@@ -11,9 +11,9 @@ use Rattle.plain_monitor.specs.declared.entry.Entry.TheVariants.{Enter, Exit, Ge
 use Rattle.plain_monitor.specs.declared.entry.Logged.{Logged}
 use Rattle.plain_monitor.specs.Order.{order}
 use Rattle.object_program.specs.declared.program.ClassDef.{ClassDef}
-use Rattle.object_program.specs.Program.{ProgramText, class_of}
+use Rattle.object_program.specs.Program.{ProgramText}
 use Rattle.plain_machine.specs.Thread.{ThreadState}
-use Rattle.plain_machine.specs.Machine.{PlainMachine, ending_in}
+use Rattle.plain_machine.specs.Machine.{PlainMachine, class_at, ending_in}
 use Rattle.plain_machine.specs.Offering.{offered}
 use Rattle.plain_machine.specs.declared.offer.Offer.{Offer}
 use Rattle.plain_machine.specs.declared.offer.Offer.TheVariants.{Waiting, Blocked}
@@ -84,37 +84,42 @@ path_number StackAgain = 3
 path_number MonitorFirst = 4
 path_number MonitorAgain = 5
 
--- an entry is an enter of an object of class c by this path
-abbrev pub is_enter_by : ProgramText → ℕ → Path → Entry → Bool
-is_enter_by p c path (Enter object by) = (class_of p object == c) && (path_number by == path_number path)
-is_enter_by p c path e = false
+-- whether the class of an object, if it has one, is c
+abbrev pub is_class : ℕ → Option ℕ → Bool
+is_class c None = false
+is_class c (Some k) = k == c
 
-abbrev pub enters_by : ProgramText → ℕ → Path → List (ℕ × Logged) → ℕ
-enters_by p c path [] = 0
-enters_by p c path (x ∷ xs) = (if is_enter_by p c path x.1.entry then 1 else 0) + enters_by p c path xs
+-- an entry is an enter by this path of an object of class c, which is that of its declaration or of the New that made it
+abbrev pub is_enter_by : PlainMachine → ℕ → Path → Entry → Bool
+is_enter_by m c path (Enter object by) = is_class c (class_at m object) && (path_number by == path_number path)
+is_enter_by m c path e = false
+
+abbrev pub enters_by : PlainMachine → ℕ → Path → List (ℕ × Logged) → ℕ
+enters_by m c path [] = 0
+enters_by m c path (x ∷ xs) = (if is_enter_by m c path x.1.entry then 1 else 0) + enters_by m c path xs
 
 -- how often the objects of class c were entered by each path
-abbrev pub enters_text : ProgramText → ℕ → List (ℕ × Logged) → List ℕ
-enters_text p c xs =
-    flat_map (λ path. codes " " ++ decimal (enters_by p c path xs))
+abbrev pub enters_text : PlainMachine → ℕ → List (ℕ × Logged) → List ℕ
+enters_text m c xs =
+    flat_map (λ path. codes " " ++ decimal (enters_by m c path xs))
     (BiasOwn ∷ BiasTaken ∷ StackFirst ∷ StackAgain ∷ MonitorFirst ∷ MonitorAgain ∷ [])
 
 abbrev pub class_name : Option ClassDef → List ℕ
 class_name None = []
 class_name (Some c) = c.name
 
-abbrev pub class_line : ProgramText → ℕ → ClassLine → List (ℕ × Logged) → List ℕ
-class_line p c l xs =
+abbrev pub class_line : ProgramText → PlainMachine → ℕ → ClassLine → List (ℕ × Logged) → List ℕ
+class_line p m c l xs =
     codes "class " ++ class_name (slice_get p.classes c) ++ codes " single " ++ decimal l.single
     ++ codes " rebias " ++ decimal l.rebias
     ++ codes " revoke " ++ decimal l.revoke ++ codes " count " ++ decimal l.count ++ codes " prototype "
     ++ decimal l.prototype
-    ++ codes " enters" ++ enters_text p c xs ++ newline
+    ++ codes " enters" ++ enters_text m c xs ++ newline
 
 -- the classes from c on
-abbrev pub class_lines : ProgramText → ℕ → List ClassLine → List (ℕ × Logged) → List (List ℕ)
-class_lines p c [] xs = []
-class_lines p c (l ∷ ls) xs = class_line p c l xs ∷ class_lines p (c + 1) ls xs
+abbrev pub class_lines : ProgramText → PlainMachine → ℕ → List ClassLine → List (ℕ × Logged) → List (List ℕ)
+class_lines p m c [] xs = []
+class_lines p m c (l ∷ ls) xs = class_line p m c l xs ∷ class_lines p m (c + 1) ls xs
 
 abbrev pub woken_text : ProgramText → Option ℕ → List ℕ
 woken_text p None = codes "none"
@@ -155,7 +160,7 @@ abbrev pub lines_of_run : Bool → Bool → RunRecord → PlainMachine → List 
 lines_of_run stats journal run m =
     flat_map (λ x. printed run.program run.shots x.0 x.1.entry) (order run.logs)
     ++ thread_lines m 0 m.threads
-    ++ only_where stats (class_lines run.program 0 run.classes (order run.logs))
+    ++ only_where stats (class_lines run.program m 0 run.classes (order run.logs))
     ++ only_where journal (map (journal_line run.program) (order run.logs))
 
 abbrev pub text_of_lines : List (List ℕ) → List ℕ

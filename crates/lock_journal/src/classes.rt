@@ -10,20 +10,26 @@ use crate::enters::{PATHS, enters_of};
 use crate::line::Line;
 use crate::record::{ClassLine, RunRecord};
 use object_program::{ClassDef, Program};
+use plain_machine::Machine;
 
 /// Writes the line on the next class. False exactly where there is none, and then nothing changes.
-pub(crate) fn next_class(class: &mut usize, run: &RunRecord, out: &mut Line) -> bool
+pub(crate) fn next_class(
+    class: &mut usize,
+    run: &RunRecord,
+    machine: &Machine,
+    out: &mut Line,
+) -> bool
     requires clear { out.old ≡ [] }
     requires few { AreOfSixteen run.now.logs }
     ensures { MatchBool result
-        (classes_left run.now class.old ≡ out.new ∷ classes_left run.now class.new)
-        ((classes_left run.now class.old ≡ []) × (class.new ≡ class.old) × (out.new ≡ [])) }
+        (classes_left run.now machine.now class.old ≡ out.new ∷ classes_left run.now machine.now class.new)
+        ((classes_left run.now machine.now class.old ≡ []) × (class.new ≡ class.old) × (out.new ≡ [])) }
 {
     let c = *class;
     match line_at(run.classes.items(), c) {
         None => false,
         Some(line) => {
-            push_class_line(out, &run.program, c, &line, &enters_of(run, c));
+            push_class_line(out, &run.program, c, &line, &enters_of(run, machine, c));
             *class = c + 1;
             true
         }

@@ -73,7 +73,7 @@ impl Lines {
         if next_thread(&mut self.thread, &run.program, machine, out) {
             return true;
         }
-        if self.stats && next_class(&mut self.class, run, out) {
+        if self.stats && next_class(&mut self.class, run, machine, out) {
             return true;
         }
         self.journal && next_entry(&mut self.entries, run, out)

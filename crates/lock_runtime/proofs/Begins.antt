@@ -2,7 +2,7 @@
 use Rattle.std.proofs.Common.{◌≡◌, ℕ, ◌<◌, ◌≤◌, ◌&&◌, Bool, true, false, cond, length, refl, arith, ltb-true}
 use Rattle.std.proofs.lemmas.Float.{T_from_true}
 use Rattle.std.specs.Int.Signed.{le_z_yes}
-use Rattle.plain_monitor.specs.Limits.{most_objects}
+use Rattle.plain_monitor.specs.Limits.{most_in_all}
 use Rattle.plain_monitor.specs.declared.entry.Value.{Value}
 use Rattle.plain_monitor.specs.declared.entry.Value.TheVariants.{Nil, Int, Ref}
 use Rattle.plain_monitor.specs.ValueWords.{IsSpellable}
@@ -44,7 +44,7 @@ pub room_one : (h : HeapSeen) (p : PassSeen) (t : Task) → MayOperate h p t →
 room_one h p t c = let room = c.room in let one = may_log p.known t in omega (arith, room, one)
 
 -- a value that the thread may store has its word
-pub spellable : (s : Shape) (k : Known) (v : Value) → length s.objects ≤ most_objects → has_value s k v ≡ true → IsSpellable v
+pub spellable : (s : Shape) (k : Known) (v : Value) → length s.objects ≤ most_in_all → has_value s k v ≡ true → IsSpellable v
 spellable s k Nil few e = tt
 spellable s k (Int i) few e = (le_z_yes (T_from_true _ (first_of _ _ e)), le_z_yes (T_from_true _ (second_of _ _ e)))
 spellable s k (Ref o) few e =

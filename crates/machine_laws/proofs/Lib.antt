@@ -15,3 +15,6 @@ pub mod ReachedRange
 pub mod ReachedNeeds
 pub mod RefusedEntries
 pub mod MadeInTime
+pub mod RunReferences
+pub mod AskedReferences
+pub mod ReachedMade

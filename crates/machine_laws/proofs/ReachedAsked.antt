@@ -21,7 +21,7 @@ use Rattle.machine_laws.proofs.ReachedFrame.{moved_to}
 -- a call that it stands before, which is paid for
 pub record IsPaid (p : ProgramText) (s : ThreadState) (c : Call) : Type 0 where
   pub fuel : 1 ≤ s.fuel
-  pub call : IsCallOf p s.holds s.dumps c
+  pub call : IsCallOf p s.holds s.dumps s.made c
   pub mode : s.mode ≡ Calling c
 
 -- an object that it waits on
@@ -61,7 +61,7 @@ held_here : (k h : ℕ) (holds : List ℕ) (o : ℕ) (b : Bool) → nat_le 1 h �
 held_here k h holds o true b e ih = let first : k ≡ o = same_Some k o (rw b at e) in record { place = 0; is = omega (arith, first); within = omega arith; held = leb-true 1 h b }
 held_here k h holds o false b e ih = held_next k h holds o (ih (rw b at e))
 
-held_at : (k : ℕ) (holds : List ℕ) (o : ℕ) → held_from k holds ≡ Some o → IsHeldAt k holds o
+pub held_at : (k : ℕ) (holds : List ℕ) (o : ℕ) → held_from k holds ≡ Some o → IsHeldAt k holds o
 held_at k [] o e = absurd (none-some o e)
 held_at k (h ∷ holds) o e = held_here k h holds o (nat_le 1 h) refl e (held_at (k + 1) holds o)
 

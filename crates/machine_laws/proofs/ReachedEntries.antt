@@ -1,15 +1,17 @@
 -- Each entry that a reached machine takes leaves a reached machine with less work.
-use Rattle.std.proofs.Common.{◌≡◌, ℕ, true, pos, List, Option, Some, None, refl, sym, ap, ◌∙◌, subst, eqb-true, ◌==◌, ◌&&◌}
+use Rattle.std.proofs.Common.{◌≡◌, ℕ, ◌+◌, ◌<◌, slice_set, true, pos, List, Option, Some, None, refl, sym, subst, eqb-true, ◌==◌, ◌&&◌}
 use Rattle.std.proofs.lemmas.Bool.{false≢true, and_parts}
-use Rattle.std.proofs.lemmas.Option.{same_Some, slice_get_within}
+use Rattle.std.proofs.lemmas.Option.{same_Some, slice_get_within, cond_some}
 use Rattle.plain_monitor.specs.declared.entry.Value.{Value}
-use Rattle.plain_monitor.specs.declared.entry.Value.TheVariants.{Int}
+use Rattle.plain_monitor.specs.declared.entry.Value.TheVariants.{Int, Ref}
 use Rattle.plain_monitor.specs.declared.entry.Ending.{Ending}
 use Rattle.plain_monitor.specs.declared.entry.Ending.TheVariants as ending
 use Rattle.plain_monitor.specs.declared.entry.Entry.{Entry}
-use Rattle.plain_monitor.specs.declared.entry.Entry.TheVariants.{Enter, Exit, Get, Put, Wait, Resume, Notify, NotifyAll, Hash, Print, Dump, Trap, Spent, Done}
+use Rattle.plain_monitor.specs.declared.entry.Entry.TheVariants.{Enter, Exit, Get, Put, Wait, Resume, Notify, NotifyAll, Hash, New, Print, Dump, Trap, Spent, Done}
 use Rattle.plain_monitor.specs.Objects.{PlainObject, same_value, take_entry, take_named, named}
-use Rattle.object_program.specs.Program.{objects_total}
+use Rattle.plain_monitor.specs.Made.{may_create}
+use Rattle.plain_history.proofs.MadeSteps.{grown, creating}
+use Rattle.object_program.specs.Program.{ProgramText, objects_total, numbering_of}
 use Rattle.plain_machine.specs.declared.call.Call.{Call}
 use Rattle.plain_machine.specs.declared.call.Call.TheVariants as call
 use Rattle.plain_machine.specs.declared.call.Mode.TheVariants.{Ended}
@@ -17,12 +19,14 @@ use Rattle.plain_machine.specs.declared.call.Asked.{Asked}
 use Rattle.plain_machine.specs.declared.call.Asked.TheVariants.{Calls, Resumes, Leaves, Ends}
 use Rattle.plain_machine.specs.Thread.{ThreadState, with_local}
 use Rattle.plain_machine.specs.Asking.{is_ending, is_call, is_exit, is_resume, fits, behind_entry}
-use Rattle.plain_machine.specs.Machine.{PlainMachine, code_of, take}
+use Rattle.plain_machine.specs.Machine.{PlainMachine, code_of, made_behind, take}
 use Rattle.plain_machine.specs.Values.{IsValueOf}
+use Rattle.machine_laws.specs.Work.{work_left}
+use Rattle.machine_laws.specs.ReachedThread.{IsStateOf}
 use Rattle.machine_laws.specs.Reached.{IsReached}
 use Rattle.machine_laws.proofs.ReachedRunning.{set_state}
-use Rattle.machine_laws.proofs.ReachedFrame.{IsProgress, IsMaker, moved_to}
-use Rattle.machine_laws.proofs.ReachedNeeds.{made_kept}
+use Rattle.machine_laws.proofs.ReachedFrame.{IsWell, IsProgress, IsMaker, moved_to}
+use Rattle.machine_laws.proofs.ReachedMade.{IsMadeBehind, made_behind_entry, new_below}
 use Rattle.machine_laws.proofs.ReachedAsked.{IsPaid, IsAwaited, IsLeft, IsLast, IsAskedOf, IsTakenAt, asked_of, taken, taken_at}
 use Rattle.machine_laws.proofs.ReachedObjects.{same_is, enter_step, exit_step, wait_step, resume_step, notify_step, notify_all_step, get_step, put_step, hash_step}
 use Rattle.machine_laws.proofs.ReachedKinds.{in_wait, thread_of, state_of, call_alone, call_at, enter_kind, exit_kind, leave_kind, wait_kind, resume_kind, end_kind}
@@ -118,6 +122,17 @@ dump_entry m t k s (Dump number) objects h paid fit takes =
     subst (WithObjects m t _) (same_Some _ _ takes) (call_alone m t s (record s { dumps = k }) (call.Dump k) h paid (record { holds = st.holds; few = st.few; dumps = paid.call.1; locals = st.locals }) refl)
 dump_entry m t k s e objects h paid fit takes = absurd (false≢true fit)
 
+new_entry : (m : PlainMachine) (t x c : ℕ) (s : ThreadState) (e : Entry) (objects : List PlainObject) (made : List (List ℕ)) → IsMaker m t s → IsPaid m.program s (call.New x c)
+    → is_call (call.New x c) e ≡ true → made_behind m t e ≡ Some made → take_entry m.objects t e ≡ Some objects → After m t s (Calls (call.New x c)) e objects
+new_entry m t x c s (New object class) objects made h paid fit makes takes =
+    let st = state_of m t s h in
+    let may = cond_some (may_create (numbering_of m.program) m.made t (object, class)) (grown m.made t class) made makes in
+    let below = new_below m.program m.made t (object, class) paid.call.2 h.reached.row_count (creating (numbering_of m.program) m.made t (object, class) may.0) in
+    let counted : IsStateOf m.program (record s { made = s.made + 1 }) = record { holds = st.holds; few = st.few; dumps = st.dumps; locals = st.locals } in
+    subst (WithObjects m t _) (same_Some _ _ takes)
+    (call_alone m t s (with_local (record s { made = s.made + 1 }) x (Ref object)) (call.New x c) h paid (set_state m.program (record s { made = s.made + 1 }) x (Ref object) counted (below, tt)) refl)
+new_entry m t x c s e objects made h paid fit makes takes = absurd (false≢true fit)
+
 leave_entry : (m : PlainMachine) (t o : ℕ) (s : ThreadState) (e : Entry) (objects : List PlainObject) → IsMaker m t s → IsLeft m.program s o → is_exit o e ≡ true
     → take_entry m.objects t e ≡ Some objects → After m t s (Leaves o) e objects
 leave_entry m t o s (Exit k) objects h left fit takes =
@@ -138,33 +153,56 @@ end_entry m t g s e objects h last fit takes =
     let unnamed : take_named m.objects t e None ≡ Some objects = subst (λ (o : Option ℕ). take_named m.objects t e o ≡ Some objects) (ends_unnamed g e fit) takes in
     subst (WithObjects m t (record s { mode = Ended g })) (same_Some _ _ unnamed) (end_kind m t s g h last)
 
-call_entry : (m : PlainMachine) (t : ℕ) (s : ThreadState) (c : Call) (e : Entry) (objects : List PlainObject) → IsMaker m t s → IsPaid m.program s c → is_call c e ≡ true
-    → take_entry m.objects t e ≡ Some objects → After m t s (Calls c) e objects
-call_entry m t s (call.Enter o) e objects h paid fit takes = enter_entry m t o s e objects h paid fit takes
-call_entry m t s (call.Exit o) e objects h paid fit takes = exit_entry m t o s e objects h paid fit takes
-call_entry m t s (call.Wait o) e objects h paid fit takes = wait_entry m t o s e objects h paid fit takes
-call_entry m t s (call.Notify o) e objects h paid fit takes = notify_entry m t o s e objects h paid fit takes
-call_entry m t s (call.NotifyAll o) e objects h paid fit takes = notify_all_entry m t o s e objects h paid fit takes
-call_entry m t s (call.Get x o k) e objects h paid fit takes = get_entry m t x o k s e objects h paid fit takes
-call_entry m t s (call.Put o k v) e objects h paid fit takes = put_entry m t o k v s e objects h paid fit takes
-call_entry m t s (call.Hash x o) e objects h paid fit takes = hash_entry m t x o s e objects h paid fit takes
-call_entry m t s (call.New x c) e objects h paid fit takes = absurd paid.call
-call_entry m t s (call.Print v) e objects h paid fit takes = print_entry m t v s e objects h paid fit takes
-call_entry m t s (call.Dump k) e objects h paid fit takes = dump_entry m t k s e objects h paid fit takes
+call_entry : (m : PlainMachine) (t : ℕ) (s : ThreadState) (c : Call) (e : Entry) (objects : List PlainObject) (behind : List (List ℕ)) → IsMaker m t s → IsPaid m.program s c
+    → is_call c e ≡ true → made_behind m t e ≡ Some behind → take_entry m.objects t e ≡ Some objects → After m t s (Calls c) e objects
+call_entry m t s (call.Enter o) e objects behind h paid fit makes takes = enter_entry m t o s e objects h paid fit takes
+call_entry m t s (call.Exit o) e objects behind h paid fit makes takes = exit_entry m t o s e objects h paid fit takes
+call_entry m t s (call.Wait o) e objects behind h paid fit makes takes = wait_entry m t o s e objects h paid fit takes
+call_entry m t s (call.Notify o) e objects behind h paid fit makes takes = notify_entry m t o s e objects h paid fit takes
+call_entry m t s (call.NotifyAll o) e objects behind h paid fit makes takes = notify_all_entry m t o s e objects h paid fit takes
+call_entry m t s (call.Get x o k) e objects behind h paid fit makes takes = get_entry m t x o k s e objects h paid fit takes
+call_entry m t s (call.Put o k v) e objects behind h paid fit makes takes = put_entry m t o k v s e objects h paid fit takes
+call_entry m t s (call.Hash x o) e objects behind h paid fit makes takes = hash_entry m t x o s e objects h paid fit takes
+call_entry m t s (call.New x c) e objects behind h paid fit makes takes = new_entry m t x c s e objects behind h paid fit makes takes
+call_entry m t s (call.Print v) e objects behind h paid fit makes takes = print_entry m t v s e objects h paid fit takes
+call_entry m t s (call.Dump k) e objects behind h paid fit makes takes = dump_entry m t k s e objects h paid fit takes
 
-asked_entry : (m : PlainMachine) (t : ℕ) (s : ThreadState) (a : Asked) (e : Entry) (objects : List PlainObject) → IsMaker m t s → IsAskedOf m.program s a → fits a e ≡ true
-    → take_entry m.objects t e ≡ Some objects → After m t s a e objects
-asked_entry m t s (Calls c) e objects h asked fit takes = call_entry m t s c e objects h asked fit takes
-asked_entry m t s (Resumes o) e objects h asked fit takes = resume_entry m t o s e objects h asked fit takes
-asked_entry m t s (Leaves o) e objects h asked fit takes = leave_entry m t o s e objects h asked fit takes
-asked_entry m t s (Ends g) e objects h asked fit takes = end_entry m t g s e objects h asked fit takes
+asked_entry : (m : PlainMachine) (t : ℕ) (s : ThreadState) (a : Asked) (e : Entry) (objects : List PlainObject) (behind : List (List ℕ)) → IsMaker m t s → IsAskedOf m.program s a
+    → fits a e ≡ true → made_behind m t e ≡ Some behind → take_entry m.objects t e ≡ Some objects → After m t s a e objects
+asked_entry m t s (Calls c) e objects behind h asked fit makes takes = call_entry m t s c e objects behind h asked fit makes takes
+asked_entry m t s (Resumes o) e objects behind h asked fit makes takes = resume_entry m t o s e objects h asked fit takes
+asked_entry m t s (Leaves o) e objects behind h asked fit makes takes = leave_entry m t o s e objects h asked fit takes
+asked_entry m t s (Ends g) e objects behind h asked fit makes takes = end_entry m t g s e objects h asked fit takes
+
+-- a machine is reached from another, and has less work
+pub record IsBehind (m next : PlainMachine) : Type 0 where
+  pub reached : IsReached next
+  pub work : work_left next < work_left m
+
+is_behind : (m : PlainMachine) (p : ProgramText) (objects : List PlainObject) (made : List (List ℕ)) (threads : List ThreadState) → IsWell p objects threads → IsMadeBehind p objects made threads
+    → IsReached (record { program = p; objects = objects; made = made; threads = threads })
+is_behind m p objects made threads w b = record {
+  program = w.program;
+  thread_count = w.thread_count;
+  object_count = w.object_count;
+  threads = w.threads;
+  slots = w.slots;
+  hashes = w.hashes;
+  monitors = w.monitors;
+  standing = w.standing;
+  row_count = b.row_count;
+  rows = b.rows;
+  made = b.made;
+  references = b.references;
+  slot_references = b.slot_references;
+}
 
 -- an entry that a reached machine takes
-pub progress : (m next : PlainMachine) (t : ℕ) (e : Entry) → IsReached m → take m t e ≡ Some next → IsProgress m next
+pub progress : (m next : PlainMachine) (t : ℕ) (e : Entry) → IsReached m → take m t e ≡ Some next → IsBehind m next
 progress m next t e h takes =
     let k = taken m t e next takes in
     let maker : IsMaker m t k.s = record { reached = h; at = k.at } in
     let asked = asked_of m.program k.s k.asked (thread_of m t k.s maker) k.asks in
-    let kept = made_kept m t k.s k.asked e k.behind asked k.fit k.makes in
-    let is = ap (λ (made : List (List ℕ)). record (moved_to m t (behind_entry m.program (code_of m.program t) k.s k.asked e) k.objects) { made = made }) kept ∙ k.is in
-    subst (IsProgress m) is (asked_entry m t k.s k.asked e k.objects maker asked k.fit k.takes)
+    let step = asked_entry m t k.s k.asked e k.objects k.behind maker asked k.fit k.makes k.takes in
+    let threads : List ThreadState = slice_set m.threads t (behind_entry m.program (code_of m.program t) k.s k.asked e) in
+    subst (IsBehind m) k.is (record { reached = is_behind m m.program k.objects k.behind threads step.well (made_behind_entry m next t e h k); work = step.work })

@@ -1,43 +1,41 @@
 -- The machine before its first entry is reached.
-use Rattle.std.proofs.Common.{◌≡◌, ◌⊎◌, inl, inr, ℕ, zero, suc, ◌+◌, ◌<◌, ◌≤◌, pos, true, false, nat_le, nat_lt, List, [], ◌∷◌, ◌++◌, map, length, replicate, slice_get, slice_index, Some, refl, sym, ap, ◌∙◌, subst, arith, length-append, zero-add}
+use Rattle.std.proofs.Common.{◌≡◌, ◌⊎◌, inl, inr, ℕ, zero, suc, ◌+◌, ◌<◌, ◌≤◌, pos, true, false, nat_le, nat_lt, List, [], ◌∷◌, ◌++◌, map, length, replicate, slice_get, slice_index, Some, refl, sym, ap, ◌∙◌, subst, arith, zero-add}
 use Rattle.std.specs.List.{AllByRecursion}
-use Rattle.std.proofs.lemmas.Bool.{and_from}
+use Rattle.std.proofs.lemmas.Bool.{and_from, cases_lt}
 use Rattle.std.proofs.lemmas.Bool.Decides.{nat_tests}
 use Rattle.std.proofs.lemmas.Int.{ints}
 use Rattle.std.proofs.lemmas.List.{length-map, length-replicate}
 use Rattle.std.proofs.lemmas.Option.{none-some, same_Some, slice_get_within}
-use Rattle.plain_monitor.specs.declared.entry.Value.TheVariants.{Int}
+use Rattle.plain_monitor.specs.declared.entry.Value.TheVariants.{Nil, Int}
 use Rattle.plain_monitor.specs.Monitor.{free_monitor}
 use Rattle.plain_monitor.specs.Objects.{PlainObject, new_object, new_objects}
 use Rattle.object_program.specs.declared.program.ClassDef.{ClassDef}
 use Rattle.object_program.specs.declared.program.ObjectDef.{ObjectDef}
 use Rattle.object_program.specs.declared.program.ThreadDef.{ThreadDef}
-use Rattle.object_program.specs.Program.{ProgramText, total_of, declared_total, objects_total, class_of, shape_from, shape_of, slots_of_class, slots_of, has_object, class_from}
+use Rattle.object_program.specs.Program.{ProgramText, declared_total, objects_total, made_slots, numbering_of, class_of, shape_from, shape_of, slots_of_class, slots_of, has_object, class_from}
 use Rattle.object_program.specs.Valid.{IsProgram, AreObjects}
-use Rattle.object_program.proofs.Made.{all_declared, declared_shape}
+use Rattle.object_program.proofs.Made.{shape_total, declared_shape, made_shape}
 use Rattle.plain_machine.specs.Thread.{ThreadState, holds_of}
 use Rattle.plain_machine.specs.Running.{first_state}
 use Rattle.plain_machine.specs.Machine.{new_machine}
+use Rattle.plain_machine.specs.inner.Kept.{unrun}
+use Rattle.plain_monitor.specs.Made.{made_by, nothing_made}
+use Rattle.machine_laws.specs.References.{IsThere, RefersTo, ThreadRefersTo, SlotsReferTo}
+use Rattle.machine_laws.proofs.RunReferences.{run_refers}
+use Rattle.machine_laws.proofs.ReachedMade.{declared_there}
 use Rattle.machine_laws.specs.ReachedMonitor.{StandsAt}
 use Rattle.plain_machine.specs.Values.{IsValueOf}
 use Rattle.machine_laws.specs.ReachedThread.{IsThreadOf}
-use Rattle.machine_laws.specs.Reached.{AtEach, HasSlots, HasHash, HasMonitor, HasThreads, IsReached}
+use Rattle.machine_laws.specs.Reached.{AtEach, HasSlots, HasHash, HasMonitor, HasThreads, IsRow, IsReached}
 use Rattle.plain_monitor.proofs.Lists.{all_at, all_weaker, all_replicate}
 use Rattle.machine_laws.proofs.ReachedMonitor.{free_is}
 use Rattle.machine_laws.proofs.ReachedRunning.{RunsAll, IsRunOf, first_run, program_runs}
-
--- as many objects as the declarations stand for
-shape_length : (classes : List ClassDef) (ds : List ObjectDef) → length (shape_from classes ds) ≡ total_of ds
-shape_length classes [] = refl
-shape_length classes (d ∷ ds) =
-    let here : List (ℕ × ℕ) = replicate d.size (d.class, slots_of_class classes d.class) in
-    length-append here (shape_from classes ds) ∙ omega (arith, length-replicate {A = ℕ × ℕ} d.size (d.class, slots_of_class classes d.class), shape_length classes ds)
 
 -- a thread before its first call: no holds
 abbrev IsFirst : ProgramText → ℕ → ThreadState → Type 0
 IsFirst p fuel s = IsRunOf p (replicate (objects_total p) 0) fuel s
 
-first_threads : (p : ProgramText) (fuel : ℕ) (ts : List ThreadDef) → IsProgram p → AllByRecursion (RunsAll (length p.objects)) ts → AllByRecursion (IsFirst p fuel) (map (λ t. first_state p t fuel) ts)
+first_threads : (p : ProgramText) (fuel : ℕ) (ts : List ThreadDef) → IsProgram p → AllByRecursion (RunsAll p) ts → AllByRecursion (IsFirst p fuel) (map (λ t. first_state p t fuel) ts)
 first_threads p fuel [] h all = tt
 first_threads p fuel (d ∷ ts) h all = (first_run p d fuel h all.0, first_threads p fuel ts h all.1)
 
@@ -92,18 +90,28 @@ shape_slots classes n k (d ∷ ds) o q h e = elim (replicated d.size (d.class, s
       rw (not_first d k o h.0.1 size) (later ∙ ap (λ (i : ℕ). slots_of_class classes (class_from ds i)) same)
 ]
 
+-- the slots of an object by its shape: a declared one has those of its class, and each other one those of any that is made
+form_slots : (p : ProgramText) (o : ℕ) (form : ℕ × ℕ) → IsProgram p → slice_get (shape_of p) o ≡ Some form → form.1 ≡ slots_of p o
+form_slots p o form h at = elim (cases_lt o (declared_total p)) [
+  | inl below ↦
+      let here : slice_get (shape_from p.classes p.objects) o ≡ Some form = sym (declared_shape p o below) ∙ at in
+      let declared : nat_lt o (declared_total p) ≡ true = grind (arith, nat_tests, below) in
+      let by_class : form.1 ≡ slots_of_class p.classes (class_of p o) =
+      shape_slots p.classes (length p.classes) 0 p.objects o form h.objects here ∙ ap (λ (i : ℕ). slots_of_class p.classes (class_of p i)) (zero-add o) in
+      rw declared by_class
+  | inr past ↦
+      let within = slice_get_within (shape_of p) o form at in
+      let made : Some (0, made_slots p) ≡ Some form = sym (made_shape p o past (omega (arith, within, shape_total p))) ∙ at in
+      let other : nat_lt o (declared_total p) ≡ false = grind (arith, nat_tests, past) in
+      rw other (ap (λ (z : ℕ × ℕ). z.1) (sym (same_Some (0, made_slots p) form made)))
+]
+
 -- the slots of a new object
 new_slots : (p : ProgramText) → IsProgram p → AtEach (HasSlots p) (new_objects (shape_of p))
 new_slots p h o x e =
     let r = new_at (shape_of p) o x e in
     let zero_value : IsValueOf (objects_total p) (Int (pos 0)) = (tt, (omega (arith, ints), omega (arith, ints))) in
-    let at : slice_get (shape_from p.classes p.objects) o ≡ Some r.form = ap (λ s. slice_get s o) (sym (declared_shape p h)) ∙ r.at in
-    let within = slice_get_within (shape_from p.classes p.objects) o r.form at in
-    let total = shape_length p.classes p.objects in
-    let declared : nat_lt o (declared_total p) ≡ true = grind (arith, nat_tests, within, total) in
-    let by_class : r.form.1 ≡ slots_of_class p.classes (class_of p o) =
-    shape_slots p.classes (length p.classes) 0 p.objects o r.form h.objects at ∙ ap (λ (i : ℕ). slots_of_class p.classes (class_of p i)) (zero-add o) in
-    let count : r.form.1 ≡ slots_of p o = rw declared by_class in
+    let count : r.form.1 ≡ slots_of p o = form_slots p o r.form h r.at in
     let fresh : HasSlots p o (new_object r.form.1) = record {
       count = length-replicate r.form.1 (Int (pos 0)) ∙ count;
       values = all_replicate (IsValueOf (objects_total p)) r.form.1 (Int (pos 0)) zero_value;
@@ -125,18 +133,51 @@ new_standing p fuel threads shape all o x e = subst (HasThreads threads o) (new_
         let none : holds_of s o ≡ 0 = ap (λ (xs : List ℕ). slice_index xs o) run.holds_stay ∙ zero_at (objects_total p) o in
         record { holds = omega (arith, none); listed = omega (arith, run.runs o) }
 
+-- what it refers to is declared, and it has made nothing
+abbrev pub IsNewTo : (ℕ → Type 0) → ThreadState → Type 0
+IsNewTo These s = ThreadRefersTo These s × (s.made ≡ 0)
+
+module _ (These : ℕ → Type 0) (p : ProgramText) (declared : (o : ℕ) → o < declared_total p → These o) (fuel : ℕ) (valid : IsProgram p) where
+  new_thread : (d : ThreadDef) → RunsAll p d → IsNewTo These (first_state p d fuel)
+  new_thread d all =
+      let nil = all_replicate (RefersTo These) (length d.locals) Nil tt in
+      let r = run_refers These p declared valid d.code all fuel (unrun (length d.locals) (objects_total p) fuel) nil in
+      let none : (o : ℕ) → holds_of (first_state p d fuel) o ≡ 0 = λ o. ap (λ (xs : List ℕ). slice_index xs o) r.same.holds ∙ zero_at (objects_total p) o in
+      (record { locals = r.same.locals; holds = λ o held. absurd (omega (arith, none o, held)); mode = r.mode }, r.same.made)
+
+  new_from : (ts : List ThreadDef) → AllByRecursion (RunsAll p) ts → AllByRecursion (IsNewTo These) (map (λ t. first_state p t fuel) ts)
+  new_from [] all = tt
+  new_from (d ∷ ts) all = (new_thread d all.0, new_from ts all.1)
+
+  pub new_threads : AllByRecursion (IsNewTo These) (new_machine p fuel).threads
+  new_threads = new_from p.threads (program_runs p valid)
+
+none_made : (k t : ℕ) → made_by (replicate k []) t ≡ []
+none_made zero t = refl
+none_made (suc k) zero = refl
+none_made (suc k) (suc t) = none_made k t
+
+new_references : (p : ProgramText) (shape : List (ℕ × ℕ)) → AllByRecursion (SlotsReferTo (IsThere p (nothing_made (numbering_of p)))) (new_objects shape)
+new_references p [] = tt
+new_references p (q ∷ shape) = (all_replicate (RefersTo (IsThere p (nothing_made (numbering_of p)))) q.1 (Int (pos 0)) tt, new_references p shape)
+
 pub first_is_reached : (p : ProgramText) (fuel : ℕ) → IsProgram p → IsReached (new_machine p fuel)
 first_is_reached p fuel h =
     let threads = first_threads p fuel p.threads h (program_runs p h) in
+    let There : ℕ → Type 0 = IsThere p (nothing_made (numbering_of p)) in
+    let new = new_threads There p (declared_there p (nothing_made (numbering_of p))) fuel h in
     record {
       program = h;
-      made = refl;
       thread_count = length-map p.threads _;
-      object_count =
-          length-map (shape_of p) _ ∙ ap length (declared_shape p h) ∙ shape_length p.classes p.objects ∙ sym (all_declared p h);
+      object_count = length-map (shape_of p) _ ∙ shape_total p;
       threads = all_weaker (IsFirst p fuel) (IsThreadOf p) (λ s r. r.thread) (new_machine p fuel).threads threads;
       slots = new_slots p h;
       hashes = new_hashes (shape_of p);
       monitors = new_monitors (length (new_machine p fuel).threads) (shape_of p);
       standing = new_standing p fuel (new_machine p fuel).threads (shape_of p) threads;
+      row_count = length-replicate (length p.threads) [];
+      rows = all_replicate (IsRow p) (length p.threads) [] (tt, omega arith);
+      made = λ t s at. (all_at (IsNewTo There) (new_machine p fuel).threads t s new at).1 ∙ sym (ap length (none_made (length p.threads) t));
+      references = all_weaker (IsNewTo There) (ThreadRefersTo There) (λ s r. r.0) (new_machine p fuel).threads new;
+      slot_references = new_references p (shape_of p);
     }

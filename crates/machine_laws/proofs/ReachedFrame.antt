@@ -1,8 +1,11 @@
 -- A reached machine after one thread has moved: beside all objects, or with one of them.
 use Rattle.std.proofs.Common.{◌≡◌, ◌≢◌, ℕ, zero, suc, ◌+◌, ◌<◌, List, [], ◌∷◌, length, slice_get, slice_set, Some, refl, sym, ap, ◌∙◌, subst, arith, length-set}
+use Rattle.std.specs.List.{AllByRecursion}
 use Rattle.std.proofs.lemmas.Option.{none-some, same_Some}
 use Rattle.plain_monitor.specs.Monitor.{PlainMonitor}
 use Rattle.plain_monitor.specs.Objects.{PlainObject}
+use Rattle.object_program.specs.Program.{ProgramText, objects_total}
+use Rattle.object_program.specs.Valid.{IsProgram}
 use Rattle.plain_machine.specs.Thread.{ThreadState, holds_of}
 use Rattle.plain_machine.specs.Machine.{PlainMachine}
 use Rattle.machine_laws.specs.Work.{work_of, work_in, work_left}
@@ -13,9 +16,20 @@ use Rattle.plain_monitor.proofs.Lists.{all_set}
 use Rattle.machine_laws.proofs.ReachedLists.{each_set}
 use Rattle.machine_laws.proofs.ReachedMonitor.{Shift, IsMonitorStep, IsAlike}
 
--- a machine is reached from another, and has less work
+-- what holds of the program, the objects and the threads of a reached machine, whatever the threads have made
+pub record IsWell (p : ProgramText) (all : List PlainObject) (states : List ThreadState) : Type 0 where
+  pub program : IsProgram p
+  pub thread_count : length states ≡ length p.threads
+  pub object_count : length all ≡ objects_total p
+  pub threads : AllByRecursion (IsThreadOf p) states
+  pub slots : AtEach (HasSlots p) all
+  pub hashes : AtEach HasHash all
+  pub monitors : AtEach (HasMonitor (length states)) all
+  pub standing : AtEach (HasThreads states) all
+
+-- a machine came from another by one step, and has less work
 pub record IsProgress (m next : PlainMachine) : Type 0 where
-  pub reached : IsReached next
+  pub well : IsWell next.program next.objects next.threads
   pub work : work_left next < work_left m
 
 -- a thread of a reached machine
@@ -66,15 +80,14 @@ threads_steady threads t o s next m at h steady =
     threads_beside threads t o s next m m at h (λ u other. record { standing = refl; listed = refl })
     (record { holds = steady.holds ∙ k.holds; listed = k.listed ∙ sym steady.waits })
 
--- the machine after the move is reached where its objects are as they may be beside the threads
-reached_with : (m : PlainMachine) (t : ℕ) (next : ThreadState) (objects : List PlainObject) → IsReached m → IsThreadOf m.program next → length objects ≡ length m.objects
+-- the machine after the move is well where its objects are as they may be beside the threads
+well_with : (m : PlainMachine) (t : ℕ) (next : ThreadState) (objects : List PlainObject) → IsReached m → IsThreadOf m.program next → length objects ≡ length m.objects
     → AtEach (HasSlots m.program) objects → AtEach HasHash objects → AtEach (HasMonitor (length m.threads)) objects
-    → AtEach (HasThreads (slice_set m.threads t next)) objects → IsReached (moved_to m t next objects)
-reached_with m t next objects h thread same slots hashes monitors standing =
+    → AtEach (HasThreads (slice_set m.threads t next)) objects → IsWell m.program objects (slice_set m.threads t next)
+well_with m t next objects h thread same slots hashes monitors standing =
     let count : length (slice_set m.threads t next) ≡ length m.threads = length-set m.threads t next in
     record {
       program = h.program;
-      made = h.made;
       thread_count = count ∙ h.thread_count;
       object_count = same ∙ h.object_count;
       threads = all_set (IsThreadOf m.program) m.threads t next thread h.threads;
@@ -89,7 +102,7 @@ pub progress_alone : (m : PlainMachine) (t : ℕ) (s next : ThreadState) → IsM
 progress_alone m t s next h move steady =
     let r = h.reached in
     record {
-      reached = reached_with m t next m.objects r move.thread refl r.slots r.hashes r.monitors (λ o x e. threads_steady m.threads t o s next x.monitor h.at (r.standing o x e) (steady o));
+      well = well_with m t next m.objects r move.thread refl r.slots r.hashes r.monitors (λ o x e. threads_steady m.threads t o s next x.monitor h.at (r.standing o x e) (steady o));
       work = less_work m t s next m.objects h.at move;
     }
 
@@ -106,8 +119,8 @@ pub progress_at : (m : PlainMachine) (t o : ℕ) (change : Shift) (s next : Thre
     → IsProgress m (moved_to m t next (slice_set m.objects o y))
 progress_at m t o change s next x y h move step changed steady =
     record {
-      reached =
-          reached_with m t next (slice_set m.objects o y) h.reached move.thread (length-set m.objects o y)
+      well =
+          well_with m t next (slice_set m.objects o y) h.reached move.thread (length-set m.objects o y)
           (each_set (HasSlots m.program) m.objects o x y step.there step.slots (λ k z other e. h.reached.slots k z e))
           (each_set HasHash m.objects o x y step.there step.hash (λ k z other e. h.reached.hashes k z e))
           (each_set (HasMonitor (length m.threads)) m.objects o x y step.there step.monitor.monitor (λ k z other e. h.reached.monitors k z e))

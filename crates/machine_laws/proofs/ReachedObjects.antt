@@ -65,7 +65,7 @@ resting : (m : PlainMachine) (t o : ℕ) (x : PlainObject) → IsReached m → s
 resting m t o x h there = rests (length m.threads) t x.monitor x.monitor (monitor_at m o x h there) (λ u. record { standing = refl; listed = refl })
 
 -- a value that a slot has
-has_of : (P : Value → Type 0) (r : Option Value) (v : Value) → ((w : Value) → r ≡ Some w → P w) → has_value r v ≡ true → P v
+pub has_of : (P : Value → Type 0) (r : Option Value) (v : Value) → ((w : Value) → r ≡ Some w → P w) → has_value r v ≡ true → P v
 has_of P None v h e = absurd (false≢true e)
 has_of P (Some w) v h e = subst P (same_is w v e) (h w refl)
 

@@ -1,8 +1,7 @@
 -- Each thread, object and value that a reached machine names is one of its own.
-use Rattle.std.proofs.Common.{◌≡◌, ℕ, ◌+◌, ◌<◌, ◌≤◌, Bool, true, false, ◌&&◌, ◌==◌, nat_lt, if◌then◌else◌, List, [], ◌∷◌, ◌++◌, length, sum, slice_get, Option, Some, None, MatchOption, option_and_then, refl, sym, subst, arith, eqb-true, eq-eqb, inl, inr, ap, ◌∙◌}
+use Rattle.std.proofs.Common.{◌≡◌, ℕ, ◌+◌, ◌<◌, ◌≤◌, Bool, true, false, ◌&&◌, ◌==◌, if◌then◌else◌, List, [], ◌∷◌, ◌++◌, length, sum, slice_get, Option, Some, None, MatchOption, option_and_then, refl, sym, subst, arith, eqb-true, eq-eqb, inl, inr, ap, ◌∙◌}
 use Rattle.std.specs.List.{AllByRecursion}
 use Rattle.std.proofs.lemmas.Bool.{cases_lt, false≢true, and_parts}
-use Rattle.std.proofs.lemmas.Bool.Decides.{nat_tests}
 use Rattle.std.proofs.lemmas.List.{get_or_past}
 use Rattle.std.proofs.lemmas.List.Sums.{get_or-le-sum_by}
 use Rattle.std.proofs.lemmas.Option.{none-some, same_Some, cond_some, slice_get_within}
@@ -15,9 +14,9 @@ use Rattle.plain_monitor.specs.declared.entry.Entry.{Entry}
 use Rattle.plain_monitor.specs.declared.entry.Entry.TheVariants.{Enter, Exit, Get, Put, Wait, Resume, Notify, NotifyAll, Hash, New, Print, Dump, Trap, Spent, Done}
 use Rattle.plain_monitor.specs.Monitor.{PlainMonitor, is_thread, is_listed, owns, calls, notify}
 use Rattle.plain_monitor.specs.Objects.{PlainObject, new_object, same_value, hashed, with_monitor, with_hash, take_named, take_entry}
-use Rattle.plain_monitor.specs.Made.{is_there}
-use Rattle.object_program.specs.Program.{declared_total, objects_total, numbering_of}
-use Rattle.object_program.proofs.Made.{all_declared}
+use Rattle.plain_monitor.specs.Made.{is_there, may_create}
+use Rattle.plain_history.proofs.MadeSteps.{grown, creating}
+use Rattle.object_program.specs.Program.{objects_total, numbering_of}
 use Rattle.plain_machine.specs.declared.call.Call.TheVariants as call
 use Rattle.plain_machine.specs.declared.call.Asked.{Asked}
 use Rattle.plain_machine.specs.declared.call.Asked.TheVariants.{Calls, Resumes, Leaves, Ends}
@@ -25,20 +24,20 @@ use Rattle.plain_machine.specs.declared.offer.Offer.{Offer}
 use Rattle.plain_machine.specs.declared.offer.Offer.TheVariants as offer
 use Rattle.plain_machine.specs.Thread.{ThreadState, local}
 use Rattle.plain_machine.specs.Asking.{ask, fits}
-use Rattle.plain_machine.specs.Machine.{PlainMachine, take, object_at, monitor_at, slot_at, other_owner}
+use Rattle.plain_machine.specs.Machine.{PlainMachine, made_behind, take, object_at, monitor_at, slot_at, other_owner}
 use Rattle.plain_machine.specs.Offering.{unless_owned, hash_offer, asked_offer, offered}
-use Rattle.plain_machine.proofs.NeededObjects.{declared_is_there}
 use Rattle.machine_laws.specs.ReachedMonitor.{for_owner, standing, IsPlaceOf, IsOwnerOf, IsMonitorOf}
 use Rattle.plain_machine.specs.Values.{IsValueOf, IsObject}
+use Rattle.machine_laws.specs.References.{IsThere, RefersTo, ThreadRefersTo, SlotsReferTo}
 use Rattle.machine_laws.specs.ReachedThread.{IsThreadOf}
 use Rattle.machine_laws.specs.Reached.{IsHash, HasMonitor, IsReached}
 use Rattle.machine_laws.specs.ReachedEntry.{IsEntryOf, IsOfferOf}
-use Rattle.plain_monitor.proofs.Lists.{all_or, all_weaker}
+use Rattle.plain_monitor.proofs.Lists.{all_at, all_or, all_weaker}
 use Rattle.machine_laws.proofs.ReachedLists.{each_or, at_within, all_bounded}
 use Rattle.machine_laws.proofs.ReachedMonitor.{free_is}
 use Rattle.machine_laws.proofs.ReachedFrame.{IsMaker}
 use Rattle.machine_laws.proofs.ReachedAsked.{IsAskedOf, asked_of, taken, taken_at}
-use Rattle.machine_laws.proofs.ReachedNeeds.{asks_no_new}
+use Rattle.machine_laws.proofs.ReachedMade.{new_below}
 use Rattle.machine_laws.proofs.ReachedObjects.{same_is, get_step, hash_taken}
 use Rattle.machine_laws.proofs.ReachedKinds.{thread_of}
 use Rattle.machine_laws.proofs.ReachedStanding.{beside}
@@ -166,38 +165,52 @@ dump_of m s (Leaves o) n asked fit = absurd (false≢true fit)
 dump_of m s (Ends (ending.Trap f i)) n asked fit = absurd (false≢true fit)
 dump_of m s (Ends g) n asked fit = absurd (false≢true fit)
 
+-- a new object has one of the program's numbers
+new_of : (m : PlainMachine) (t : ℕ) (s : ThreadState) (a : Asked) (o c : ℕ) (made : List (List ℕ)) → IsReached m → IsAskedOf m.program s a → fits a (New o c) ≡ true
+    → made_behind m t (New o c) ≡ Some made → o < length m.objects
+new_of m t s (Calls (call.New x k)) o c made h asked fit makes =
+    let may = cond_some (may_create (numbering_of m.program) m.made t (o, c)) (grown m.made t c) made makes in
+    let below = new_below m.program m.made t (o, c) asked.call.2 h.row_count (creating (numbering_of m.program) m.made t (o, c) may.0) in
+    omega (arith, below, h.object_count)
+new_of m t s (Calls k) o c made h asked fit makes = absurd (false≢true fit)
+new_of m t s (Resumes p) o c made h asked fit makes = absurd (false≢true fit)
+new_of m t s (Leaves p) o c made h asked fit makes = absurd (false≢true fit)
+new_of m t s (Ends (ending.Trap f i)) o c made h asked fit makes = absurd (false≢true fit)
+new_of m t s (Ends g) o c made h asked fit makes = absurd (false≢true fit)
+
 -- an entry that was asked for and that the objects took
-entry_of : (m : PlainMachine) (t : ℕ) (s : ThreadState) (a : Asked) (e : Entry) (after : List PlainObject) → IsReached m → IsAskedOf m.program s a → fits a e ≡ true → take_entry m.objects t e ≡ Some after
+entry_of : (m : PlainMachine) (t : ℕ) (s : ThreadState) (a : Asked) (e : Entry) (after : List PlainObject) (made : List (List ℕ)) → IsReached m → IsAskedOf m.program s a → fits a e ≡ true
+    → made_behind m t e ≡ Some made → take_entry m.objects t e ≡ Some after
     → IsEntryOf (length m.objects) (length m.threads) e
-entry_of m t s a (Enter o path) after h asked fit takes = within m.objects o t (Enter o path) after takes
-entry_of m t s a (Exit o) after h asked fit takes = within m.objects o t (Exit o) after takes
-entry_of m t s a (Wait o) after h asked fit takes = within m.objects o t (Wait o) after takes
-entry_of m t s a (Resume o) after h asked fit takes = within m.objects o t (Resume o) after takes
-entry_of m t s a (NotifyAll o many) after h asked fit takes = within m.objects o t (NotifyAll o many) after takes
-entry_of m t s a (Notify o woken) after h asked fit takes =
+entry_of m t s a (Enter o path) after made h asked fit makes takes = within m.objects o t (Enter o path) after takes
+entry_of m t s a (Exit o) after made h asked fit makes takes = within m.objects o t (Exit o) after takes
+entry_of m t s a (Wait o) after made h asked fit makes takes = within m.objects o t (Wait o) after takes
+entry_of m t s a (Resume o) after made h asked fit makes takes = within m.objects o t (Resume o) after takes
+entry_of m t s a (NotifyAll o many) after made h asked fit makes takes = within m.objects o t (NotifyAll o many) after takes
+entry_of m t s a (Notify o woken) after made h asked fit makes takes =
     let r = taken_at m.objects o t (Notify o woken) after takes in (
       within m.objects o t (Notify o woken) after takes,
       stepped r.x r.y (notify r.x.monitor t woken) (MatchOption woken (Unit {0}) (λ u. u < length m.threads)) (λ next e. notify_in (length m.threads) t r.x.monitor next woken (h.monitors o r.x r.there) e) r.takes,
     )
-entry_of m t s a (Get o k v) after h asked fit takes =
+entry_of m t s a (Get o k v) after made h asked fit makes takes =
     let r = taken_at m.objects o t (Get o k v) after takes in
     (within m.objects o t (Get o k v) after takes, of_machine m v h (get_step m t o o k v r.x r.y h r.there r.takes).value)
-entry_of m t s a (Put o k v) after h asked fit takes = (within m.objects o t (Put o k v) after takes, of_machine m v h (put_of m s a o k v asked fit))
-entry_of m t s a (Hash o v drawn) after h asked fit takes =
+entry_of m t s a (Put o k v) after made h asked fit makes takes = (within m.objects o t (Put o k v) after takes, of_machine m v h (put_of m s a o k v asked fit))
+entry_of m t s a (Hash o v drawn) after made h asked fit makes takes =
     let r = taken_at m.objects o t (Hash o v drawn) after takes in
     (within m.objects o t (Hash o v drawn) after takes, hash_of r.x r.y v (hashed r.x.hash v) refl (h.hashes o r.x r.there) r.takes)
-entry_of m t s a (New o c) after h asked fit takes = absurd (none-some (o, c) (sym (asks_no_new m.program s a (New o c) asked fit)))
-entry_of m t s a (Print v) after h asked fit takes = of_machine m v h (print_of m s a v asked fit)
-entry_of m t s a (Dump n) after h asked fit takes = (dump_of m s a n asked fit).1
-entry_of m t s a (Trap f i) after h asked fit takes = tt
-entry_of m t s a Spent after h asked fit takes = tt
-entry_of m t s a Done after h asked fit takes = tt
+entry_of m t s a (New o c) after made h asked fit makes takes = new_of m t s a o c made h asked fit makes
+entry_of m t s a (Print v) after made h asked fit makes takes = of_machine m v h (print_of m s a v asked fit)
+entry_of m t s a (Dump n) after made h asked fit makes takes = (dump_of m s a n asked fit).1
+entry_of m t s a (Trap f i) after made h asked fit makes takes = tt
+entry_of m t s a Spent after made h asked fit makes takes = tt
+entry_of m t s a Done after made h asked fit makes takes = tt
 
 pub taken_in_range : (m next : PlainMachine) (t : ℕ) (e : Entry) → IsReached m → take m t e ≡ Some next → IsEntryOf (length m.objects) (length m.threads) e
 taken_in_range m next t e h takes =
     let k = taken m t e next takes in
     let asked = asked_of m.program k.s k.asked (thread_of m t k.s (record { reached = h; at = k.at })) k.asks in
-    entry_of m t k.s k.asked e k.objects h asked k.fit k.takes
+    entry_of m t k.s k.asked e k.objects k.behind h asked k.fit k.makes k.takes
 
 -- an entry that is offered is one that is taken
 next_in_range : (m : PlainMachine) (t : ℕ) (e : Entry) → IsReached m → offered m t ≡ offer.Next e → IsEntryOf (length m.objects) (length m.threads) e
@@ -277,16 +290,13 @@ dumped_in_range m next t number s h at takes =
     let asked = asked_of m.program k.s k.asked (thread_of m t k.s (record { reached = h; at = k.at })) k.asks in
     subst (λ (x : ThreadState). (number ≡ x.dumps + 1) × (number ≤ 4)) same (dump_of m k.s k.asked number asked k.fit)
 
--- so what they refer to is there
-reference_is_there : (m : PlainMachine) (o : ℕ) → IsReached m → o < length m.objects → is_there (numbering_of m.program) m.made o ≡ true
-reference_is_there m o h within =
-    let count = h.object_count in
-    let all = all_declared m.program h.program in
-    let declared : nat_lt o (declared_total m.program) ≡ true = grind (arith, nat_tests, within, count, all) in
-    ap (λ made. is_there (numbering_of m.program) made o) h.made ∙ declared_is_there m.program o ∙ declared
-
+-- what they refer to is there
 pub local_is_there : (m : PlainMachine) (t x o : ℕ) (s : ThreadState) → IsReached m → slice_get m.threads t ≡ Some s → local s x ≡ Ref o → is_there (numbering_of m.program) m.made o ≡ true
-local_is_there m t x o s h at is = reference_is_there m o h (subst (IsValueOf (length m.objects)) is (local_in_range m t x s h at)).0
+local_is_there m t x o s h at is =
+    let There : ℕ → Type 0 = IsThere m.program m.made in
+    subst (RefersTo There) is (all_or (RefersTo There) s.locals x Nil tt (all_at (ThreadRefersTo There) m.threads t s h.references at).locals)
 
 pub slot_is_there : (m : PlainMachine) (p k o : ℕ) → IsReached m → slot_at m p k ≡ Ref o → is_there (numbering_of m.program) m.made o ≡ true
-slot_is_there m p k o h is = reference_is_there m o h (subst (IsValueOf (length m.objects)) is (slot_in_range m p k h)).0
+slot_is_there m p k o h is =
+    let There : ℕ → Type 0 = IsThere m.program m.made in
+    subst (RefersTo There) is (all_or (RefersTo There) (object_at m p).slots k Nil tt (all_or (SlotsReferTo There) m.objects p (new_object 0) tt h.slot_references))

@@ -1,4 +1,5 @@
 pub mod Work
+pub mod References
 pub mod Reached
 pub mod ReachedMonitor
 pub mod ReachedThread

@@ -1,6 +1,6 @@
 //! What holds of every machine that a program's entries lead to.
 
-ghost use Rattle.std.specs.Prelude.{◌≡◌, ◌⊎◌, ℕ, ◌<◌, ◌≤◌, ◌+◌, ◌^◌, Bool, true, false, not, length, sum, slice_get, IsSome, Option, Some, List};
+ghost use Rattle.std.specs.Prelude.{◌≡◌, ◌⊎◌, ℕ, ◌<◌, ◌≤◌, ◌+◌, ◌^◌, Bool, true, false, not, length, sum, slice_get, ◌==◌, IsSome, is_some, Option, Some, List};
 ghost use Rattle.std.specs.List.{AllByRecursion, list_all};
 ghost use Rattle.plain_monitor.specs.Limits.{most_holds};
 ghost use Rattle.plain_monitor.specs.declared.entry.Entry.{Entry};
@@ -13,13 +13,14 @@ ghost use Rattle.plain_monitor.specs.Made.{is_there, IsMadeInTime};
 ghost use Rattle.object_program.specs.Program.{ProgramText, numbering_of};
 ghost use Rattle.object_program.specs.Valid.{IsProgram};
 ghost use Rattle.plain_machine.specs.declared.call.Call.TheVariants.{Dump};
+ghost use Rattle.plain_machine.specs.declared.call.Call.TheVariants as call;
 ghost use Rattle.plain_machine.specs.declared.call.Asked.TheVariants.{Calls};
 ghost use Rattle.plain_machine.specs.declared.offer.Offer.TheVariants.{Next, NextHash};
 ghost use Rattle.plain_machine.specs.Thread.{ThreadState, local};
 ghost use Rattle.plain_machine.specs.Asking.{ask};
 ghost use Rattle.plain_machine.specs.Machine.{PlainMachine, new_machine, take, monitor_at, slot_at, is_live, is_stuck};
 ghost use Rattle.plain_machine.specs.Legal.{IsLegal};
-ghost use Rattle.plain_machine.specs.Offering.{offered, is_next};
+ghost use Rattle.plain_machine.specs.Offering.{next_made, offered, is_next};
 ghost use Rattle.machine_laws.specs.Work.{work_left};
 ghost use Rattle.plain_machine.specs.Values.{IsValueOf};
 ghost use Rattle.machine_laws.specs.Reached.{IsReached};
@@ -76,6 +77,13 @@ pub fn what_a_reached_machine_refers_to_is_there()
         → slice_get m.threads t ≡ Some s → local s x ≡ Ref o → is_there (numbering_of m.program) m.made o ≡ true }
     ensures slot_value { (m : PlainMachine) (p k o : ℕ) → IsReached m
         → slot_at m p k ≡ Ref o → is_there (numbering_of m.program) m.made o ≡ true }
+{}
+
+/// A thread that asks for a new object makes it by its next number, and by no other one.
+pub fn a_new_object_has_the_next_number_of_its_thread()
+    ensures { (m : PlainMachine) (t x c o : ℕ) (s : ThreadState) → IsReached m
+        → slice_get m.threads t ≡ Some s → ask s ≡ Some (Calls (call.New x c))
+        → is_some (take m t (entry.New o c)) ≡ (o == next_made m t) }
 {}
 
 /// Legal logs are made in time: each entry of their order finds the objects that it needs.

@@ -11,10 +11,12 @@ use Rattle.machine_laws.specs.ReachedThread.{IsThreadOf}
 use Rattle.every_outcome.specs.Fuel.{with_fuel, refuelled}
 use Rattle.every_outcome.specs.Stands.{AllStand}
 use Rattle.machine_words.specs.ThreadWords.{thread_words, threads_words, read_threads}
+use Rattle.machine_words.specs.MadeWords.{made_words, read_made}
 use Rattle.machine_words.specs.ObjectWords.{objects_words, read_objects}
-use Rattle.machine_words.specs.MachineWords.{words_of, machine_with, machine_from, machine_of}
+use Rattle.machine_words.specs.MachineWords.{words_of, machine_with, machine_beside, machine_from, machine_of}
 use Rattle.machine_words.proofs.ReadWords.{all_spelled}
 use Rattle.machine_words.proofs.ReadThreads.{IsReadable, parts_of, threads_back, threads_are}
+use Rattle.machine_words.proofs.ReadMade.{made_back}
 use Rattle.machine_words.proofs.ReadObjects.{AreReadable, objects_back}
 
 threads_readable : (p : ProgramText) (ss : List ThreadState) → IsProgram p → AllByRecursion (IsThreadOf p) ss → AllByRecursion IsReadable ss
@@ -39,15 +41,18 @@ read_back m fuel h stands =
     let p = m.program in
     let parts = map parts_of m.threads in
     let ws = objects_words 0 m.objects in
-    let threads : read_threads (length p.threads) (words_of m) ≡ (parts, ws) =
-    subst (λ (n : ℕ). read_threads n (words_of m) ≡ (parts, ws)) h.thread_count
-    (threads_back m.threads ws (threads_readable p m.threads h.program h.threads)) in
+    let later = made_words m.made ++ ws in
+    let threads : read_threads (length p.threads) (words_of m) ≡ (parts, later) =
+    subst (λ (n : ℕ). read_threads n (words_of m) ≡ (parts, later)) h.thread_count
+    (threads_back m.threads later (threads_readable p m.threads h.program h.threads)) in
+    let made : read_made (length p.threads) later ≡ (m.made, ws) =
+    subst (λ (n : ℕ). read_made n later ≡ (m.made, ws)) h.row_count (made_back m.made ws) in
     let all : AreReadable (slots_of p) 0 m.objects = objects_readable p 0 m.objects h.program (λ j x at.
     let first : j ≡ 0 + j = omega arith in subst (λ (o : ℕ). HasSlots p o x) first (h.slots j x at)) in
     let objects : read_objects (slots_of p) 0 (objects_total p) ws ≡ m.objects =
     subst (λ (n : ℕ). read_objects (slots_of p) 0 n ws ≡ m.objects) h.object_count (objects_back (slots_of p) 0 m.objects all) in
-    ap (machine_from p fuel) threads ∙ ap (machine_with p fuel parts) objects
-    ∙ (λ i. record { program = p; objects = m.objects; made = sym h.made i; threads = threads_are fuel m h stands i })
+    ap (machine_from p fuel) threads ∙ ap (machine_beside p fuel parts) made ∙ ap (machine_with p fuel parts m.made) objects
+    ∙ ap (λ (ss : List ThreadState). record m { threads = ss }) (threads_are fuel m h stands)
 
 pub told_apart : (m n : PlainMachine) (fuel : ℕ) → IsReached m → AllStand m → IsReached n → AllStand n → m.program ≡ n.program → words_of m ≡ words_of n
     → refuelled fuel m ≡ refuelled fuel n
@@ -59,4 +64,4 @@ fuel_unsaid fuel [] = refl
 fuel_unsaid fuel (s ∷ ss) = ap (λ (ws : List ℕ). thread_words s ++ ws) (fuel_unsaid fuel ss)
 
 pub no_words_of_fuel : (m : PlainMachine) (fuel : ℕ) → words_of (refuelled fuel m) ≡ words_of m
-no_words_of_fuel m fuel = ap (λ (ws : List ℕ). ws ++ objects_words 0 m.objects) (fuel_unsaid fuel m.threads)
+no_words_of_fuel m fuel = ap (λ (ws : List ℕ). ws ++ (made_words m.made ++ objects_words 0 m.objects)) (fuel_unsaid fuel m.threads)

@@ -1,5 +1,6 @@
 pub mod Readers
 pub mod ModeWords
 pub mod ThreadWords
+pub mod MadeWords
 pub mod ObjectWords
 pub mod MachineWords

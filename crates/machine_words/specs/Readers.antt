@@ -17,6 +17,12 @@ abbrev pub pair_words : List (ℕ × ℕ) → List ℕ
 pair_words [] = []
 pair_words (p ∷ ps) = p.0 ∷ p.1 ∷ pair_words ps
 
+-- so many numbers, and the words behind them
+abbrev pub read_numbers : ℕ → List ℕ → List ℕ × List ℕ
+read_numbers zero ws = ([], ws)
+read_numbers (suc n) (w ∷ ws) = (w ∷ (read_numbers n ws).0, (read_numbers n ws).1)
+read_numbers (suc n) [] = ([], [])
+
 -- so many pairs, and the words behind them
 abbrev pub read_pairs : ℕ → List ℕ → List (ℕ × ℕ) × List ℕ
 read_pairs zero ws = ([], ws)

@@ -1,6 +1,7 @@
 //! Words that tell a machine, so that a search can keep many machines and know each again.
 //!
-//! The words of a machine are those of its threads and of those of its objects that aren't as at first. What the rest tells isn't in them.
+//! The words of a machine are those of its threads, the classes of what each has made, and the words of those of its objects that aren't as
+//! at first. What the rest tells isn't in them.
 #![tactic(auto)]
 
 mod laws;

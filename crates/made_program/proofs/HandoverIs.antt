@@ -14,7 +14,7 @@ use Rattle.made_program.specs.inner.HandoverProgram.{first_thread, second_thread
 in_range : (n : ℕ) → n ≤ 1500 → IsInRange (pos n)
 in_range n few = (omega (arith, ints), omega (arith, ints))
 
-first_is_thread : (n : ℕ) → n ≤ 1500 → IsThread 2 (first_thread n)
+first_is_thread : (n : ℕ) → n ≤ 1500 → IsThread 2 2 (first_thread n)
 first_is_thread n few = record {
   locals = search;
   locals_few = omega arith;
@@ -25,7 +25,7 @@ first_is_thread n few = record {
   ends = search rules;
 }
 
-second_is_thread : (n : ℕ) → n ≤ 1500 → IsThread 2 (second_thread n)
+second_is_thread : (n : ℕ) → n ≤ 1500 → IsThread 2 2 (second_thread n)
 second_is_thread n few = record {
   locals = search;
   locals_few = omega arith;

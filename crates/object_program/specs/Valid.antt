@@ -32,30 +32,30 @@ AreObjects classes n (d ∷ ds) = IsObject classes n d × AreObjects classes (n 
 abbrev pub is_target : List LabelDef → ℕ → Bool
 is_target labels l = list_any (λ d. d.index == l) labels
 
--- the operands of an instruction: its locals are declared, its declaration of objects too, its slot is one that objects may have, its number
--- is in range, and a label of its thread names its target. No program makes objects yet: texts have no word for it
-abbrev pub IsInstruction : ℕ → ℕ → List LabelDef → Code → Type 0
-IsInstruction locals objects labels (Set x v) = (x < locals) × IsInRange v
-IsInstruction locals objects labels (Add x y z) = (x < locals) × (y < locals) × (z < locals)
-IsInstruction locals objects labels (Sub x y z) = (x < locals) × (y < locals) × (z < locals)
-IsInstruction locals objects labels (Mul x y z) = (x < locals) × (y < locals) × (z < locals)
-IsInstruction locals objects labels (Ref x n) = (x < locals) × (n < objects)
-IsInstruction locals objects labels (Elem x n i) = (x < locals) × (n < objects) × (i < locals)
-IsInstruction locals objects labels (Enter x) = x < locals
-IsInstruction locals objects labels (Exit x) = x < locals
-IsInstruction locals objects labels (Wait x) = x < locals
-IsInstruction locals objects labels (Notify x) = x < locals
-IsInstruction locals objects labels (NotifyAll x) = x < locals
-IsInstruction locals objects labels (Get x o k) = (x < locals) × (o < locals) × (k < most_slots)
-IsInstruction locals objects labels (Put o k x) = (o < locals) × (k < most_slots) × (x < locals)
-IsInstruction locals objects labels (Hash x o) = (x < locals) × (o < locals)
-IsInstruction locals objects labels (New x c) = ⊥
-IsInstruction locals objects labels (Print x) = x < locals
-IsInstruction locals objects labels (Jump l) = is_target labels l ≡ true
-IsInstruction locals objects labels (Jlt x y l) = (x < locals) × (y < locals) × (is_target labels l ≡ true)
-IsInstruction locals objects labels (Jeq x y l) = (x < locals) × (y < locals) × (is_target labels l ≡ true)
-IsInstruction locals objects labels Dump = Unit {0}
-IsInstruction locals objects labels End = Unit {0}
+-- the operands of an instruction: its locals are declared, its class and its declaration of objects too, its slot is one that objects may
+-- have, its number is in range, and a label of its thread names its target
+abbrev pub IsInstruction : ℕ → ℕ → ℕ → List LabelDef → Code → Type 0
+IsInstruction classes locals objects labels (Set x v) = (x < locals) × IsInRange v
+IsInstruction classes locals objects labels (Add x y z) = (x < locals) × (y < locals) × (z < locals)
+IsInstruction classes locals objects labels (Sub x y z) = (x < locals) × (y < locals) × (z < locals)
+IsInstruction classes locals objects labels (Mul x y z) = (x < locals) × (y < locals) × (z < locals)
+IsInstruction classes locals objects labels (Ref x n) = (x < locals) × (n < objects)
+IsInstruction classes locals objects labels (Elem x n i) = (x < locals) × (n < objects) × (i < locals)
+IsInstruction classes locals objects labels (Enter x) = x < locals
+IsInstruction classes locals objects labels (Exit x) = x < locals
+IsInstruction classes locals objects labels (Wait x) = x < locals
+IsInstruction classes locals objects labels (Notify x) = x < locals
+IsInstruction classes locals objects labels (NotifyAll x) = x < locals
+IsInstruction classes locals objects labels (Get x o k) = (x < locals) × (o < locals) × (k < most_slots)
+IsInstruction classes locals objects labels (Put o k x) = (o < locals) × (k < most_slots) × (x < locals)
+IsInstruction classes locals objects labels (Hash x o) = (x < locals) × (o < locals)
+IsInstruction classes locals objects labels (New x c) = (x < locals) × (c < classes)
+IsInstruction classes locals objects labels (Print x) = x < locals
+IsInstruction classes locals objects labels (Jump l) = is_target labels l ≡ true
+IsInstruction classes locals objects labels (Jlt x y l) = (x < locals) × (y < locals) × (is_target labels l ≡ true)
+IsInstruction classes locals objects labels (Jeq x y l) = (x < locals) × (y < locals) × (is_target labels l ≡ true)
+IsInstruction classes locals objects labels Dump = Unit {0}
+IsInstruction classes locals objects labels End = Unit {0}
 
 -- the last instruction is `end`, and no other is
 abbrev pub EndsOnce : List Code → Type 0
@@ -68,12 +68,12 @@ abbrev pub AreTargets : ℕ → ℕ → List LabelDef → Type 0
 AreTargets code n [] = Unit {0}
 AreTargets code n (l ∷ ls) = (n ≤ l.index) × (l.index ≤ code) × AreTargets code l.index ls
 
-pub record IsThread (objects : ℕ) (t : ThreadDef) : Type 0 where
+pub record IsThread (classes objects : ℕ) (t : ThreadDef) : Type 0 where
   pub locals : AreNames t.locals
   pub locals_few : length t.locals ≤ most_locals
   pub labels : AreNames (map (λ l. l.name) t.labels)
   pub targets : AreTargets (length t.code) 1 t.labels
-  pub code : AllByRecursion (IsInstruction (length t.locals) objects t.labels) t.code
+  pub code : AllByRecursion (IsInstruction classes (length t.locals) objects t.labels) t.code
   pub code_few : length t.code ≤ most_code
   pub ends : EndsOnce t.code
 
@@ -85,6 +85,6 @@ pub record IsProgram (p : ProgramText) : Type 0 where
   pub objects : AreObjects (length p.classes) 0 p.objects
   pub objects_few : total_of p.objects ≤ most_objects
   pub thread_names : AreNames (map (λ t. t.name) p.threads)
-  pub threads : AllByRecursion (IsThread (length p.objects)) p.threads
+  pub threads : AllByRecursion (IsThread (length p.classes) (length p.objects)) p.threads
   pub threads_some : 1 ≤ length p.threads
   pub threads_few : length p.threads ≤ most_threads

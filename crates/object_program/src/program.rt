@@ -72,7 +72,7 @@ pub enum Code {
     Put { o: u32, k: u32, x: u32 },
     /// x becomes the identity hash of the object that o refers to.
     Hash { x: u32, o: u32 },
-    /// x refers to a new object of class c. No text has a word for it yet.
+    /// x refers to a new object of class c.
     New { x: u32, c: u32 },
     /// Prints x.
     Print { x: u32 },

@@ -144,7 +144,7 @@ Turned n t e p u f q before after =
 grown_length : (made : List (List ℕ)) (t c : ℕ) → length (grown made t c) ≡ length made
 grown_length made t c = simp length-set
 
-turn : (n : Numbering) (t : ℕ) (e : Entry) (p : Option (ℕ × ℕ)) (u : ℕ) (f : Entry) (q : Option (ℕ × ℕ)) → t ≢ u → is_one_of (option_map (λ v. v.0) p) (needs f) ≡ false
+pub turn : (n : Numbering) (t : ℕ) (e : Entry) (p : Option (ℕ × ℕ)) (u : ℕ) (f : Entry) (q : Option (ℕ × ℕ)) → t ≢ u → is_one_of (option_map (λ v. v.0) p) (needs f) ≡ false
     → (before middle after : List (List ℕ)) → take_created n before t e p ≡ Some middle → take_created n middle u f q ≡ Some after → Turned n t e p u f q before after
 turn n t e None u f None d free before middle after h k =
     let a = cond_some (all_there n before (needs e)) before middle h in

@@ -1,15 +1,15 @@
 -- When an entry finds what it needs, though it may land in the middle of the order: the New of each object that it needs stands before it. A
 -- thread sees that from stamps: an object is known to it where no New of the object has a stamp above the thread's last.
-use Rattle.std.specs.Prelude.{◌≡◌, ℕ, ◌<◌, ◌≤◌, ◌==◌, Bool, true, false, List, [], ◌∷◌, ◌++◌, length, IsTrue, slice_get, Option, Some, None, option_map}
+use Rattle.std.specs.Prelude.{◌≡◌, ℕ, ◌<◌, ◌≤◌, ◌==◌, nat_lt, Bool, ◌||◌, true, false, List, [], ◌∷◌, ◌++◌, length, IsTrue, slice_get, Option, Some, None, option_map}
 use Rattle.std.specs.List.{AllByRecursion, list_any}
 use Rattle.plain_monitor.specs.declared.entry.Entry.{Entry}
 use Rattle.plain_monitor.specs.declared.entry.Logged.{Logged}
 use Rattle.plain_monitor.specs.declared.entry.Value.TheVariants.{Nil, Ref}
-use Rattle.plain_monitor.specs.declared.entry.Entry.TheVariants.{New, Print}
+use Rattle.plain_monitor.specs.declared.entry.Entry.TheVariants.{Get, New, Print}
 use Rattle.plain_monitor.specs.Objects.{PlainObject}
 use Rattle.plain_monitor.specs.Order.{is_before, order}
 use Rattle.plain_monitor.specs.History.{last_stamp, log_of}
-use Rattle.plain_monitor.specs.Made.{Numbering, creates, needs, is_there}
+use Rattle.plain_monitor.specs.Made.{Numbering, first_made, creates, needs, is_there}
 use Rattle.plain_history.specs.Stamps.{bound_of}
 
 -- the object that an entry makes
@@ -59,6 +59,18 @@ class_made (Some p) = p.1 ∷ []
 abbrev pub news : List Logged → List ℕ
 news [] = []
 news (l ∷ log) = class_made (creates l.entry) ++ news log
+
+-- WHICH OBJECTS A THREAD KNOWS BY ITS LOG: the declared ones, those that it has made, and those that it got from a slot
+abbrev pub tells_of : ℕ → Entry → Bool
+tells_of o (New object class) = o == object
+tells_of o (Get object slot (Ref value)) = o == value
+tells_of o _ = false
+
+abbrev pub is_told : List Logged → ℕ → Bool
+is_told log o = list_any (λ l. tells_of o l.entry) log
+
+abbrev pub knows_by_log : Numbering → List Logged → ℕ → Bool
+knows_by_log n log o = nat_lt o (first_made n) || is_told log o
 
 -- a thread prints an object that it doesn't know by its stamps: another thread has made it, at stamp 2
 abbrev pub two_threads : Numbering

@@ -11,12 +11,17 @@ most_classes = 64
 abbrev pub most_slots : ℕ
 most_slots = 16
 
+-- objects that a program declares
 abbrev pub most_objects : ℕ
 most_objects = 4096
 
 -- objects that a thread may make, besides those that the program declares
 abbrev pub most_made : ℕ
 most_made = 1024
+
+-- objects in all: the declared ones, and those that each of the threads may make
+abbrev pub most_in_all : ℕ
+most_in_all = most_objects + most_made * most_threads
 
 -- holds of a thread, on all objects together, and so its lock records
 abbrev pub most_holds : ℕ

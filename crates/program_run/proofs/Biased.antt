@@ -31,7 +31,7 @@ use Rattle.run_ends.specs.OfARun.{IsEnd}
 use Rattle.run_ends.specs.Prototypes as ends
 use Rattle.run_rounds.specs.Outcome.{HasBiases as LeftBiases, verdicts_beyond, was_halted}
 use Rattle.run_rounds.specs.Timed.{IsTimed}
-use Rattle.program_run.proofs.Few.{most_in_all}
+use Rattle.program_run.proofs.Few.{most_entries}
 use Rattle.program_run.specs.Biases.{IsEven, IsIdle, IsLine, prototype_by}
 use Rattle.program_run.specs.Lines.{line_of, lines_below, total_on}
 use Rattle.program_run.specs.Verdicts.{IsSum, verdicts_by}
@@ -87,7 +87,7 @@ beyond_few true = omega arith
 beyond_few false = omega arith
 
 module _ {tick : ℕ} (heap : Heap) (c : ClosedSeen) (left : LeftBiases heap tick c) (same : c.heap ≡ heap)
-    (many : heap.shape.threads ≤ most_threads) (short : (t : ℕ) → length (log_of c.logs t) ≤ most_in_all) where
+    (many : heap.shape.threads ≤ most_threads) (short : (t : ℕ) → length (log_of c.logs t) ≤ most_entries) where
   abbrev counts : ℕ → ℕ → known.ClassCounts
   counts t k = counts_of (counted_by left.knowns t) k
 
@@ -95,7 +95,7 @@ module _ {tick : ℕ} (heap : Heap) (c : ClosedSeen) (left : LeftBiases heap tic
   sums k = summed heap.shape.threads (λ t. counts_of (counted_by left.knowns t)) k
 
   -- no thread has counted many verdicts on a class
-  verdicts_few : (t k : ℕ) → t < heap.shape.threads → k < heap.shape.classes → verdicts_on (counts t k) ≤ most_in_all + 1
+  verdicts_few : (t k : ℕ) → t < heap.shape.threads → k < heap.shape.classes → verdicts_on (counts t k) ≤ most_entries + 1
   verdicts_few t k here within =
       let all = left.biases.verdicts t here in
       let one = term_few heap.shape.classes k (λ d. verdicts_on (counts t d)) within in
@@ -104,7 +104,7 @@ module _ {tick : ℕ} (heap : Heap) (c : ClosedSeen) (left : LeftBiases heap tic
       omega (arith, all, one, log, beyond)
 
   module _ (k : ℕ) (within : k < heap.shape.classes) (number : ClassCounts → ℕ) (f : known.ClassCounts → ℕ)
-      (shown : (x : known.ClassCounts) → f x ≤ verdicts_on x → verdicts_on x ≤ most_in_all + 1 → number (capped_counts x) ≡ f x)
+      (shown : (x : known.ClassCounts) → f x ≤ verdicts_on x → verdicts_on x ≤ most_entries + 1 → number (capped_counts x) ≡ f x)
       (few : (t : ℕ) → f (counts t k) ≤ verdicts_on (counts t k)) where
     -- a total of what the heap shows is what its threads counted
     total_here : total_on number c.counts k ≡ sum_below heap.shape.threads (λ t. f (counts t k))

@@ -10,7 +10,7 @@ use Rattle.core_law.specs.Logic.{Heap}
 use Rattle.core_law.specs.TakenBiases.{times_taken, OwnsAreTaken}
 use Rattle.heap_table.specs.Seen.{ClosedSeen}
 use Rattle.run_rounds.specs.Outcome.{HasBiases as LeftBiases}
-use Rattle.program_run.proofs.Few.{most_in_all}
+use Rattle.program_run.proofs.Few.{most_entries}
 use Rattle.program_run.specs.Lines.{line_of}
 use Rattle.program_run.proofs.Biased.{rebias_is}
 
@@ -26,7 +26,7 @@ module _ {tick : ℕ} (heap : Heap) (c : ClosedSeen) (left : LeftBiases heap tic
     | inr past ↦ subst OwnsAreTaken (sym (get_or_past c.logs t [] (omega (arith, past, count)))) none_owned
   ]
 
-  pub taken_few : c.heap ≡ heap → heap.shape.threads ≤ most_threads → ((t : ℕ) → length (log_of c.logs t) ≤ most_in_all) → (o : ℕ)
+  pub taken_few : c.heap ≡ heap → heap.shape.threads ≤ most_threads → ((t : ℕ) → length (log_of c.logs t) ≤ most_entries) → (o : ℕ)
       → left.biases.class o < heap.shape.classes
       → times_taken o (entries_on o (order c.logs)) ≤ (line_of c (left.biases.class o)).rebias + 1
   taken_few same many short o within =

@@ -1,11 +1,11 @@
 -- Paths for the enters of logs that have none: the first enter of each object takes its bias, where there are biases, and all others go by
 -- stack locks.
-use Rattle.std.proofs.Common.{◌≡◌, ℕ, zero, suc, ◌+◌, ◌-◌, ◌<◌, ◌≤◌, ◌==◌, ◌&&◌, ◌||◌, not, Bool, true, false, cond, if◌then◌else◌, List, [], ◌∷◌, ◌++◌, length, map, Option, Some, None, refl, sym, ap, ◌∙◌, subst, arith, eqb-true, eq-eqb}
+use Rattle.std.proofs.Common.{◌≡◌, ℕ, zero, suc, ◌+◌, ◌<◌, ◌≤◌, ◌==◌, ◌&&◌, ◌||◌, not, Bool, true, false, cond, if◌then◌else◌, List, [], ◌∷◌, ◌++◌, length, map, Option, Some, None, refl, sym, ap, ◌∙◌, subst, arith, eqb-true, eq-eqb}
 use Rattle.std.specs.List.{AllByRecursion, list_any}
 use Rattle.std.proofs.lemmas.Bool.{and_parts, false≢true}
 use Rattle.std.proofs.lemmas.Option.{same_Some}
 use Rattle.lock_journal.specs.declared.record.Shot.{Shot}
-use Rattle.lone_logs.specs.LoneRun.{with_no_path, with_no_paths, without_path}
+use Rattle.lone_logs.specs.LoneRun.{with_no_paths, without_path}
 use Rattle.plain_history.specs.EnterPaths.{EndsStay, PathFits, PathsFit, entries_on, first_path, is_by_bias, is_first, is_own, needs_bias}
 use Rattle.plain_history.specs.HeldByLog.{held_after, nothing_held}
 use Rattle.plain_history.specs.Tied.{bound_to, is_same_object}

@@ -1,53 +1,55 @@
--- The class of an object, by its declaration and by the heap's shape.
-use Rattle.std.proofs.Common.{◌≡◌, ℕ, ◌+◌, ◌-◌, ◌<◌, true, false, if◌then◌else◌, List, [], ◌∷◌, length, replicate, refl, sym, ap, ◌∙◌, arith, inl, inr}
-use Rattle.std.specs.Prelude.{slice_index_or}
-use Rattle.std.proofs.lemmas.Bool.{cases_lt}
+-- The class of an object that is there at a heap's end, by the logs and by the words.
+use Rattle.std.proofs.Common.{◌≡◌, ℕ, ◌-◌, ◌<◌, nat_lt, Bool, true, false, cond, List, length, Some, refl, sym, ap, ◌∙◌, arith}
+use Rattle.std.specs.Prelude.{is_some}
 use Rattle.std.proofs.lemmas.Bool.Decides.{nat_tests}
-use Rattle.std.proofs.lemmas.List.{get_or_append_left, get_or-append_right, get_or-replicate, length-replicate}
-use Rattle.object_program.specs.declared.program.ClassDef.{ClassDef}
-use Rattle.object_program.specs.declared.program.ObjectDef.{ObjectDef}
-use Rattle.object_program.specs.Program.{class_from, class_of, has_object, shape_from, shape_of, slots_of_class, ProgramText}
-use Rattle.object_program.specs.Valid.{AreObjects, IsProgram}
-use Rattle.object_program.proofs.Made.{declared_shape}
+use Rattle.std.proofs.lemmas.Option.{same_Some}
+use Rattle.plain_monitor.specs.Made.{class_of, made_after}
+use Rattle.plain_history.proofs.StoreParts.{there_has_class}
+use Rattle.core_world.specs.declared.name.Name.TheVariants.{Class}
+use Rattle.core_world.specs.Threads.Known.{Known}
+use Rattle.core_world.specs.Threads.References.{numbering}
+use Rattle.core_world.specs.Words.Names.{class_by}
+use Rattle.core_world.specs.Words.Shape.{class_of as shape_class}
+use Rattle.core_law.specs.BiasLaw.{is_logged}
+use Rattle.core_law.specs.Logic.{Heap}
+use Rattle.core_law.specs.MadeLaw.{there_after}
+use Rattle.core_made.proofs.NewsLogged.{logged_are_there}
+use Rattle.core_made.proofs.Readings.{class_told}
+use Rattle.core_made.specs.Steps.{is_there_in}
+use Rattle.heap_table.specs.BiasesAtEnd.{word_in}
+use Rattle.run_ends.specs.OfARun.{IsEnd, logs_in}
+use Rattle.run_ends.proofs.LastWorlds.{Settled, settled}
 
-module _ (classes : List ClassDef) where
-  abbrev both : ObjectDef → ℕ × ℕ
-  both d = (d.class, slots_of_class classes d.class)
+module _ (heap : Heap) (words : List ℕ) (ks : List Known) (e : IsEnd heap words ks) (made : List (List ℕ))
+    (after : made_after (numbering heap.shape) (logs_in ks) ≡ Some made) (o c : ℕ) (class : class_of (numbering heap.shape) made o ≡ Some c) where
+  s : Settled heap words ks
+  s = settled heap words ks e
 
-  abbrev of_one : ObjectDef → List (ℕ × ℕ)
-  of_one d = replicate d.size (both d)
+  same_made : s.made.made ≡ made
+  same_made =
+      same_Some s.made.made made
+      (sym s.made.in_time ∙ (λ i. made_after (numbering (s.is_of i).shape) (s.logs_are i)) ∙ after)
 
-  many_of : (d : ObjectDef) → length (of_one d) ≡ d.size
-  many_of d = length-replicate {A = ℕ × ℕ} d.size (both d)
+  class_here : class_of (numbering s.world.shape) s.made.made o ≡ Some c
+  class_here = (λ i. class_of (numbering (s.is_of i).shape) (same_made i) o) ∙ class
 
-  -- an object of the first declaration
-  at_first : (d : ObjectDef) (ds : List ObjectDef) (k : ℕ) → k < d.size
-      → (slice_index_or (shape_from classes (d ∷ ds)) k (0, 0)).0 ≡ d.class
-  at_first d ds k here =
-      let long = many_of d in
-      ap (λ (x : ℕ × ℕ). x.0)
-      (get_or_append_left (of_one d) (shape_from classes ds) (0, 0) k (omega (arith, here, long))
-      ∙ get_or-replicate {A = ℕ × ℕ} d.size k (both d) (0, 0) here)
+  -- an object that isn't declared has a class word
+  words_say : o < length heap.shape.objects → (b : Bool) → nat_lt o heap.shape.declared ≡ b
+      → cond b (shape_class heap.shape o) (word_in heap words (Class o) - 1) ≡ cond b (shape_class heap.shape o) (s.world.words (Class o) - 1)
+  words_say within true first = refl
+  words_say within false first = ap (λ n. n - 1) (s.words_are (Class o) (within, grind (arith, nat_tests, first)))
 
-  class_at : (many n k : ℕ) (ds : List ObjectDef) → AreObjects many n ds
-      → (slice_index_or (shape_from classes ds) k (0, 0)).0 ≡ class_from ds (n + k)
-  class_at many n k [] all = refl
-  class_at many n k (d ∷ ds) all = elim (cases_lt k d.size) [
-    | inl here ↦
-        let first = all.0.1 in
-        let has : has_object d (n + k) ≡ true = grind (arith, nat_tests, here, first) in
-        at_first d ds k here ∙ sym (ap (λ b. if b then d.class else class_from ds (n + k)) has)
-    | inr there ↦
-        let first = all.0.1 in
-        let lacks : has_object d (n + k) ≡ false = grind (arith, nat_tests, there, first) in
-        let e : n + d.size + (k - d.size) ≡ n + k = omega (arith, there) in
-        ap (λ (x : ℕ × ℕ). x.0) (get_or-append_right (of_one d) (shape_from classes ds) d.size k (0, 0) (many_of d) there)
-        ∙ class_at many (n + d.size) (k - d.size) ds all.1
-        ∙ ap (class_from ds) e
-        ∙ sym (ap (λ b. if b then d.class else class_from ds (n + k)) lacks)
-  ]
+  pub class_at_end : o < length heap.shape.objects → class_by heap.shape (word_in heap words) o ≡ c
+  class_at_end within =
+      words_say within (nat_lt o heap.shape.declared) refl
+      ∙ (λ i. class_by ((sym s.is_of i).shape) s.world.words o)
+      ∙ class_told s.world s.fits.limits s.made o c class_here
 
-pub class_is : (p : ProgramText) → IsProgram p → (o : ℕ) → (slice_index_or (shape_of p) o (0, 0)).0 ≡ class_of p o
-class_is p is o =
-    ap (λ (s : List (ℕ × ℕ)). (slice_index_or s o (0, 0)).0) (declared_shape p is)
-    ∙ class_at p.classes (length p.classes) 0 o p.objects is.objects ∙ ap (class_from p.objects) (omega arith)
+  there : is_there_in s.world o ≡ true
+  there =
+      ap (λ m. there_after (numbering s.world.shape) m o) s.made.in_time
+      ∙ sym (there_has_class (numbering s.world.shape) s.made.made o) ∙ ap is_some class_here
+
+  -- it is declared, or its New is logged
+  pub logged_at_end : is_logged heap.shape (logs_in ks) o ≡ true
+  logged_at_end = (λ i. is_logged ((sym s.is_of i).shape) (sym s.logs_are i) o) ∙ logged_are_there s.world s.fits.limits s.made o ∙ there

@@ -11,7 +11,7 @@ use Rattle.heap_table.specs.BiasesAtEnd.{counted_by}
 use Rattle.heap_table.specs.declared.counts.ClassCounts.{ClassCounts}
 use Rattle.heap_table.specs.Tallies.{capped, capped_counts, counts_shown}
 use Rattle.heap_table.proofs.Counting.{counts_at}
-use Rattle.program_run.proofs.Few.{most_in_all}
+use Rattle.program_run.proofs.Few.{most_entries}
 use Rattle.program_run.specs.Lines.{counts_on, no_counts, total_on}
 
 -- the first number may be added first
@@ -29,7 +29,7 @@ term_few (suc n) k f h = elim (cases_lt k n) [
       omega (arith, same)
 ]
 
-pub sum_few : (n : ℕ) (f : ℕ → ℕ) → ((t : ℕ) → t < n → f t ≤ most_in_all + 1) → sum_below n f ≤ n * (most_in_all + 1)
+pub sum_few : (n : ℕ) (f : ℕ → ℕ) → ((t : ℕ) → t < n → f t ≤ most_entries + 1) → sum_below n f ≤ n * (most_entries + 1)
 sum_few zero f each = omega arith
 sum_few (suc n) f each =
     let others = sum_few n f (λ t h. each t (omega (arith, h))) in
@@ -43,7 +43,7 @@ sum_none (suc n) f each =
     let last = each n in
     omega (arith, others, last)
 
-pub capped_few : (n : ℕ) → n ≤ most_threads * (most_in_all + 1) → capped n ≡ n
+pub capped_few : (n : ℕ) → n ≤ most_threads * (most_entries + 1) → capped n ≡ n
 capped_few n h = omega (arith, h)
 
 module _ (number : ClassCounts → ℕ) (f : known.ClassCounts → ℕ) (classes k : ℕ) (within : k < classes) where

@@ -5,16 +5,18 @@ use Rattle.std.specs.List.{AllByRecursion}
 use Rattle.std.proofs.lemmas.Option.{none-some, same_Some}
 use Rattle.plain_monitor.specs.declared.entry.Logged.{Logged}
 use Rattle.plain_monitor.specs.History.{objects_after, log_of}
+use Rattle.plain_monitor.specs.Made.{IsMadeInTime}
 use Rattle.plain_monitor.specs.Objects.{PlainObject}
-use Rattle.plain_monitor.proofs.Lists.{all_weaker, all_map}
+use Rattle.plain_monitor.proofs.Lists.{all_at, all_map}
 use Rattle.plain_history.specs.Cuts.{cut_logs}
-use Rattle.object_program.specs.Program.{ProgramText, shape_of}
+use Rattle.object_program.specs.Program.{ProgramText, numbering_of, shape_of}
 use Rattle.object_program.specs.Valid.{IsProgram}
 use Rattle.plain_machine.specs.Legal.{IsLegal, machine_after}
 use Rattle.plain_machine.specs.Machine.{PlainMachine}
 use Rattle.core_world.specs.Shots as core
 use Rattle.core_world.specs.Threads.Known.{DumpShot}
 use Rattle.run_ends.specs.OfARun.{HasShots, shots_at}
+use Rattle.run_rounds.proofs.Lists.{all_each}
 use Rattle.thread_logs.specs.Followed.{HasFollowed, HaveFollowed}
 use Rattle.lock_journal.specs.declared.record.Cell.{Cell}
 use Rattle.lock_journal.specs.declared.record.Shot.{Shot}
@@ -56,10 +58,12 @@ TheirObjects = (p : ProgramText) (fuel : ℕ) (logs : List (List Logged)) (m : P
 
 module _ (fronts : Fronts) (legals : Legals) (theirs : TheirObjects)
     (p : ProgramText) (valid : IsProgram p) (fuel : ℕ) (logs : List (List Logged)) (f : HaveFollowed p fuel logs) where
-  cut_follow : (s : DumpShot) → core.IsRightShot (shape_of p) logs s → HaveFollowed p fuel (cut_logs s.cut logs)
-  cut_follow s h =
+  cut_follow : (s : DumpShot) → core.IsRightShot (shape_of p) logs s → IsMadeInTime (numbering_of p) (cut_logs s.cut logs)
+      → HaveFollowed p fuel (cut_logs s.cut logs)
+  cut_follow s h made =
       record {
         objects = h.legal;
+        made = made;
         count = cut_long s.cut logs h.threads ∙ f.count;
         each = λ t lt.
             let within : t < length logs = let e = f.count in omega (arith, lt, e) in
@@ -67,9 +71,10 @@ module _ (fronts : Fronts) (legals : Legals) (theirs : TheirObjects)
             (fronts p fuel t (slice_index s.cut t) (log_of logs t) (f.each t lt));
       }
 
-  right : (s : DumpShot) → core.IsRightShot (shape_of p) logs s → IsRightShot p fuel logs (shot_left s)
-  right s h =
-      let follow = cut_follow s h in
+  right : (s : DumpShot) → core.IsRightShot (shape_of p) logs s → IsMadeInTime (numbering_of p) (cut_logs s.cut logs)
+      → IsRightShot p fuel logs (shot_left s)
+  right s h made =
+      let follow = cut_follow s h made in
       let m = the_some (machine_after p fuel (cut_logs s.cut logs)) (legals p fuel (cut_logs s.cut logs) valid follow).taken in
       let taken = sym h.taken ∙ theirs p fuel (cut_logs s.cut logs) m.0 follow m.1 in
       let same : h.objects ≡ m.0.objects = same_Some h.objects m.0.objects taken in
@@ -100,7 +105,8 @@ left_at (s ∷ shots) (suc i) a e = left_at shots i a e
 
 module _ (fronts : Fronts) (legals : Legals) (theirs : TheirObjects)
     (p : ProgramText) (valid : IsProgram p) (fuel : ℕ) (logs : List (List Logged)) (f : HaveFollowed p fuel logs)
-    (shots : List (List DumpShot)) (h : HasShots (shape_of p) logs shots) where
+    (shots : List (List DumpShot)) (h : HasShots (shape_of p) logs shots)
+    (in_time : (t i : ℕ) (s : DumpShot) → slice_get (shots_at shots t) i ≡ Some s → IsMadeInTime (numbering_of p) (cut_logs s.cut logs)) where
   shot_at : (t i : ℕ) (a : Shot) → slice_get (shots_of (map shots_left shots) t) i ≡ Some a
       → (s : DumpShot) × (slice_get (shots_at shots t) i ≡ Some s) × (shot_left s ≡ a)
   shot_at t i a e = left_at (shots_at shots t) i a (ap (λ (x : List Shot). slice_get x i) (sym (own_left shots t)) ∙ e)
@@ -119,8 +125,9 @@ module _ (fronts : Fronts) (legals : Legals) (theirs : TheirObjects)
   right_at : (t : ℕ) → AllByRecursion (IsRightShot p fuel logs) (shots_left (shots_at shots t))
   right_at t =
       all_map (IsRightShot p fuel logs) shot_left (shots_at shots t)
-      (all_weaker (core.IsRightShot (shape_of p) logs) (λ s. IsRightShot p fuel logs (shot_left s))
-      (right fronts legals theirs p valid fuel logs f) (shots_at shots t) (h.right t))
+      (all_each (λ s. IsRightShot p fuel logs (shot_left s)) (shots_at shots t)
+      (λ i s e. right fronts legals theirs p valid fuel logs f s
+      (all_at (core.IsRightShot (shape_of p) logs) (shots_at shots t) i s (h.right t) e) (in_time t i s e)))
 
   pub right_shots : AreRightShots p fuel logs (map shots_left shots)
   right_shots =

@@ -48,8 +48,8 @@ module _ (stay : Stay) (use_up : UseUp) where
       omega (arith, others, less)
 
 -- entries of all threads together: two for each unit of fuel of a thread, and an end
-abbrev pub most_in_all : ℕ
-most_in_all = most_threads * (2 * most_fuel + 1)
+abbrev pub most_entries : ℕ
+most_entries = most_threads * (2 * most_fuel + 1)
 
 work_few : (ss : List ThreadState) → ((t : ℕ) (s : ThreadState) → slice_get ss t ≡ Some s → work_of s ≤ 2 * most_fuel + 1) → work_in ss ≤ length ss * (2 * most_fuel + 1)
 work_few [] each = omega arith
@@ -71,7 +71,7 @@ module _ (first : First) (stay : Stay) (use_up : UseUp) (begins : Begins) (works
   threads_few : length (new_machine p fuel).threads ≤ most_threads
   threads_few = let r = (first p fuel is).thread_count in let f = is.threads_few in omega (arith, r, f)
 
-  pub log_few : (t : ℕ) → length (log_of logs t) ≤ most_in_all
+  pub log_few : (t : ℕ) → length (log_of logs t) ≤ most_entries
   log_few t =
       let m = the_some (machine_after p fuel logs) legal.taken in
       let all = as_many stay use_up (new_machine p fuel) (order logs) m.0 (first p fuel is) m.1 in

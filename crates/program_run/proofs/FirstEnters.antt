@@ -1,5 +1,5 @@
 -- The first enter of each object in the order of all logs: nothing that is bound to the object stands before it.
-use Rattle.std.proofs.Common.{◌≡◌, ℕ, zero, suc, ◌+◌, ◌<◌, ◌≤◌, ◌==◌, ◌&&◌, Bool, true, false, if◌then◌else◌, List, [], ◌∷◌, map, Option, Some, None, option_and_then, refl, sym, ap, ◌∙◌, subst, inl, inr, arith, eqb-true, eq-eqb, length}
+use Rattle.std.proofs.Common.{◌≡◌, ℕ, zero, suc, ◌<◌, ◌≤◌, ◌==◌, ◌&&◌, Bool, true, false, if◌then◌else◌, List, [], ◌∷◌, map, Option, Some, None, option_and_then, refl, sym, ap, ◌∙◌, subst, inl, inr, arith, eqb-true, eq-eqb, length}
 use Rattle.std.specs.Prelude.{nat_lt, slice_get, slice_set}
 use Rattle.std.specs.List.{AllByRecursion}
 use Rattle.std.proofs.lemmas.Bool.{cases_eq, false≢true}
@@ -20,8 +20,8 @@ use Rattle.plain_monitor.specs.declared.entry.Entry.TheVariants as entry
 use Rattle.plain_monitor.specs.declared.entry.Logged.{Logged}
 use Rattle.plain_monitor.specs.History.{RisesAbove, log_of}
 use Rattle.plain_monitor.specs.Monitor.{PlainMonitor, exit, free_monitor, notify, notify_all, only_if, owns, resume, wait}
-use Rattle.plain_monitor.specs.Objects.{PlainObject, has_value, hashed, named, new_object, new_objects, take_at, take_entry, take_named, with_monitor}
-use Rattle.plain_monitor.specs.Order.{is_before, of_thread, order, ordered, with_threads}
+use Rattle.plain_monitor.specs.Objects.{PlainObject, has_value, hashed, named, new_objects, take_at, take_entry, take_named, with_monitor}
+use Rattle.plain_monitor.specs.Order.{is_before, of_thread, order, with_threads}
 use Rattle.plain_monitor.proofs.Lists.{all_at, all_weaker, get_set_other, get_set_same}
 use Rattle.plain_monitor.proofs.Threads.{thread_kept}
 

@@ -1,11 +1,10 @@
 -- A plain run is made by a record and a closed heap, where its enters have paths that the law of biases allows.
-use Rattle.std.proofs.Common.{◌≡◌, ℕ, zero, suc, ◌+◌, ◌-◌, ◌*◌, ◌<◌, ◌≤◌, ◌==◌, ◌&&◌, ◌||◌, not, Bool, true, false, cond, if◌then◌else◌, List, [], ◌∷◌, ◌++◌, length, map, Option, Some, None, refl, sym, ap, ◌∙◌, subst, inl, inr, arith}
+use Rattle.std.proofs.Common.{◌≡◌, ℕ, zero, suc, ◌+◌, ◌-◌, ◌*◌, ◌<◌, ◌≤◌, Bool, true, false, if◌then◌else◌, List, [], ◌∷◌, ◌++◌, length, map, Option, Some, None, refl, sym, ap, ◌∙◌, subst, inl, inr, arith}
 use Rattle.std.specs.Prelude.{slice_get, slice_index, slice_index_or}
 use Rattle.std.specs.List.{AllByRecursion, list_any}
 use Rattle.std.proofs.lemmas.List.{get_or-append_right, get_or_append_left, get_or_past, length-map}
 use Rattle.std.proofs.lemmas.List.Sums.{sum_by-cons}
 use Rattle.std.proofs.lemmas.Option.{same_Some}
-use Rattle.core_law.specs.CountsAndVerdicts.{CountFits}
 use Rattle.core_law.specs.Draws.{HasDraws}
 use Rattle.core_law.specs.TakenBiases.{OwnsAreTaken, times_taken}
 use Rattle.core_world.specs.Threads.Known.{DumpShot}
@@ -19,28 +18,24 @@ use Rattle.lock_journal.specs.declared.record.Cell.{Cell}
 use Rattle.lock_journal.specs.declared.record.ClassLine.{ClassLine}
 use Rattle.lock_journal.specs.declared.record.RunRecord.{RunRecord}
 use Rattle.lock_journal.specs.declared.record.Shot.{Shot}
-use Rattle.lone_logs.specs.LoneRun.{NoneGoesOn, with_no_path, with_no_paths, without_path}
+use Rattle.lone_logs.specs.LoneRun.{NoneGoesOn, with_no_paths}
 use Rattle.mark_word.proofs.ReadingSafepoints.{read_safe-safe_of}
-use Rattle.object_program.specs.Program.{ProgramText, class_of}
+use Rattle.object_program.specs.Program.{ProgramText}
 use Rattle.plain_history.specs.EnterPaths.{EndsStay, PathsFit, entries_on, first_path, needs_bias}
-use Rattle.plain_history.specs.HeldByLog.{held_after, nothing_held}
-use Rattle.plain_history.specs.Tied.{bound_to, is_same_object}
+use Rattle.plain_history.specs.HeldByLog.{nothing_held}
 use Rattle.plain_history.specs.ExactStamps.{StampsAreExact}
 use Rattle.plain_machine.specs.Legal.{IsLegal, machine_after}
 use Rattle.plain_machine.specs.Machine.{PlainMachine}
-use Rattle.plain_monitor.specs.declared.entry.Entry.{Entry}
-use Rattle.plain_monitor.specs.declared.entry.Entry.TheVariants as entry
 use Rattle.plain_monitor.specs.declared.entry.Logged.{Logged}
 use Rattle.plain_monitor.specs.declared.entry.Path.{Path}
 use Rattle.plain_monitor.specs.declared.entry.Path.TheVariants.{BiasTaken}
 use Rattle.plain_monitor.specs.History.{log_of}
-use Rattle.plain_monitor.specs.Order.{order, with_threads}
+use Rattle.plain_monitor.specs.Order.{order}
 use Rattle.plain_monitor.proofs.Lists.{all_push}
-use Rattle.plain_monitor.proofs.Orders.{all_ordered}
 use Rattle.run_rounds.specs.Outcome.{IsOver}
 use Rattle.program_run.specs.declared.settings.Settings.{Settings}
 use Rattle.program_run.specs.Biases.{HasBiases, IsEven, IsIdle, IsLine, prototype_by}
-use Rattle.program_run.specs.HeapFor.{heap_for, shape_for}
+use Rattle.program_run.specs.HeapFor.{heap_for}
 use Rattle.program_run.specs.Left.{cells_left, shot_left, shots_left}
 use Rattle.program_run.specs.Lines.{counts_on, line_of, lines_below, no_counts, total_on}
 use Rattle.program_run.specs.PlainRun.{IsMadeBy, IsPlainRun}
@@ -50,7 +45,7 @@ use Rattle.program_run.specs.Verdicts.{IsSum, verdicts_by}
 use Rattle.program_run.proofs.Counted.{capped_few}
 use Rattle.program_run.proofs.LinesBelow.{line_at, lines_many}
 use Rattle.program_run.proofs.BareShots.{shots_from}
-use Rattle.program_run.proofs.NoPaths.{after_bare, bare, draws_from, legal_from, stamps_from}
+use Rattle.program_run.proofs.NoPaths.{after_bare, draws_from, legal_from, stamps_from}
 
 -- PATHS that the law of biases allows, where no verdict was counted, for the enters of these logs
 pub record HasPaths (biased : Bool) (plain_logs : List (List Logged)) : Type 0 where
@@ -254,7 +249,7 @@ module _ (s : Settings) (p : ProgramText) (plain_logs : List (List Logged)) (sho
       record {
         stays = paths.stays;
         paths = paths.paths;
-        entered = λ biased o path unrevoked first. inl (paths.entered biased o path first);
+        entered = λ biased o k path class unrevoked first. inl (paths.entered biased o path first);
         counts = λ k. each_line (IsLine (total_on (λ n. n.reset) closed.counts k)) (idle_fits s.bias _) k;
         counted = length-map paths.logs (λ (log : List Logged). []);
         verdicts = λ t. let zero_there = none_of paths.logs t in omega (arith, zero_there);
@@ -264,9 +259,9 @@ module _ (s : Settings) (p : ProgramText) (plain_logs : List (List Logged)) (sho
         plain = paths.plain;
         idle = λ unbiased. all_lines IsIdle (refl, refl, refl, refl);
         taken = paths.taken;
-        few = λ o.
+        few = λ o k line class.
             let few = paths.few o in
-            each_line (λ line. times_taken o (entries_on o (order paths.logs)) ≤ line.rebias + 1) (omega (arith, few)) (class_of p o);
+            each_line (λ line. times_taken o (entries_on o (order paths.logs)) ≤ line.rebias + 1) (omega (arith, few)) k line;
       }
 
   over : (n : PlainMachine) → machine_after p s.fuel paths.logs ≡ Some n → IsOver n halted

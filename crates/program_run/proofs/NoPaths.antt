@@ -1,8 +1,8 @@
 -- Logs whose paths of enters are taken away: what of a run doesn't look at these.
-use Rattle.std.proofs.Common.{◌≡◌, ℕ, zero, suc, ◌+◌, ◌||◌, Bool, true, false, if◌then◌else◌, List, [], ◌∷◌, ◌++◌, length, map, take, Option, Some, option_and_then, refl, sym, ap, ◌∙◌, subst, inl, inr, arith}
+use Rattle.std.proofs.Common.{◌≡◌, ℕ, zero, suc, ◌+◌, ◌||◌, Bool, true, false, if◌then◌else◌, List, [], ◌∷◌, ◌++◌, map, Option, Some, option_and_then, refl, sym, ap, ◌∙◌, subst, inl, inr}
 use Rattle.std.specs.Prelude.{IsSome}
 use Rattle.std.specs.List.{AllByRecursion, flat_map}
-use Rattle.std.proofs.lemmas.List.{map-append, take-map, length-map}
+use Rattle.std.proofs.lemmas.List.{map-append}
 use Rattle.core_law.specs.Draws.{HasDraws}
 use Rattle.core_world.specs.Clauses.Draws.{AreDraws, Draw, IsNextDraw, all_draws, draw_in, drawn_by, drawn_for, draws_for}
 use Rattle.lock_journal.specs.RunText.{printed}
@@ -13,7 +13,7 @@ use Rattle.object_program.specs.Program.{ProgramText}
 use Rattle.plain_history.specs.EnterPaths.{has_hash, is_hash}
 use Rattle.plain_history.specs.ExactStamps.{IsExactStamp, IsTakingStamp, StampsAreExact}
 use Rattle.plain_history.specs.FirstDraws.{DrawsComeFirst}
-use Rattle.plain_history.specs.HeldByLog.{HasLetGo, LetsGoOf, held_after, held_by, nothing_held}
+use Rattle.plain_history.specs.HeldByLog.{HasLetGo, held_after, held_by, nothing_held}
 use Rattle.plain_machine.specs.Legal.{IsLegal, behind_all, machine_after}
 use Rattle.plain_machine.specs.Machine.{PlainMachine, new_machine, take as behind_one}
 use Rattle.plain_monitor.specs.declared.entry.Entry.{Entry}

@@ -1,5 +1,5 @@
 -- What a run is by what neither its workers nor its biases tell.
-use Rattle.std.proofs.Common.{◌≡◌, ℕ, Bool, true, false, List, ◌++◌, [], length, append-nil, Some, refl, sym, ap, ◌∙◌, inl, inr}
+use Rattle.std.proofs.Common.{◌≡◌, false, ◌++◌, [], append-nil, Some, sym, ap, ◌∙◌}
 use Rattle.std.proofs.lemmas.List.{length-map}
 use Rattle.core_law.specs.Draws.{HasDraws}
 use Rattle.hash_laws.proofs.LegalHashes.{fitting_hashes_are_draws, legal_hashes_fit}

@@ -6,7 +6,7 @@ use Rattle.heap_table.specs.Seen.{ClosedSeen}
 use Rattle.lock_journal.specs.declared.record.ClassLine.{ClassLine}
 use Rattle.lock_journal.specs.declared.record.RunRecord.{RunRecord}
 use Rattle.lock_journal.specs.declared.record.Shot.{Shot}
-use Rattle.object_program.specs.Program.{ProgramText, class_of}
+use Rattle.object_program.specs.Program.{ProgramText}
 use Rattle.plain_history.specs.EnterPaths.{entries_on}
 use Rattle.plain_history.specs.Tied.{is_tied}
 use Rattle.plain_history.proofs.InOrder.{in_order_at}
@@ -19,7 +19,7 @@ use Rattle.plain_monitor.specs.Order.{is_before, order}
 use Rattle.plain_monitor.proofs.Lists.{all_at}
 use Rattle.plain_monitor.proofs.Orders.{before_asym}
 use Rattle.core_law.specs.TakenBiases.{times_taken}
-use Rattle.program_run.specs.Biases.{HasBiases}
+use Rattle.program_run.specs.Biases.{HasBiases, class_in}
 use Rattle.program_run.specs.Shots.{IsRightShot, AreRightShots, shots_of}
 
 -- one thread takes the bias and lets go, and another one enters by this path
@@ -33,10 +33,10 @@ from_nowhere tick r c logs h =
     let taken = h.taken 1 0 [] (record { stamp = 3; entry = Enter 0 BiasOwn }) [] (ap (λ (x : List (List Logged)). log_of x 1) logs) refl in
     cc taken
 
-pub wanders : (tick : ℕ) (r : RunRecord) (c : ClosedSeen) (line : ClassLine) → r.logs ≡ handed BiasTaken
-    → slice_get r.classes (class_of r.program 0) ≡ Some line → line.rebias ≡ 0 → HasBiases tick r c → ⊥
-wanders tick r c line logs at none h =
-    let few = h.few 0 line at in
+pub wanders : (tick k : ℕ) (r : RunRecord) (c : ClosedSeen) (line : ClassLine) → r.logs ≡ handed BiasTaken
+    → class_in r 0 ≡ Some k → slice_get r.classes k ≡ Some line → line.rebias ≡ 0 → HasBiases tick r c → ⊥
+wanders tick k r c line logs class at none h =
+    let few = h.few 0 k line class at in
     let twice : times_taken 0 (entries_on 0 (order r.logs)) ≡ 2 = ap (λ (x : List (List Logged)). times_taken 0 (entries_on 0 (order x))) logs in
     omega (arith, few, twice, none)
 

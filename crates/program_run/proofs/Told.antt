@@ -1,8 +1,7 @@
 -- A run of a program, told by its record.
-use Rattle.std.proofs.Common.{◌≡◌, ℕ, ◌+◌, ◌-◌, ◌<◌, ◌≤◌, ◌==◌, ◌||◌, nat_lt, cond, inl, inr, Bool, true, false, List, [], ◌∷◌, length, Some, refl, sym, ap, ◌∙◌, subst, arith}
-use Rattle.std.specs.Prelude.{◌⊎◌, slice_get, slice_index_or, Option, None, IsSome}
+use Rattle.std.proofs.Common.{◌≡◌, ℕ, ◌+◌, ◌<◌, ◌≤◌, inl, inr, Bool, true, false, List, [], length, Some, refl, sym, ap, ◌∙◌, subst, arith}
+use Rattle.std.specs.Prelude.{◌⊎◌, slice_get, slice_index_or, Option, None, IsSome, option_and_then}
 use Rattle.std.proofs.lemmas.Bool.{cases_lt}
-use Rattle.std.proofs.lemmas.Bool.Decides.{nat_tests}
 use Rattle.std.specs.List.{AllByRecursion, list_any}
 use Rattle.plain_history.specs.HeldByLog.{nothing_held}
 use Rattle.std.proofs.lemmas.List.{length-map}
@@ -14,30 +13,33 @@ use Rattle.plain_monitor.specs.declared.entry.Logged.{Logged}
 use Rattle.plain_monitor.specs.declared.entry.Path.{Path}
 use Rattle.plain_monitor.specs.declared.entry.Path.TheVariants.{BiasTaken}
 use Rattle.plain_monitor.specs.History.{log_of, objects_after}
+use Rattle.plain_monitor.specs.Made.{IsMadeInTime, Numbering, class_of, made_after}
 use Rattle.plain_monitor.specs.Objects.{new_object, new_objects}
 use Rattle.plain_monitor.specs.Order.{order}
-use Rattle.plain_history.specs.Known.{makes, is_one_of}
+use Rattle.plain_history.specs.Cuts.{cut_logs}
+use Rattle.plain_history.proofs.Joined.{first_some}
 use Rattle.core_law.specs.BiasLaw.{is_logged}
 use Rattle.core_law.specs.OfARun.{IsHashLogged}
 use Rattle.core_law.specs.TakenBiases.{times_taken, OwnsAreTaken}
 use Rattle.core_law.specs.Logic.{Heap}
 use Rattle.core_world.specs.Threads.Known.{DumpShot, Known}
-use Rattle.core_world.specs.declared.name.Name.TheVariants.{Class}
-use Rattle.heap_table.specs.BiasesAtEnd.{word_in}
+use Rattle.core_world.specs.Threads.References.{numbering}
 use Rattle.heap_table.specs.Seen.{ClosedSeen}
 use Rattle.lock_journal.specs.Hashes.{hash_fits}
 use Rattle.lock_journal.specs.declared.record.ClassLine.{ClassLine}
 use Rattle.lock_journal.specs.declared.record.RunRecord.{RunRecord}
 use Rattle.lock_journal.specs.declared.record.Shot.{Shot}
-use Rattle.object_program.specs.Program.{ProgramText, class_of, declared_total, shape_of}
+use Rattle.object_program.specs.Program.{ProgramText, numbering_of, shape_of}
 use Rattle.object_program.specs.Valid.{IsProgram}
 use Rattle.plain_machine.specs.Legal.{IsLegal, machine_after}
 use Rattle.plain_machine.specs.Machine.{PlainMachine}
 use Rattle.hash_laws.proofs.LegalHashes.{legal_hashes_fit}
+use Rattle.run_ends.specs.OfARun.{IsEnd, logs_in, shots_at, shots_in}
 use Rattle.run_rounds.specs.Outcome.{HasRun, IsOver, verdicts_beyond}
+use Rattle.run_rounds.proofs.Numbered.{heap_numbers}
 use Rattle.program_run.specs.declared.settings.Settings.{Settings}
-use Rattle.program_run.specs.Biases.{HasBiases, IsEven, IsIdle, IsLine, IsUnrevoked, prototype_by}
-use Rattle.program_run.specs.HeapFor.{heap_for}
+use Rattle.program_run.specs.Biases.{HasBiases, IsEven, IsIdle, IsLine, IsUnrevoked, class_in, prototype_by}
+use Rattle.program_run.specs.HeapFor.{heap_for, shape_for}
 use Rattle.program_run.specs.Left.{IsOfClosed, shots_left}
 use Rattle.program_run.specs.Lines.{line_of, lines_below, total_on}
 use Rattle.program_run.specs.inner.Lines.{HasSmallCounts}
@@ -46,22 +48,30 @@ use Rattle.program_run.specs.Shots.{AreRightShots}
 use Rattle.program_run.specs.Verdicts.{IsSum, verdicts_by}
 use Rattle.program_run.proofs.Biased.{Biased, Plain, all_idle, all_lines, counted_all, even, fits, log_fits, prototype_is, revoke_is, small_here, sums_are, verdicts_within}
 use Rattle.program_run.proofs.BiasesTaken.{log_owned, taken_few}
-use Rattle.program_run.proofs.Classes.{class_is}
+use Rattle.program_run.proofs.Classes.{class_at_end, logged_at_end}
 use Rattle.program_run.proofs.Cut.{Fronts, Legals, TheirObjects, right_shots}
-use Rattle.program_run.proofs.Few.{First, Stay, UseUp, Begins, Works, log_few, most_in_all}
+use Rattle.program_run.proofs.Few.{First, Stay, UseUp, Begins, Works, log_few, most_entries}
 use Rattle.program_run.proofs.NotDeclared.{none_on}
-use Rattle.program_run.proofs.Shaped.{shape_many}
 use Rattle.program_run.proofs.LinesBelow.{line_at, lines_many}
 
 pub small : (s : Settings) (p : ProgramText) (c : ClosedSeen) → HasRun (heap_for s p) p s.fuel s.tick c → HasSmallCounts c
 small s p c ran = small_here (heap_for s p) c ran.biases ran.heap_is
+
+-- the heap has the program's numbers
+numbering_for : (s : Settings) (p : ProgramText) → IsProgram p → numbering (shape_for p) ≡ numbering_of p
+numbering_for s p is = heap_numbers (heap_for s p) p (record { program = is; threads = refl; classes = refl; objects = refl; declared = refl })
+
+-- the law that is asked of a heap's end: where its shots cut the logs, each entry finds what it needs
+abbrev pub Cuts : Type 0
+Cuts = (heap : Heap) (words : List ℕ) (ks : List Known) (t i : ℕ) (s : DumpShot) → IsEnd heap words ks
+    → slice_get (shots_at (shots_in ks) t) i ≡ Some s → IsMadeInTime (numbering heap.shape) (cut_logs s.cut (logs_in ks))
 
 some_there : {A : Type 0} (m : Option A) → IsSome m → (x : A) × (m ≡ Some x)
 some_there None h = absurd (cc h)
 some_there (Some x) h = (x, refl)
 
 module _ (fronts : Fronts) (legals : Legals) (theirs : TheirObjects) (first : First) (stay : Stay) (use_up : UseUp) (begins : Begins) (works : Works)
-    (biased_law : Biased) (plain_law : Plain)
+    (cuts : Cuts) (biased_law : Biased) (plain_law : Plain)
     (s : Settings) (p : ProgramText) (r : RunRecord) (c : ClosedSeen) (is : IsProgram p) (few : s.fuel ≤ most_fuel)
     (ran : HasRun (heap_for s p) p s.fuel s.tick c) (of : IsRecordOf s p r) (copy : IsOfClosed r c) where
   abbrev heap : Heap
@@ -70,13 +80,18 @@ module _ (fronts : Fronts) (legals : Legals) (theirs : TheirObjects) (first : Fi
   legal : IsLegal p s.fuel c.logs
   legal = legals p s.fuel c.logs is ran.followed
 
-  short : (t : ℕ) → length (log_of c.logs t) ≤ most_in_all
+  short : (t : ℕ) → length (log_of c.logs t) ≤ most_entries
   short = log_few first stay use_up begins works p s.fuel is few c.logs legal
+
+  cut_in_time : (t i : ℕ) (a : DumpShot) → slice_get (shots_at c.shots t) i ≡ Some a → IsMadeInTime (numbering_of p) (cut_logs a.cut c.logs)
+  cut_in_time t i a e =
+      subst (λ (x : Numbering × List (List Logged)). IsMadeInTime x.0 (cut_logs a.cut x.1)) (λ j. (numbering_for s p is j, sym ran.biases.logs j))
+      (cuts heap c.words ran.biases.knowns t i a ran.biases.end (ap (λ (x : List (List DumpShot)). slice_get (shots_at x t) i) (sym ran.biases.shots) ∙ e))
 
   shots : AreRightShots p s.fuel r.logs r.shots
   shots =
       subst (λ (x : List (List Logged) × List (List Shot)). AreRightShots p s.fuel x.0 x.1) (λ i. (sym copy.logs i, sym copy.shots i))
-      (right_shots fronts legals theirs p is s.fuel c.logs ran.followed c.shots ran.shots)
+      (right_shots fronts legals theirs p is s.fuel c.logs ran.followed c.shots ran.shots cut_in_time)
 
   over : (m : PlainMachine) → machine_after p s.fuel r.logs ≡ Some m → IsOver m r.halted
   over m e =
@@ -109,58 +124,55 @@ module _ (fronts : Fronts) (legals : Legals) (theirs : TheirObjects) (first : Fi
       (λ i. (sym copy.logs i, sym copy.halted i))
       (verdicts_within heap c ran.biases ran.heap_is is.threads_few short t)
 
-  -- a declared object is there, with its program's class, by whatever words, and any other has no entry
-  in_heap : (o : ℕ) → o < declared_total p → o < length (shape_of p)
-  in_heap o here = let many = shape_many p is in omega (arith, many, here)
+  -- by whatever words, an object that is there has the class that the logs tell, and one of which the heap knows nothing has no entry
+  class_told : (o k : ℕ) → class_in r o ≡ Some k → o < length (shape_of p)
+      → (ran.biases.biases.class o ≡ k) × (is_logged heap.shape c.logs o ≡ true)
+  class_told o k class within =
+      let same : numbering heap.shape ≡ numbering_of r.program = numbering_for s p is ∙ ap numbering_of (sym of.program) in
+      let logs : logs_in ran.biases.knowns ≡ r.logs = sym ran.biases.logs ∙ sym copy.logs in
+      let told = first_some (λ (made : List (List ℕ)). class_of (numbering heap.shape) made o)
+      (made_after (numbering heap.shape) (logs_in ran.biases.knowns)) k
+      ((λ i. option_and_then (λ (made : List (List ℕ)). class_of (same i) made o) (made_after (same i) (logs i))) ∙ class) in (
+        ran.biases.biases.class_is o within ∙ class_at_end heap c.words ran.biases.knowns ran.biases.end told.0 told.1 o k told.2 within,
+        ap (λ (x : List (List Logged)). is_logged heap.shape x o) ran.biases.logs
+            ∙ logged_at_end heap c.words ran.biases.knowns ran.biases.end told.0 told.1 o k told.2,
+      )
 
-  class_declared : (o : ℕ) → o < declared_total p → ran.biases.biases.class o ≡ class_of r.program o
-  class_declared o here =
-      let first : nat_lt o (declared_total p) ≡ true = grind (arith, nat_tests, here) in
-      ran.biases.biases.class_is o (in_heap o here)
-      ∙ ap (λ b. cond b (slice_index_or (shape_of p) o (0, 0)).0 (word_in heap c.words (Class o) - 1)) first
-      ∙ class_is p is o ∙ ap (λ (x : ProgramText). class_of x o) (sym of.program)
-
-  there_declared : (o : ℕ) → o < declared_total p → is_logged heap.shape c.logs o ≡ true
-  there_declared o here =
-      let first : nat_lt o (declared_total p) ≡ true = grind (arith, nat_tests, here) in
-      ap (λ b. b || list_any (λ log. list_any (λ l. is_one_of (makes l.entry) (o ∷ [])) log) c.logs) first
-
-  none_past : (o : ℕ) → declared_total p ≤ o → entries_on o (order c.logs) ≡ []
+  none_past : (o : ℕ) → length (shape_of p) ≤ o → entries_on o (order c.logs) ≡ []
   none_past o past =
       let taken = some_there (objects_after (shape_of p) c.logs) ran.followed.objects.taken in
       let many : length (new_objects (shape_of p)) ≡ length (shape_of p) = length-map (shape_of p) (λ (x : ℕ × ℕ). new_object x.1) in
-      let declared = shape_many p is in
-      none_on (order c.logs) (new_objects (shape_of p)) taken.0 o taken.1 (omega (arith, past, many, declared))
+      none_on (order c.logs) (new_objects (shape_of p)) taken.0 o taken.1 (omega (arith, past, many))
 
-  entered : r.bias ≡ true → (o : ℕ) (path : Path) → IsUnrevoked r (class_of r.program o)
+  entered : r.bias ≡ true → (o k : ℕ) (path : Path) → class_in r o ≡ Some k → IsUnrevoked r k
       → first_path (entries_on o (order r.logs)) ≡ Some path → (path ≡ BiasTaken) ⊎ IsHashLogged r.logs o
-  entered biased o path unrevoked e =
-      let k : ℕ = class_of r.program o in
+  entered biased o k path class unrevoked e =
       let at = line_here k unrevoked.0 unrevoked.1 in
-      let first : first_path (entries_on o (order c.logs)) ≡ Some path = ap (λ (x : List (List Logged)). first_path (entries_on o (order x))) (sym copy.logs) ∙ e in
+      let first : first_path (entries_on o (order c.logs)) ≡ Some path =
+      ap (λ (x : List (List Logged)). first_path (entries_on o (order x))) (sym copy.logs) ∙ e in
       subst (λ (x : List (List Logged)). (path ≡ BiasTaken) ⊎ IsHashLogged x o) (sym copy.logs)
-      (elim (cases_lt o (declared_total p)) [
+      (elim (cases_lt o (length (shape_of p))) [
         | inl here ↦
-            let class = class_declared o here in
-            let within : ran.biases.biases.class o < length p.classes = subst (λ n. n < length p.classes) (sym class) at.0 in
-            let none : (line_of c (ran.biases.biases.class o)).revoke ≡ 0 = ap (λ n. (line_of c n).revoke) class ∙ ap (λ (x : ClassLine). x.revoke) at.1 ∙ unrevoked.2 in
-            ran.biases.biases.biases.entered (sym of.bias ∙ biased) o path (there_declared o here)
+            let told = class_told o k class here in
+            let within : ran.biases.biases.class o < length p.classes = subst (λ n. n < length p.classes) (sym told.0) at.0 in
+            let none : (line_of c (ran.biases.biases.class o)).revoke ≡ 0 =
+            ap (λ n. (line_of c n).revoke) told.0 ∙ ap (λ (x : ClassLine). x.revoke) at.1 ∙ unrevoked.2 in
+            ran.biases.biases.biases.entered (sym of.bias ∙ biased) o path told.1
             (sym (revoke_is heap c ran.biases ran.heap_is is.threads_few short (ran.biases.biases.class o) within) ∙ none) first
         | inr past ↦ let none = ap first_path (none_past o past) in absurd (cc (none, first))
       ])
 
-  taken_at_most : (o : ℕ) (line : ClassLine) → slice_get r.classes (class_of r.program o) ≡ Some line
+  taken_at_most : (o k : ℕ) (line : ClassLine) → class_in r o ≡ Some k → slice_get r.classes k ≡ Some line
       → times_taken o (entries_on o (order r.logs)) ≤ line.rebias + 1
-  taken_at_most o line e =
-      let k : ℕ = class_of r.program o in
+  taken_at_most o k line class e =
       let at = line_here k line e in
       let times = ap (λ (x : List (List Logged)). times_taken o (entries_on o (order x))) copy.logs in
-      elim (cases_lt o (declared_total p)) [
+      elim (cases_lt o (length (shape_of p))) [
         | inl here ↦
-            let class = class_declared o here in
-            let within : ran.biases.biases.class o < length p.classes = subst (λ n. n < length p.classes) (sym class) at.0 in
+            let told = class_told o k class here in
+            let within : ran.biases.biases.class o < length p.classes = subst (λ n. n < length p.classes) (sym told.0) at.0 in
             let few = taken_few heap c ran.biases ran.heap_is is.threads_few short o within in
-            let counted = ap (λ n. (line_of c n).rebias) class ∙ ap (λ (x : ClassLine). x.rebias) at.1 in
+            let counted = ap (λ n. (line_of c n).rebias) told.0 ∙ ap (λ (x : ClassLine). x.rebias) at.1 in
             omega (arith, few, times, counted)
         | inr past ↦ let none = ap (times_taken o) (none_past o past) in omega (arith, times, none)
       ]

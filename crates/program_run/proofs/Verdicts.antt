@@ -1,5 +1,5 @@
 -- How many verdicts the lines of a record tell, against the entries that were logged.
-use Rattle.std.proofs.Common.{◌≡◌, ℕ, zero, suc, ◌+◌, ◌*◌, ◌<◌, ◌≤◌, Bool, true, false, if◌then◌else◌, List, [], ◌∷◌, length, drop, map, Some, refl, ap, ◌∙◌, subst, arith, inl, inr}
+use Rattle.std.proofs.Common.{◌≡◌, ℕ, zero, suc, ◌+◌, ◌*◌, ◌<◌, ◌≤◌, Bool, true, false, if◌then◌else◌, List, [], ◌∷◌, length, drop, map, Some, refl, ap, ◌∙◌, subst, arith}
 use Rattle.std.specs.Prelude.{nat_le, slice_get, slice_index_or}
 use Rattle.std.specs.List.{AllByRecursion, sum_by}
 use Rattle.std.proofs.lemmas.Bool.Decides.{nat_tests}
@@ -20,7 +20,7 @@ use Rattle.plain_monitor.specs.History.{log_of}
 use Rattle.run_rounds.specs.Outcome.{verdicts_beyond}
 use Rattle.program_run.specs.Biases as biases
 use Rattle.program_run.specs.Biases.{HasBiases}
-use Rattle.program_run.specs.Lines.{counts_on, no_counts, total_on}
+use Rattle.program_run.specs.Lines.{counts_on, total_on}
 use Rattle.program_run.specs.Verdicts.{IsSum, entries_in, most_verdicts, verdicts_by}
 use Rattle.program_run.proofs.Counted.{sum_front}
 

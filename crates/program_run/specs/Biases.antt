@@ -1,5 +1,5 @@
 -- What the law of biases says of a run, by its record.
-use Rattle.std.specs.Prelude.{◌≡◌, ◌⊎◌, ℕ, ◌+◌, ◌*◌, ◌%◌, ◌==◌, ◌&&◌, ◌≤◌, min, nat_le, if◌then◌else◌, Bool, true, false, [], length, slice_get, slice_index_or, Some}
+use Rattle.std.specs.Prelude.{◌≡◌, ◌⊎◌, ℕ, ◌+◌, ◌*◌, ◌%◌, ◌==◌, ◌&&◌, ◌≤◌, min, nat_le, if◌then◌else◌, Bool, true, false, [], length, slice_get, slice_index_or, Option, Some, option_and_then}
 use Rattle.std.specs.List.{AllByRecursion, list_any}
 use Rattle.lock_policy.specs.Policy.{rebias_threshold, revoke_threshold, most_revocations}
 use Rattle.core_law.specs.CountsAndVerdicts.{CountFits}
@@ -8,16 +8,21 @@ use Rattle.core_law.specs.TakenBiases.{times_taken, OwnsAreTaken}
 use Rattle.heap_table.specs.Seen.{ClosedSeen}
 use Rattle.lock_journal.specs.declared.record.ClassLine.{ClassLine}
 use Rattle.lock_journal.specs.declared.record.RunRecord.{RunRecord}
-use Rattle.object_program.specs.Program.{class_of}
+use Rattle.object_program.specs.Program.{numbering_of}
 use Rattle.plain_history.specs.EnterPaths.{entries_on, first_path, needs_bias, EndsStay, PathsFit}
 use Rattle.plain_history.specs.HeldByLog.{nothing_held}
 use Rattle.plain_monitor.specs.declared.entry.Path.{Path}
 use Rattle.plain_monitor.specs.declared.entry.Path.TheVariants.{BiasTaken}
 use Rattle.plain_monitor.specs.History.{log_of}
+use Rattle.plain_monitor.specs.Made.{class_of, made_after}
 use Rattle.plain_monitor.specs.Order.{order}
 use Rattle.run_rounds.specs.Outcome.{verdicts_beyond}
 use Rattle.program_run.specs.Lines.{total_on}
 use Rattle.program_run.specs.Verdicts.{IsSum, verdicts_by}
+
+-- the class of object o, where it is there behind all entries: that of its declaration, or of the New that made it
+abbrev pub class_in : RunRecord → ℕ → Option ℕ
+class_in r o = option_and_then (λ made. class_of (numbering_of r.program) made o) (made_after (numbering_of r.program) r.logs)
 
 -- the class with this line wasn't revoked in bulk
 abbrev pub IsUnrevoked : RunRecord → ℕ → Type 0
@@ -55,7 +60,7 @@ pub record HasBiases (tick : ℕ) (r : RunRecord) (c : ClosedSeen) : Type 0 wher
   pub paths : (t : ℕ) → PathsFit nothing_held (log_of r.logs t)
   -- with biases, and where the class wasn't revoked in bulk, an object with an Enter has BiasTaken as its first path, or a
   -- Hash of it is logged
-  pub entered : r.bias ≡ true → (o : ℕ) (path : Path) → IsUnrevoked r (class_of r.program o)
+  pub entered : r.bias ≡ true → (o k : ℕ) (path : Path) → class_in r o ≡ Some k → IsUnrevoked r k
       → first_path (entries_on o (order r.logs)) ≡ Some path → (path ≡ BiasTaken) ⊎ IsHashLogged r.logs o
   -- the count of each class fits the verdicts on it, and how often it was set to 0
   pub counts : (k : ℕ) (line : ClassLine) → slice_get r.classes k ≡ Some line
@@ -74,5 +79,5 @@ pub record HasBiases (tick : ℕ) (r : RunRecord) (c : ClosedSeen) : Type 0 wher
   -- in each log an Enter by the path BiasOwn stands after one of its object by BiasTaken
   pub taken : (t : ℕ) → OwnsAreTaken (log_of r.logs t)
   -- the bias of an object was taken at most once more than its class was rebiased in bulk
-  pub few : (o : ℕ) (line : ClassLine) → slice_get r.classes (class_of r.program o) ≡ Some line
+  pub few : (o k : ℕ) (line : ClassLine) → class_in r o ≡ Some k → slice_get r.classes k ≡ Some line
       → times_taken o (entries_on o (order r.logs)) ≤ line.rebias + 1

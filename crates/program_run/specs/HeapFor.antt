@@ -5,7 +5,8 @@ use Rattle.core_world.specs.Words.Shape.{Shape}
 use Rattle.object_program.specs.Program.{ProgramText, declared_total, shape_of}
 use Rattle.program_run.specs.declared.settings.Settings.{Settings}
 
--- it has a place for each thread and each class, and the program's objects, of which the declared ones have the first numbers
+-- it has a place for each thread and each class, and the program's objects, of which the declared ones have the first numbers; the others are those
+-- that threads may make
 abbrev pub shape_for : ProgramText → Shape
 shape_for p = record { threads = length p.threads; classes = length p.classes; declared = declared_total p; objects = shape_of p }
 

@@ -12,7 +12,7 @@ use Rattle.plain_monitor.specs.History.{log_of}
 use Rattle.plain_history.specs.Cuts.{cut_logs, IsCutInOrder}
 
 -- the shot cuts each log somewhere, so that tied entries keep their order, and has the owner and the count of each object of the machine after
--- the logs that are cut so
+-- the logs that are cut so; the number of an object that isn't there yet has no owner, and the count 0
 pub record IsRightShot (p : ProgramText) (fuel : ℕ) (logs : List (List Logged)) (shot : Shot) : Type 0 where
   pub threads : length shot.cut ≡ length logs
   pub within : (u : ℕ) → slice_index shot.cut u ≤ length (log_of logs u)

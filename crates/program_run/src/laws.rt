@@ -33,6 +33,7 @@ pub fn the_record_tells_the_run()
     thread_logs::threads_stay_theirs();
     machine_laws::machines_stay_reached();
     machine_laws::each_entry_uses_up_work();
+    run_ends::the_end_of_a_heap_tells_its_run();
     run_ends::the_end_of_a_heap_tells_its_prototypes();
 }
 

@@ -5,14 +5,14 @@ ghost use Rattle.heap_table.specs.Seen.{ClosedSeen};
 ghost use Rattle.lock_journal.specs.declared.record.ClassLine.{ClassLine};
 ghost use Rattle.lock_journal.specs.declared.record.RunRecord.{RunRecord};
 ghost use Rattle.lock_journal.specs.declared.record.Shot.{Shot};
-ghost use Rattle.object_program.specs.Program.{ProgramText, class_of};
+ghost use Rattle.object_program.specs.Program.{ProgramText};
 ghost use Rattle.plain_history.specs.Tied.{is_tied};
 ghost use Rattle.plain_monitor.specs.declared.entry.Entry.TheVariants.{Enter, Exit};
 ghost use Rattle.plain_monitor.specs.declared.entry.Path.TheVariants.{BiasOwn, BiasTaken};
 ghost use Rattle.plain_monitor.specs.declared.entry.Logged.{Logged};
 ghost use Rattle.plain_monitor.specs.History.{log_of};
 ghost use Rattle.plain_monitor.specs.Order.{is_before};
-ghost use Rattle.program_run.specs.Biases.{HasBiases};
+ghost use Rattle.program_run.specs.Biases.{HasBiases, class_in};
 ghost use Rattle.program_run.specs.Shots.{AreRightShots, shots_of};
 
 /// A thread takes the bias of an object and lets go of it, and another one, which never took it, enters the object by a bias of its own.
@@ -25,10 +25,10 @@ pub fn no_record_with_a_bias_from_nowhere()
 
 /// Two threads take the bias of an object, one after the other, and its class was never rebiased in bulk.
 pub fn no_record_with_a_bias_that_wanders()
-    ensures { (tick : ℕ) (r : RunRecord) (c : ClosedSeen) (line : ClassLine)
+    ensures { (tick k : ℕ) (r : RunRecord) (c : ClosedSeen) (line : ClassLine)
         → r.logs ≡ (record { stamp = 1; entry = Enter 0 BiasTaken } ∷ record { stamp = 2; entry = Exit 0 } ∷ [])
         ∷ (record { stamp = 3; entry = Enter 0 BiasTaken } ∷ []) ∷ []
-        → slice_get r.classes (class_of r.program 0) ≡ Some line → line.rebias ≡ 0
+        → class_in r 0 ≡ Some k → slice_get r.classes k ≡ Some line → line.rebias ≡ 0
         → HasBiases tick r c → ⊥ }
 {}
 

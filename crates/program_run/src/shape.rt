@@ -1,18 +1,34 @@
 //! The shape of a program's heap.
 
 ghost use Rattle.std.specs.Prelude.{◌≡◌, ◌++◌, map, replicate, IfOk, OnOk};
+ghost use Rattle.object_program.specs.Program.{classes_from};
 ghost use Rattle.object_program.specs.Valid.{IsProgram};
 ghost use Rattle.program_run.specs.HeapFor.{shape_for};
-ghost use Rattle.program_run.specs.inner.HeapFor.{classes_of};
+ghost use Rattle.program_run.specs.inner.HeapFor.{declared_for};
 
 use heap_table::HeapShape;
 use object_program::Program;
 use plain_monitor::NoMemory;
 use std::alloc::Global;
 
-/// The shape of a heap for the program: it has its threads, classes and objects.
+/// The shape of a heap for the program: it has its threads, classes and objects, and numbers for those that threads
+/// may make.
 pub fn heap_shape(alloc: Global, program: &Program) -> Result<HeapShape, NoMemory>
     ensures shape { IfOk result (λ s. s ≡ shape_for program.now) }
+    ensures program { IfOk result (λ _. IsProgram program.now) }
+{
+    let shape = declared_shape(alloc, program)?;
+    let total = program.objects_total();
+    let declared = program.declared_total();
+    if total == declared {
+        return Ok(shape);
+    }
+    shape.with_made(program.made_slots())
+}
+
+// The same without those numbers.
+fn declared_shape(alloc: Global, program: &Program) -> Result<HeapShape, NoMemory>
+    ensures shape { IfOk result (λ s. s ≡ declared_for program.now) }
     ensures program { IfOk result (λ _. IsProgram program.now) }
 {
     let slots = slots_by_class(alloc, program)?;
@@ -39,9 +55,9 @@ fn slots_by_class(alloc: Global, program: &Program) -> Result<Vec<u32>, NoMemory
     Ok(slots)
 }
 
-// The class of each object.
+// The class of each declared object.
 fn classes_by_object(alloc: Global, program: &Program) -> Result<Vec<u32>, NoMemory>
-    ensures { IfOk result (λ v. v.items ≡ classes_of program.now.objects) }
+    ensures { IfOk result (λ v. v.items ≡ classes_from program.now.objects) }
 {
     let mut classes = Vec::new(alloc);
     for definition in program.objects.items() {

@@ -40,7 +40,7 @@ IsAllowedText-class p c h name new slots room =
       objects = AreObjects-more _ _ 0 (omega arith) p.objects h.objects;
       objects_few = h.objects_few;
       thread_names = h.thread_names;
-      threads = h.threads;
+      threads = all_weaker _ _ (IsThread-more _ _ _ _ (omega arith) (omega arith)) p.threads h.threads;
       threads_few = h.threads_few;
     }
 
@@ -57,7 +57,7 @@ IsAllowedText-object p d h name new here room =
       objects = AreObjects-push _ 0 (total_of p.objects) p.objects d (omega arith) h.objects here;
       objects_few = omega (arith, total_of-push p.objects d);
       thread_names = h.thread_names;
-      threads = all_weaker _ _ (IsThread-more _ _ (omega arith)) p.threads h.threads;
+      threads = all_weaker _ _ (IsThread-more _ _ _ _ (omega arith) (omega arith)) p.threads h.threads;
       threads_few = h.threads_few;
     }
 
@@ -66,14 +66,14 @@ abbrev at_end : Ahead
 at_end = record { labels = λ n. []; closed = true }
 
 -- a thread whose section is closed
-IsThread-closed : (objects : ℕ) (names : List (List ℕ)) (t : ThreadDef) → IsOpen objects names at_end t → length t.code < most_code
-    → IsThread objects (record t { code = t.code ++ code.End ∷ [] })
-IsThread-closed objects names t o room =
+IsThread-closed : (classes objects : ℕ) (names : List (List ℕ)) (t : ThreadDef) → IsOpen classes objects names at_end t → length t.code < most_code
+    → IsThread classes objects (record t { code = t.code ++ code.End ∷ [] })
+IsThread-closed classes objects names t o room =
     let l = length t.locals in
     let one : length (t.code ++ code.End ∷ []) ≡ length t.code + 1 = length_push t.code code.End in
-    let seen : AllByRecursion (IsInstruction l objects (t.labels ++ [])) t.code = all_weaker _ _ (λ c i. i.operands) t.code o.code in
-    let all : AllByRecursion (IsInstruction l objects t.labels) t.code =
-    subst (λ ls. AllByRecursion (IsInstruction l objects ls) t.code) (append-nil t.labels) seen in
+    let seen : AllByRecursion (IsInstruction classes l objects (t.labels ++ [])) t.code = all_weaker _ _ (λ c i. i.operands) t.code o.code in
+    let all : AllByRecursion (IsInstruction classes l objects t.labels) t.code =
+    subst (λ ls. AllByRecursion (IsInstruction classes l objects ls) t.code) (append-nil t.labels) seen in
     record {
       locals = o.locals;
       locals_few = o.locals_few;
@@ -81,7 +81,7 @@ IsThread-closed objects names t o room =
       targets = AreTargets-more _ _ 1 (omega arith) t.labels o.targets;
       code = all_push _ t.code code.End all tt;
       code_few = omega arith;
-      ends = EndsOnce-push l objects (t.labels ++ []) t.code o.code;
+      ends = EndsOnce-push classes l objects (t.labels ++ []) t.code o.code;
     }
 
 IsAllowedText-thread : (p : ProgramText) (t : ThreadDef) → IsAllowedText p → IsOpenIn p at_end t → length t.code < most_code
@@ -97,14 +97,15 @@ IsAllowedText-thread p t h o room =
       objects = h.objects;
       objects_few = h.objects_few;
       thread_names = AreNames-push_map (λ u. u.name) p.threads closed h.thread_names o.name o.new;
-      threads = all_push _ p.threads closed h.threads (IsThread-closed (length p.objects) _ t o room);
+      threads = all_push _ p.threads closed h.threads (IsThread-closed (length p.classes) (length p.objects) _ t o room);
       threads_few = let few = o.room in omega (arith, length-map p.threads (λ (u : ThreadDef). u.name));
     }
 
 -- a local of an open section
-IsOpen-local : (objects : ℕ) (names : List (List ℕ)) (ahead : Ahead) (t : ThreadDef) (name : List ℕ) → IsOpen objects names ahead t
-    → IsTrue (is_name name) → is_among t.locals name ≡ false → length t.locals < most_locals → IsOpen objects names ahead (record t { locals = t.locals ++ name ∷ [] })
-IsOpen-local objects names ahead t name o here new room =
+IsOpen-local : (classes objects : ℕ) (names : List (List ℕ)) (ahead : Ahead) (t : ThreadDef) (name : List ℕ) → IsOpen classes objects names ahead t
+    → IsTrue (is_name name) → is_among t.locals name ≡ false → length t.locals < most_locals
+    → IsOpen classes objects names ahead (record t { locals = t.locals ++ name ∷ [] })
+IsOpen-local classes objects names ahead t name o here new room =
     let one : length (t.locals ++ name ∷ []) ≡ length t.locals + 1 = length_push t.locals name in
     record {
       name = o.name;
@@ -114,7 +115,7 @@ IsOpen-local objects names ahead t name o here new room =
       locals_few = omega arith;
       labels = o.labels;
       targets = o.targets;
-      code = all_weaker _ _ (IsOpenCode-more _ _ _ _ (omega arith)) t.code o.code;
+      code = all_weaker _ _ (IsOpenCode-more _ _ _ _ _ (omega arith)) t.code o.code;
       closed = o.closed;
     }
 
@@ -123,13 +124,13 @@ abbrev at_label : List ℕ → List (List ℕ) → Ahead
 at_label name later = record (ahead_of later) { labels = λ n. record { name = name; index = n } ∷ [] ++ labels_ahead n later }
 
 -- a label of an open section, for the instruction behind it
-IsOpen-label : (objects : ℕ) (names : List (List ℕ)) (later : List (List ℕ)) (t : ThreadDef) (name : List ℕ) → IsOpen objects names (at_label name later) t
-    → IsTrue (is_name name) → is_among (map (λ l. l.name) t.labels) name ≡ false
-    → IsOpen objects names (ahead_of later) (record t { labels = t.labels ++ record { name = name; index = length t.code + 1 } ∷ [] })
-IsOpen-label objects names later t name o here new =
+IsOpen-label : (classes objects : ℕ) (names : List (List ℕ)) (later : List (List ℕ)) (t : ThreadDef) (name : List ℕ)
+    → IsOpen classes objects names (at_label name later) t → IsTrue (is_name name) → is_among (map (λ l. l.name) t.labels) name ≡ false
+    → IsOpen classes objects names (ahead_of later) (record t { labels = t.labels ++ record { name = name; index = length t.code + 1 } ∷ [] })
+IsOpen-label classes objects names later t name o here new =
     let next = length t.code + 1 in
     let label : LabelDef = record { name = name; index = next } in
-    let IsAll : List LabelDef → Type 0 = λ ls. AllByRecursion (IsOpenCode (length t.locals) objects ls) t.code in
+    let IsAll : List LabelDef → Type 0 = λ ls. AllByRecursion (IsOpenCode classes (length t.locals) objects ls) t.code in
     record {
       name = o.name;
       new = o.new;
@@ -147,11 +148,12 @@ abbrev at_code : List (List ℕ) → Ahead
 at_code later = record (ahead_of later) { labels = λ n. labels_ahead (n + 1) later }
 
 -- an instruction of an open section
-IsOpen-code : (objects : ℕ) (names : List (List ℕ)) (later : List (List ℕ)) (t : ThreadDef) (c : Code) → IsOpen objects names (at_code later) t
-    → IsOpenCode (length t.locals) objects (section_labels t later) c → IsOpen objects names (ahead_of later) (record t { code = t.code ++ c ∷ [] })
-IsOpen-code objects names later t c o here =
+IsOpen-code : (classes objects : ℕ) (names : List (List ℕ)) (later : List (List ℕ)) (t : ThreadDef) (c : Code) → IsOpen classes objects names (at_code later) t
+    → IsOpenCode classes (length t.locals) objects (section_labels t later) c
+    → IsOpen classes objects names (ahead_of later) (record t { code = t.code ++ c ∷ [] })
+IsOpen-code classes objects names later t c o here =
     let one : length (t.code ++ c ∷ []) ≡ length t.code + 1 = length_push t.code c in
-    let IsAll : List Code → ℕ → Type 0 = λ cs n. AllByRecursion (IsOpenCode (length t.locals) objects (t.labels ++ labels_ahead n later)) cs in
+    let IsAll : List Code → ℕ → Type 0 = λ cs n. AllByRecursion (IsOpenCode classes (length t.locals) objects (t.labels ++ labels_ahead n later)) cs in
     let before : length t.code + 1 + 1 ≡ length t.code + 2 = omega arith in
     let behind : length t.code + 2 ≡ length (t.code ++ c ∷ []) + 1 = omega arith in
     let all : IsAll t.code (length t.code + 2) = subst (IsAll t.code) before o.code in
@@ -233,7 +235,7 @@ local_kept : (p : ProgramText) (t : ThreadDef) (later ws : List (List ℕ)) → 
     → HasNoCause (in_thread p t) later ws Local → IsAllowedSoFar (behind_keyword (in_thread p t) later ws Local) (ahead_of later)
 local_kept p t later ws h o n =
     let name = operand_fine (in_thread p t) later (operands_of Local) ws 0 (New Locals) refl n.operands in
-    record { text = h; section = IsOpen-local _ _ _ t (operand ws 0) o name.0 name.1 (leb-false _ _ n.limit) }
+    record { text = h; section = IsOpen-local _ _ _ _ t (operand ws 0) o name.0 name.1 (leb-false _ _ n.limit) }
 
 -- the label of a line is the one that the lines before it had ahead
 label_kept : (p : ProgramText) (t : ThreadDef) (later : List (List ℕ)) (w : List ℕ) (ws : List (List ℕ)) → IsAllowedText p
@@ -244,7 +246,7 @@ label_kept p t later w (l ∷ m ∷ ws) h o n = absurd n.operands.1
 label_kept p t later w (l ∷ []) h o n =
     let name = n.operands.0 in
     let seen : IsOpenIn p (at_label l later) t = rw name.0 at o in
-    record { text = h; section = IsOpen-label _ _ later t l seen name.0 name.1 }
+    record { text = h; section = IsOpen-label _ _ _ later t l seen name.0 name.1 }
 
 -- a line of an open section
 section_kept : (p : ProgramText) (t : ThreadDef) (later : List (List ℕ)) (w : List ℕ) (ws : List (List ℕ)) (k : Keyword) → IsAllowedText p
@@ -258,9 +260,9 @@ section_kept p t later w ws Local h o n = local_kept p t later ws h o n
 section_kept p t later w ws Label h o n = label_kept p t later w ws h o n
 section_kept p t later w ws End h o n = record { text = IsAllowedText-thread p t h o (leb-false _ _ n.limit); section = tt }
 section_kept p t later w ws k h o n =
-    let c : IsOpenCode (length t.locals) (length p.objects) (section_labels t later) (instruction_on p t later ws k) =
+    let c : IsOpenCode (length p.classes) (length t.locals) (length p.objects) (section_labels t later) (instruction_on p t later ws k) =
     record { goes_on = λ e. absurd (cc e); operands = instruction_fine p t later ws k n.operands } in
-    record { text = h; section = IsOpen-code _ _ later t (instruction_on p t later ws k) o c }
+    record { text = h; section = IsOpen-code _ _ _ later t (instruction_on p t later ws k) o c }
 
 -- a line outside sections
 outside_kept : (p : ProgramText) (later ws : List (List ℕ)) (k : Keyword) → IsAllowedText p → HasNoCause (outside p) later ws k

@@ -8,12 +8,12 @@ use Rattle.program_syntax.specs.Number.{number_of, is_within}
 use Rattle.object_program.specs.Program.{ProgramText}
 use Rattle.object_program.specs.Valid.{IsInstruction, is_target}
 use Rattle.program_syntax.specs.Line.{a_local, a_slot, operands_of}
-use Rattle.program_syntax.specs.declared.operand.Space.TheVariants.{Objects, Labels}
+use Rattle.program_syntax.specs.declared.operand.Space.TheVariants.{Classes, Objects, Labels}
 use Rattle.program_syntax.specs.declared.operand.Operand.TheVariants.{Known, Number}
-use Rattle.program_syntax.specs.Reading.{Before, operand, number_at, count_at, local_at, object_at, target_at, section_labels, instruction_on}
+use Rattle.program_syntax.specs.Reading.{Before, operand, number_at, count_at, local_at, object_at, class_at, target_at, section_labels, instruction_on}
 use Rattle.object_program.specs.declared.program.ThreadDef.{ThreadDef}
 use Rattle.program_syntax.specs.declared.keyword.Keyword.{Keyword}
-use Rattle.program_syntax.specs.declared.keyword.Keyword.TheVariants.{Set, Add, Sub, Mul, Ref, Elem, Enter, Exit, Wait, Notify, NotifyAll, Get, Put, Hash, Print, Jump, Jlt, Jeq}
+use Rattle.program_syntax.specs.declared.keyword.Keyword.TheVariants.{Set, Add, Sub, Mul, Ref, Elem, Enter, Exit, Wait, Notify, NotifyAll, Get, Put, Hash, New, Print, Jump, Jlt, Jeq}
 use Rattle.program_syntax.proofs.AllowedNames.{number_among-lt}
 use Rattle.program_syntax.proofs.AllowedLabels.{is_target-target_among}
 use Rattle.program_syntax.proofs.AllowedCause.{AreFine, operand_fine}
@@ -52,6 +52,11 @@ module _ (p : ProgramText) (t : ThreadDef) (later ws : List (List ℕ)) where
       let known = operand_fine (in_thread p t) later (operands_of k) ws i (Known Objects) wanted h in
       subst (λ l. object_at p ws i < l) (length-map p.objects (λ d. d.name)) (number_among-lt (map (λ d. d.name) p.objects) (operand ws i) known.1)
 
+  class_fine : (k : Keyword) (i : ℕ) → slice_get (operands_of k) i ≡ Some (Known Classes) → IsFineLine k → class_at p ws i < length p.classes
+  class_fine k i wanted h =
+      let known = operand_fine (in_thread p t) later (operands_of k) ws i (Known Classes) wanted h in
+      subst (λ l. class_at p ws i < l) (length-map p.classes (λ c. c.name)) (number_among-lt (map (λ c. c.name) p.classes) (operand ws i) known.1)
+
   slot_fine : (k : Keyword) (i : ℕ) → slice_get (operands_of k) i ≡ Some a_slot → IsFineLine k → count_at ws i < most_slots
   slot_fine k i wanted h =
       let between = count_between 0 (most_slots - 1) ws i (operand_fine (in_thread p t) later (operands_of k) ws i a_slot wanted h) in
@@ -70,7 +75,7 @@ module _ (p : ProgramText) (t : ThreadDef) (later ws : List (List ℕ)) where
 
   -- all operands of the instruction, by the line's keyword
   pub instruction_fine : (k : Keyword) → IsFineLine k
-      → IsInstruction (length t.locals) (length p.objects) (section_labels t later) (instruction_on p t later ws k)
+      → IsInstruction (length p.classes) (length t.locals) (length p.objects) (section_labels t later) (instruction_on p t later ws k)
   instruction_fine Set h = (local_fine Set 0 refl h, number_fine h)
   instruction_fine Add h = (local_fine Add 0 refl h, local_fine Add 1 refl h, local_fine Add 2 refl h)
   instruction_fine Sub h = (local_fine Sub 0 refl h, local_fine Sub 1 refl h, local_fine Sub 2 refl h)
@@ -85,6 +90,7 @@ module _ (p : ProgramText) (t : ThreadDef) (later ws : List (List ℕ)) where
   instruction_fine Get h = (local_fine Get 0 refl h, local_fine Get 1 refl h, slot_fine Get 2 refl h)
   instruction_fine Put h = (local_fine Put 0 refl h, slot_fine Put 1 refl h, local_fine Put 2 refl h)
   instruction_fine Hash h = (local_fine Hash 0 refl h, local_fine Hash 1 refl h)
+  instruction_fine New h = (local_fine New 0 refl h, class_fine New 1 refl h)
   instruction_fine Print h = local_fine Print 0 refl h
   instruction_fine Jump h = target_fine Jump 0 refl h
   instruction_fine Jlt h = (local_fine Jlt 0 refl h, local_fine Jlt 1 refl h, target_fine Jlt 2 refl h)

@@ -25,7 +25,7 @@ pub record IsAllowedText (p : ProgramText) : Type 0 where
   pub objects : AreObjects (length p.classes) 0 p.objects
   pub objects_few : total_of p.objects ≤ most_objects
   pub thread_names : AreNames (map (λ t. t.name) p.threads)
-  pub threads : AllByRecursion (IsThread (length p.objects)) p.threads
+  pub threads : AllByRecursion (IsThread (length p.classes) (length p.objects)) p.threads
   pub threads_few : length p.threads ≤ most_threads
 
 -- what lines hold for the section that is open before them: its labels on them, where the next instruction has number n, and
@@ -49,12 +49,12 @@ abbrev pub labels_with : Ahead → ThreadDef → List LabelDef
 labels_with ahead t = t.labels ++ ahead.labels (length t.code + 1)
 
 -- an instruction of an open section, which isn't its end
-pub record IsOpenCode (locals objects : ℕ) (labels : List LabelDef) (c : Code) : Type 0 where
+pub record IsOpenCode (classes locals objects : ℕ) (labels : List LabelDef) (c : Code) : Type 0 where
   pub goes_on : c ≡ End → ⊥
-  pub operands : IsInstruction locals objects labels c
+  pub operands : IsInstruction classes locals objects labels c
 
 -- the thread of an open section, where the closed ones have these names
-pub record IsOpen (objects : ℕ) (names : List (List ℕ)) (ahead : Ahead) (t : ThreadDef) : Type 0 where
+pub record IsOpen (classes objects : ℕ) (names : List (List ℕ)) (ahead : Ahead) (t : ThreadDef) : Type 0 where
   pub name : IsTrue (is_name t.name)
   pub new : is_among names t.name ≡ false
   pub room : length names < most_threads
@@ -62,12 +62,12 @@ pub record IsOpen (objects : ℕ) (names : List (List ℕ)) (ahead : Ahead) (t :
   pub locals_few : length t.locals ≤ most_locals
   pub labels : AreNames (map (λ l. l.name) t.labels)
   pub targets : AreTargets (length t.code + 1) 1 t.labels
-  pub code : AllByRecursion (IsOpenCode (length t.locals) objects (labels_with ahead t)) t.code
+  pub code : AllByRecursion (IsOpenCode classes (length t.locals) objects (labels_with ahead t)) t.code
   pub closed : ahead.closed ≡ true
 
 -- the thread may be that of the open section of this program
 abbrev pub IsOpenIn : ProgramText → Ahead → ThreadDef → Type 0
-IsOpenIn p ahead t = IsOpen (length p.objects) (map (λ u. u.name) p.threads) ahead t
+IsOpenIn p ahead t = IsOpen (length p.classes) (length p.objects) (map (λ u. u.name) p.threads) ahead t
 
 abbrev pub IsSection : ProgramText → Ahead → Option ThreadDef → Type 0
 IsSection p ahead None = Unit {0}
@@ -77,43 +77,44 @@ pub record IsAllowedSoFar (b : Before) (ahead : Ahead) : Type 0 where
   pub text : IsAllowedText b.text
   pub section : IsSection b.text ahead b.section
 
--- more locals or declarations leave an instruction's operands in range
-pub IsInstruction-more : (l m o p : ℕ) (labels : List LabelDef) → l ≤ m → o ≤ p → (c : Code) → IsInstruction l o labels c → IsInstruction m p labels c
-IsInstruction-more l m o p labels lm op (Set x v) h = (omega arith, h.1)
-IsInstruction-more l m o p labels lm op (Add x y z) h = omega arith
-IsInstruction-more l m o p labels lm op (Sub x y z) h = omega arith
-IsInstruction-more l m o p labels lm op (Mul x y z) h = omega arith
-IsInstruction-more l m o p labels lm op (Ref x d) h = omega arith
-IsInstruction-more l m o p labels lm op (Elem x d i) h = omega arith
-IsInstruction-more l m o p labels lm op (Enter x) h = omega arith
-IsInstruction-more l m o p labels lm op (Exit x) h = omega arith
-IsInstruction-more l m o p labels lm op (Wait x) h = omega arith
-IsInstruction-more l m o p labels lm op (Notify x) h = omega arith
-IsInstruction-more l m o p labels lm op (NotifyAll x) h = omega arith
-IsInstruction-more l m o p labels lm op (Get x y s) h = omega arith
-IsInstruction-more l m o p labels lm op (Put y s x) h = omega arith
-IsInstruction-more l m o p labels lm op (Hash x y) h = omega arith
-IsInstruction-more l m o p labels lm op (New x c) h = h
-IsInstruction-more l m o p labels lm op (Print x) h = omega arith
-IsInstruction-more l m o p labels lm op (Jump t) h = h
-IsInstruction-more l m o p labels lm op (Jlt x y t) h = (omega arith, omega arith, h.2)
-IsInstruction-more l m o p labels lm op (Jeq x y t) h = (omega arith, omega arith, h.2)
-IsInstruction-more l m o p labels lm op Dump h = tt
-IsInstruction-more l m o p labels lm op End h = tt
+-- more classes, locals or declarations leave an instruction's operands in range
+pub IsInstruction-more : (b c l m o p : ℕ) (labels : List LabelDef) → b ≤ c → l ≤ m → o ≤ p → (i : Code) → IsInstruction b l o labels i
+    → IsInstruction c m p labels i
+IsInstruction-more b c l m o p labels bc lm op (Set x v) h = (omega arith, h.1)
+IsInstruction-more b c l m o p labels bc lm op (Add x y z) h = omega arith
+IsInstruction-more b c l m o p labels bc lm op (Sub x y z) h = omega arith
+IsInstruction-more b c l m o p labels bc lm op (Mul x y z) h = omega arith
+IsInstruction-more b c l m o p labels bc lm op (Ref x d) h = omega arith
+IsInstruction-more b c l m o p labels bc lm op (Elem x d i) h = omega arith
+IsInstruction-more b c l m o p labels bc lm op (Enter x) h = omega arith
+IsInstruction-more b c l m o p labels bc lm op (Exit x) h = omega arith
+IsInstruction-more b c l m o p labels bc lm op (Wait x) h = omega arith
+IsInstruction-more b c l m o p labels bc lm op (Notify x) h = omega arith
+IsInstruction-more b c l m o p labels bc lm op (NotifyAll x) h = omega arith
+IsInstruction-more b c l m o p labels bc lm op (Get x y s) h = omega arith
+IsInstruction-more b c l m o p labels bc lm op (Put y s x) h = omega arith
+IsInstruction-more b c l m o p labels bc lm op (Hash x y) h = omega arith
+IsInstruction-more b c l m o p labels bc lm op (New x d) h = omega arith
+IsInstruction-more b c l m o p labels bc lm op (Print x) h = omega arith
+IsInstruction-more b c l m o p labels bc lm op (Jump t) h = h
+IsInstruction-more b c l m o p labels bc lm op (Jlt x y t) h = (omega arith, omega arith, h.2)
+IsInstruction-more b c l m o p labels bc lm op (Jeq x y t) h = (omega arith, omega arith, h.2)
+IsInstruction-more b c l m o p labels bc lm op Dump h = tt
+IsInstruction-more b c l m o p labels bc lm op End h = tt
 
-pub IsOpenCode-more : (l m o : ℕ) (labels : List LabelDef) → l ≤ m → (c : Code) → IsOpenCode l o labels c → IsOpenCode m o labels c
-IsOpenCode-more l m o labels lm c h =
-    record { goes_on = h.goes_on; operands = IsInstruction-more l m o o labels lm (omega arith) c h.operands }
+pub IsOpenCode-more : (b l m o : ℕ) (labels : List LabelDef) → l ≤ m → (c : Code) → IsOpenCode b l o labels c → IsOpenCode b m o labels c
+IsOpenCode-more b l m o labels lm c h =
+    record { goes_on = h.goes_on; operands = IsInstruction-more b b l m o o labels (omega arith) lm (omega arith) c h.operands }
 
-pub IsThread-more : (o p : ℕ) → o ≤ p → (t : ThreadDef) → IsThread o t → IsThread p t
-IsThread-more o p op t h =
+pub IsThread-more : (b c o p : ℕ) → b ≤ c → o ≤ p → (t : ThreadDef) → IsThread b o t → IsThread c p t
+IsThread-more b c o p bc op t h =
     let l = length t.locals in
     record {
       locals = h.locals;
       locals_few = h.locals_few;
       labels = h.labels;
       targets = h.targets;
-      code = all_weaker _ _ (λ c i. IsInstruction-more l l o p t.labels (omega arith) op c i) t.code h.code;
+      code = all_weaker _ _ (λ i k. IsInstruction-more b c l l o p t.labels bc (omega arith) op i k) t.code h.code;
       code_few = h.code_few;
       ends = h.ends;
     }
@@ -131,7 +132,7 @@ total_of-push [] d = omega arith
 total_of-push (x ∷ xs) d = omega (arith, total_of-push xs d)
 
 -- instructions none of which is an `end`, and then one
-pub EndsOnce-push : (l o : ℕ) (labels : List LabelDef) (cs : List Code) → AllByRecursion (IsOpenCode l o labels) cs → EndsOnce (cs ++ End ∷ [])
-EndsOnce-push l o labels [] h = refl
-EndsOnce-push l o labels (c ∷ []) h = (h.0.goes_on, refl)
-EndsOnce-push l o labels (c ∷ d ∷ cs) h = (h.0.goes_on, EndsOnce-push l o labels (d ∷ cs) h.1)
+pub EndsOnce-push : (b l o : ℕ) (labels : List LabelDef) (cs : List Code) → AllByRecursion (IsOpenCode b l o labels) cs → EndsOnce (cs ++ End ∷ [])
+EndsOnce-push b l o labels [] h = refl
+EndsOnce-push b l o labels (c ∷ []) h = (h.0.goes_on, refl)
+EndsOnce-push b l o labels (c ∷ d ∷ cs) h = (h.0.goes_on, EndsOnce-push b l o labels (d ∷ cs) h.1)

@@ -25,20 +25,23 @@ use Rattle.program_syntax.proofs.CanonicalSections.{section_read}
 abbrev with_threads : ProgramText → List ThreadDef → ProgramText
 with_threads p done = record { classes = p.classes; objects = p.objects; threads = done }
 
-named_by : (ds : List ObjectDef) (t : ThreadDef) → AreNames (map (λ d. d.name) ds) → IsThread (length ds) t → AreNamed ds t
-named_by ds t names is = record { local_names = is.locals; label_names = is.labels; object_names = names }
+named_by : (classes : List ClassDef) (ds : List ObjectDef) (t : ThreadDef) → AreNames (map (λ c. c.name) classes) → AreNames (map (λ d. d.name) ds)
+    → IsThread (length classes) (length ds) t → AreNamed classes ds t
+named_by classes ds t class_names names is =
+    record { local_names = is.locals; label_names = is.labels; class_names = class_names; object_names = names }
 
 threads_read : (final : Before) (p : ProgramText) (done todo : List ThreadDef) (later : List (List ℕ)) → IsProgram p → done ++ todo ≡ p.threads
-    → AllByRecursion (IsThread (length p.objects)) todo → ReadsAs final (outside p) later
-    → ReadsAs final (outside (with_threads p done)) (map line_of (flat_map (thread_lines p.objects) todo) ++ later)
+    → AllByRecursion (IsThread (length p.classes) (length p.objects)) todo → ReadsAs final (outside p) later
+    → ReadsAs final (outside (with_threads p done)) (map line_of (flat_map (thread_lines p.classes p.objects) todo) ++ later)
 threads_read final p done [] later is whole all h =
     subst (λ (ts : List ThreadDef). ReadsAs final (outside (with_threads p ts)) later) (sym whole ∙ append-nil done) h
 threads_read final p done (t ∷ ts) later is whole all h =
     let few = is.threads_few in
     let rest = threads_read final p (done ++ t ∷ []) ts later is (append_assoc done (t ∷ []) ts ∙ whole) all.1 h in
-    let named = named_by p.objects t is.object_names all.0 in
-    subst (λ lines. ReadsAs final (outside (with_threads p done)) lines) (sym (lines-append (thread_lines p.objects t) (flat_map (thread_lines p.objects) ts) later))
-    (section_read final (with_threads p done) t named all.0 (map line_of (flat_map (thread_lines p.objects) ts) ++ later)
+    let named = named_by p.classes p.objects t is.class_names is.object_names all.0 in
+    subst (λ lines. ReadsAs final (outside (with_threads p done)) lines)
+    (sym (lines-append (thread_lines p.classes p.objects t) (flat_map (thread_lines p.classes p.objects) ts) later))
+    (section_read final (with_threads p done) t named all.0 (map line_of (flat_map (thread_lines p.classes p.objects) ts) ++ later)
     (new_in_middle (λ (t : ThreadDef). t.name) done t ts p.threads whole is.thread_names) (omega (arith, length_front done t ts p.threads whole)) rest)
 
 -- the empty line behind the last line feed
@@ -50,7 +53,7 @@ lines_read p is =
     let end = [] ∷ [] in
     let classes = map class_words p.classes in
     let objects = map (object_words p.classes) p.objects in
-    let threads = flat_map (thread_lines p.objects) p.threads in
+    let threads = flat_map (thread_lines p.classes p.objects) p.threads in
     let in_threads = threads_read (outside p) p [] p.threads end is refl is.threads (last_line_read p) in
     let in_objects = objects_read (outside p) p.classes p.objects (map line_of threads ++ end) is.class_names is.object_names is.objects is.objects_few in_threads in
     let in_classes = classes_read (outside p) p.classes (map line_of objects ++ (map line_of threads ++ end)) is.class_names is.class_slots is.classes_few in_objects in
@@ -81,30 +84,35 @@ label_lines : (n : ℕ) (labels : List LabelDef) → AllByRecursion (IsLabelOf n
 label_lines n [] h = tt
 label_lines n (l ∷ ls) h = (label_is_words l h.0.name_is, label_lines n ls h.1)
 
-instruction_lines : (ds : List ObjectDef) (t : ThreadDef) (named : AreNamed ds t) (n : ℕ) (cs : List Code) → AllByRecursion (IsInstruction (length t.locals) (length ds) t.labels) cs
-    → AreLines (code_lines ds t n cs)
-instruction_lines ds t named n [] h = tt
-instruction_lines ds t named n (c ∷ cs) h =
-    lines_behind (map label_words (labels_at n t.labels)) (instruction_words ds t c ∷ code_lines ds t (n + 1) cs)
+instruction_lines : (classes : List ClassDef) (ds : List ObjectDef) (t : ThreadDef) (named : AreNamed classes ds t) (n : ℕ) (cs : List Code)
+    → AllByRecursion (IsInstruction (length classes) (length t.locals) (length ds) t.labels) cs → AreLines (code_lines classes ds t n cs)
+instruction_lines classes ds t named n [] h = tt
+instruction_lines classes ds t named n (c ∷ cs) h =
+    lines_behind (map label_words (labels_at n t.labels)) (instruction_words classes ds t c ∷ code_lines classes ds t (n + 1) cs)
     (label_lines n (labels_at n t.labels) (labels_at_are n t.labels named.label_names))
-    (instruction_is_words ds t named c h.0, instruction_lines ds t named (n + 1) cs h.1)
+    (instruction_is_words classes ds t named c h.0, instruction_lines classes ds t named (n + 1) cs h.1)
 
-section_lines : (ds : List ObjectDef) (t : ThreadDef) → AreNames (map (λ d. d.name) ds) → is_name t.name ≡ true → IsThread (length ds) t → AreLines (thread_lines ds t)
-section_lines ds t names name is =
-    (opening_is_words t name, lines_behind (map local_words t.locals) (code_lines ds t 1 t.code) (local_lines t.locals is.locals) (instruction_lines ds t (named_by ds t names is) 1 t.code is.code))
+section_lines : (classes : List ClassDef) (ds : List ObjectDef) (t : ThreadDef) → AreNames (map (λ c. c.name) classes) → AreNames (map (λ d. d.name) ds)
+    → is_name t.name ≡ true → IsThread (length classes) (length ds) t → AreLines (thread_lines classes ds t)
+section_lines classes ds t class_names names name is = (
+  opening_is_words t name,
+  lines_behind (map local_words t.locals) (code_lines classes ds t 1 t.code) (local_lines t.locals is.locals)
+      (instruction_lines classes ds t (named_by classes ds t class_names names is) 1 t.code is.code),
+)
 
-all_section_lines : (ds : List ObjectDef) (ts : List ThreadDef) → AreNames (map (λ d. d.name) ds) → AreNames (map (λ t. t.name) ts) → AllByRecursion (IsThread (length ds)) ts
-    → AreLines (flat_map (thread_lines ds) ts)
-all_section_lines ds [] names thread_names h = tt
-all_section_lines ds (t ∷ ts) names thread_names h =
-    lines_behind (thread_lines ds t) (flat_map (thread_lines ds) ts) (section_lines ds t names thread_names.0 h.0) (all_section_lines ds ts names thread_names.2 h.1)
+all_section_lines : (classes : List ClassDef) (ds : List ObjectDef) (ts : List ThreadDef) → AreNames (map (λ c. c.name) classes)
+    → AreNames (map (λ d. d.name) ds) → AreNames (map (λ t. t.name) ts) → AllByRecursion (IsThread (length classes) (length ds)) ts → AreLines (flat_map (thread_lines classes ds) ts)
+all_section_lines classes ds [] class_names names thread_names h = tt
+all_section_lines classes ds (t ∷ ts) class_names names thread_names h =
+    lines_behind (thread_lines classes ds t) (flat_map (thread_lines classes ds) ts) (section_lines classes ds t class_names names thread_names.0 h.0)
+    (all_section_lines classes ds ts class_names names thread_names.2 h.1)
 
 all_lines : (p : ProgramText) → IsProgram p → AreLines (program_lines p)
 all_lines p is =
-    lines_behind (map class_words p.classes ++ map (object_words p.classes) p.objects) (flat_map (thread_lines p.objects) p.threads)
+    lines_behind (map class_words p.classes ++ map (object_words p.classes) p.objects) (flat_map (thread_lines p.classes p.objects) p.threads)
     (lines_behind (map class_words p.classes) (map (object_words p.classes) p.objects) (class_lines p.classes is.class_names is.class_slots)
     (object_lines p.classes 0 p.objects is.class_names is.object_names is.objects is.objects_few))
-    (all_section_lines p.objects p.threads is.object_names is.thread_names is.threads)
+    (all_section_lines p.classes p.objects p.threads is.class_names is.object_names is.thread_names is.threads)
 
 program_of_at : (p : ProgramText) (text : List ℕ) → IsProgram p → length text ≤ 1048576 → lines_of text ≡ map line_of (program_lines p) ++ [] ∷ []
     → program_of text ≡ Ok p

@@ -22,14 +22,13 @@ use Rattle.program_syntax.proofs.CanonicalNames.{AreNames-front}
 use Rattle.program_syntax.proofs.CanonicalWords.{opening_is_words}
 use Rattle.program_syntax.proofs.CanonicalReading.{good_new, no_cause, ReadsAs, read_line, IsRead, line_read}
 use Rattle.program_syntax.proofs.CanonicalRuns.{each_adds, each_unit, IsNew, new_among, new_in_middle, length_front, outside, opened, local_line, label_read}
-use Rattle.program_syntax.proofs.CanonicalInstructions.{keyword_for, IsSpelled, spelled, AreNamed, so_far, instruction_read}
+use Rattle.program_syntax.proofs.CanonicalInstructions.{keyword_for, AreNamed, so_far, instruction_read}
 use Rattle.program_syntax.proofs.CanonicalAhead.{IsLabelOf, labels_at_are, lines-append, code_behind, code_lines-cons, ahead_code, closed_locals, closed_code}
 
 -- an instruction that is no `end` leaves the section open
-stays_open : (p : ProgramText) (s : ThreadDef) (c : Code) → IsSpelled c → (c ≡ code.End → ⊥) → section_behind p s (keyword_for c) ≡ opened p s
-stays_open p s code.End k h = absurd (h refl)
-stays_open p s (code.New x c) k h = absurd k
-stays_open p s c k h = refl
+stays_open : (p : ProgramText) (s : ThreadDef) (c : Code) → (c ≡ code.End → ⊥) → section_behind p s (keyword_for c) ≡ opened p s
+stays_open p s code.End h = absurd (h refl)
+stays_open p s c h = refl
 
 -- an `end` closes it
 end_read : (final : Before) (p : ProgramText) (s : ThreadDef) (later : List (List ℕ)) → length s.code < most_code
@@ -57,7 +56,8 @@ opening_line p t later new few closed_behind = record {
   behind = refl;
 }
 
-module _ (final : Before) (p : ProgramText) (t : ThreadDef) (named : AreNamed p.objects t) (is : IsThread (length p.objects) t) where
+module _ (final : Before) (p : ProgramText) (t : ThreadDef) (named : AreNamed p.classes p.objects t)
+    (is : IsThread (length p.classes) (length p.objects) t) where
   -- the thread of the section before instruction n, with the labels and the code before it
   abbrev at_code : ℕ → List Code → Before
   at_code n done = opened p (so_far t (labels_below n t.labels) done)
@@ -81,18 +81,18 @@ module _ (final : Before) (p : ProgramText) (t : ThreadDef) (named : AreNamed p.
 
   -- the labels before an instruction and on the lines behind it are all labels
   all_labels : (n : ℕ) (done cs : List Code) (later : List (List ℕ)) → n ≡ length done + 1 → n + 1 + length cs ≡ length t.code + 1
-      → AllByRecursion (IsInstruction (length t.locals) (length p.objects) t.labels) cs → EndsOnce cs
-      → section_labels (so_far t (labels_below (n + 1) t.labels) done) (map line_of (code_lines p.objects t (n + 1) cs) ++ later) ≡ t.labels
+      → AllByRecursion (IsInstruction (length p.classes) (length t.locals) (length p.objects) t.labels) cs → EndsOnce cs
+      → section_labels (so_far t (labels_below (n + 1) t.labels) done) (map line_of (code_lines p.classes p.objects t (n + 1) cs) ++ later) ≡ t.labels
   all_labels n done cs later e room allowed ends =
       let next : length done + 2 ≡ n + 1 = omega arith in
-      ap (λ (m : ℕ). labels_below (n + 1) t.labels ++ labels_ahead m (map line_of (code_lines p.objects t (n + 1) cs) ++ later)) next
-      ∙ ap (λ ls. labels_below (n + 1) t.labels ++ ls) (ahead_code p.objects t named later (n + 1) cs allowed ends)
+      ap (λ (m : ℕ). labels_below (n + 1) t.labels ++ labels_ahead m (map line_of (code_lines p.classes p.objects t (n + 1) cs) ++ later)) next
+      ∙ ap (λ ls. labels_below (n + 1) t.labels ++ ls) (ahead_code p.classes p.objects t named later (n + 1) cs allowed ends)
       ∙ below_from (length t.code) 1 (n + 1) t.labels cs is.targets room
 
   -- the code from instruction n on, read behind the code before it
   code_read : (n : ℕ) (done cs : List Code) (later : List (List ℕ)) → n ≡ length done + 1 → done ++ cs ≡ t.code
-      → AllByRecursion (IsInstruction (length t.locals) (length p.objects) t.labels) cs → EndsOnce cs
-      → ReadsAs final closed later → ReadsAs final (at_code n done) (map line_of (code_lines p.objects t n cs) ++ later)
+      → AllByRecursion (IsInstruction (length p.classes) (length t.locals) (length p.objects) t.labels) cs → EndsOnce cs
+      → ReadsAs final closed later → ReadsAs final (at_code n done) (map line_of (code_lines p.classes p.objects t n cs) ++ later)
   code_read n done [] later e whole allowed ends h = absurd ends
   code_read n done (c ∷ []) later e whole allowed ends h =
       let few = is.code_few in
@@ -102,19 +102,19 @@ module _ (final : Before) (p : ProgramText) (t : ThreadDef) (named : AreNamed p.
       let code_is : done ++ code.End ∷ [] ≡ t.code = ap (λ (x : Code). done ++ x ∷ []) (sym ends) ∙ whole in
       let thread : so_far t (labels_below (n + 1) t.labels) (done ++ code.End ∷ []) ≡ t = ap₂ (so_far t) labels code_is in
       let closing = end_read final p (so_far t (labels_below (n + 1) t.labels) done) later (omega arith) (subst (λ (x : ThreadDef). ReadsAs final (outside (record p { threads = p.threads ++ x ∷ [] })) later) (sym thread) h) in
-      let line = subst (λ (x : Code). ReadsAs final (at_code (n + 1) done) (line_of (instruction_words p.objects t x) ∷ later)) (sym ends) closing in
-      subst (λ lines. ReadsAs final (at_code n done) lines) (sym (code_lines-cons p.objects t named later n c []))
-      (labels_read n done [] (code_behind p.objects t named later n c []) e (omega arith) line)
+      let line = subst (λ (x : Code). ReadsAs final (at_code (n + 1) done) (line_of (instruction_words p.classes p.objects t x) ∷ later)) (sym ends) closing in
+      subst (λ lines. ReadsAs final (at_code n done) lines) (sym (code_lines-cons p.classes p.objects t named later n c []))
+      (labels_read n done [] (code_behind p.classes p.objects t named later n c []) e (omega arith) line)
   code_read n done (c ∷ d ∷ cs) later e whole allowed ends h =
       let few = is.code_few in
       let length_is : length done + 2 + length cs ≡ length t.code = omega (arith, length-append done (c ∷ d ∷ cs), ap length whole) in
       let rest = code_read (n + 1) (done ++ c ∷ []) (d ∷ cs) later (omega (arith, length-append done (c ∷ []))) (append_assoc done (c ∷ []) (d ∷ cs) ∙ whole) allowed.1 ends.1 h in
-      let behind = map line_of (code_lines p.objects t (n + 1) (d ∷ cs)) ++ later in
+      let behind = map line_of (code_lines p.classes p.objects t (n + 1) (d ∷ cs)) ++ later in
       let before = labels_below (n + 1) t.labels in
       let line = instruction_read p t named before done behind (all_labels n done (d ∷ cs) later e (omega arith) allowed.1 ends.1) (omega arith) final c allowed.0
-      (subst (λ (b : Before). ReadsAs final b behind) (sym (stays_open p (so_far t before (done ++ c ∷ [])) c (spelled _ _ _ c allowed.0) ends.0)) rest) in
-      subst (λ lines. ReadsAs final (at_code n done) lines) (sym (code_lines-cons p.objects t named later n c (d ∷ cs)))
-      (labels_read n done (d ∷ cs) (code_behind p.objects t named later n c (d ∷ cs)) e (omega arith) line)
+      (subst (λ (b : Before). ReadsAs final b behind) (sym (stays_open p (so_far t before (done ++ c ∷ [])) c ends.0)) rest) in
+      subst (λ lines. ReadsAs final (at_code n done) lines) (sym (code_lines-cons p.classes p.objects t named later n c (d ∷ cs)))
+      (labels_read n done (d ∷ cs) (code_behind p.classes p.objects t named later n c (d ∷ cs)) e (omega arith) line)
 
   locals_read : (later : List (List ℕ)) → ReadsAs final (opened p (so_far t [] [])) later
       → ReadsAs final (opened p (new_thread t.name)) (map line_of (map local_words t.locals) ++ later)
@@ -126,13 +126,14 @@ module _ (final : Before) (p : ProgramText) (t : ThreadDef) (named : AreNamed p.
       [] t.locals later refl (each_unit t.locals) h
 
   pub section_read : (later : List (List ℕ)) → IsNew (map (λ t. t.name) p.threads) t.name → length p.threads < most_threads
-      → ReadsAs final closed later → ReadsAs final (outside p) (map line_of (thread_lines p.objects t) ++ later)
+      → ReadsAs final closed later → ReadsAs final (outside p) (map line_of (thread_lines p.classes p.objects t) ++ later)
   section_read later new few h =
-      let code_behind_locals = map line_of (code_lines p.objects t 1 t.code) ++ later in
+      let code_behind_locals = map line_of (code_lines p.classes p.objects t 1 t.code) ++ later in
       let none : labels_below 1 t.labels ≡ [] = none_below (length t.code) 1 1 t.labels is.targets (omega arith) in
       let in_code = subst (λ ls. ReadsAs final (opened p (so_far t ls [])) code_behind_locals) none (code_read 1 [] t.code later refl refl is.code is.ends h) in
-      let lines = sym (lines-append (map local_words t.locals) (code_lines p.objects t 1 t.code) later) in
+      let lines = sym (lines-append (map local_words t.locals) (code_lines p.classes p.objects t 1 t.code) later) in
       let behind = subst (λ ls. ReadsAs final (opened p (new_thread t.name)) ls) lines (locals_read code_behind_locals in_code) in
-      let rest = map line_of (map local_words t.locals ++ code_lines p.objects t 1 t.code) ++ later in
-      let is_closed_behind : is_closed rest ≡ true = ap is_closed (sym lines) ∙ closed_locals t.locals code_behind_locals is.locals ∙ closed_code p.objects t named later 1 t.code is.code is.ends in
+      let rest = map line_of (map local_words t.locals ++ code_lines p.classes p.objects t 1 t.code) ++ later in
+      let is_closed_behind : is_closed rest ≡ true =
+      ap is_closed (sym lines) ∙ closed_locals t.locals code_behind_locals is.locals ∙ closed_code p.classes p.objects t named later 1 t.code is.code is.ends in
       line_read final (outside p) (opened p (new_thread t.name)) rest (opening_words t) (opening_line p t rest new few is_closed_behind) behind

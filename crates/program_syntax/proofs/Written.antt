@@ -7,6 +7,7 @@ use Rattle.std.proofs.lemmas.List.{map-append, take_more, drop_more, length-map}
 use Rattle.plain_monitor.specs.declared.refusal.NoMemory.{NoMemory}
 use Rattle.program_syntax.specs.Canonical.{line_text, label_name, instruction_words, label_words, labels_at, code_lines}
 use Rattle.program_syntax.specs.Written.{BeginsWith, lines_text}
+use Rattle.object_program.specs.declared.program.ClassDef.{ClassDef}
 use Rattle.object_program.specs.declared.program.ObjectDef.{ObjectDef}
 use Rattle.object_program.specs.declared.program.LabelDef.{LabelDef}
 use Rattle.object_program.specs.declared.program.ThreadDef.{ThreadDef}
@@ -57,26 +58,30 @@ pub label_name_step : (labels : List LabelDef) (l i : ℕ) (d : LabelDef) → i 
 label_name_step labels l i d lt = rw (drop_more labels i d lt) refl
 
 -- one more instruction behind its labels
-code_lines-push : (ds : List ObjectDef) (t : ThreadDef) (n : ℕ) (cs : List Code) (c : Code)
-    → code_lines ds t n (cs ++ c ∷ []) ≡ code_lines ds t n cs ++ (map label_words (labels_at (n + length cs) t.labels) ++ instruction_words ds t c ∷ [])
-code_lines-push ds t n [] c =
+code_lines-push : (classes : List ClassDef) (ds : List ObjectDef) (t : ThreadDef) (n : ℕ) (cs : List Code) (c : Code)
+    → code_lines classes ds t n (cs ++ c ∷ [])
+    ≡ code_lines classes ds t n cs ++ (map label_words (labels_at (n + length cs) t.labels) ++ instruction_words classes ds t c ∷ [])
+code_lines-push classes ds t n [] c =
     let e : n ≡ n + 0 = omega arith in
-    ap (λ (m : ℕ). map label_words (labels_at m t.labels) ++ instruction_words ds t c ∷ []) e
-code_lines-push ds t n (x ∷ xs) c =
+    ap (λ (m : ℕ). map label_words (labels_at m t.labels) ++ instruction_words classes ds t c ∷ []) e
+code_lines-push classes ds t n (x ∷ xs) c =
     let e : n + 1 + length xs ≡ n + length (x ∷ xs) = omega arith in
     let here = map label_words (labels_at n t.labels) in
-    let last = λ (m : ℕ). map label_words (labels_at m t.labels) ++ instruction_words ds t c ∷ [] in
-    ap (λ ls. here ++ instruction_words ds t x ∷ ls) (code_lines-push ds t (n + 1) xs c ∙ ap (λ (m : ℕ). code_lines ds t (n + 1) xs ++ last m) e)
-    ∙ sym (append_assoc here (instruction_words ds t x ∷ code_lines ds t (n + 1) xs) (last (n + length (x ∷ xs))))
+    let last = λ (m : ℕ). map label_words (labels_at m t.labels) ++ instruction_words classes ds t c ∷ [] in
+    ap (λ ls. here ++ instruction_words classes ds t x ∷ ls)
+    (code_lines-push classes ds t (n + 1) xs c ∙ ap (λ (m : ℕ). code_lines classes ds t (n + 1) xs ++ last m) e)
+    ∙ sym (append_assoc here (instruction_words classes ds t x ∷ code_lines classes ds t (n + 1) xs) (last (n + length (x ∷ xs))))
 
-pub code_more : (ds : List ObjectDef) (t : ThreadDef) (cs : List Code) (i n : ℕ) (c : Code) → i < length cs → n ≡ i + 1
-    → lines_text (code_lines ds t 1 (take i cs)) ++ (lines_text (map label_words (labels_at n t.labels)) ++ line_text (instruction_words ds t (get_or cs i c)))
-    ≡ lines_text (code_lines ds t 1 (take (i + 1) cs))
-code_more ds t cs i n c lt e =
+pub code_more : (classes : List ClassDef) (ds : List ObjectDef) (t : ThreadDef) (cs : List Code) (i n : ℕ) (c : Code) → i < length cs → n ≡ i + 1
+    → lines_text (code_lines classes ds t 1 (take i cs))
+    ++ (lines_text (map label_words (labels_at n t.labels)) ++ line_text (instruction_words classes ds t (get_or cs i c)))
+    ≡ lines_text (code_lines classes ds t 1 (take (i + 1) cs))
+code_more classes ds t cs i n c lt e =
     let labels = map label_words (labels_at n t.labels) in
     let x = get_or cs i c in
     let count : n ≡ 1 + length (take i cs) = omega (arith, length-take-le i cs (omega arith)) in
-    ap (λ bs. lines_text (code_lines ds t 1 (take i cs)) ++ bs) (lines_push labels (instruction_words ds t x))
-    ∙ sym (flat_map-append line_text (code_lines ds t 1 (take i cs)) (labels ++ instruction_words ds t x ∷ []))
-    ∙ ap lines_text (ap (λ (m : ℕ). code_lines ds t 1 (take i cs) ++ (map label_words (labels_at m t.labels) ++ instruction_words ds t x ∷ [])) count
-    ∙ sym (code_lines-push ds t 1 (take i cs) x) ∙ ap (code_lines ds t 1) (sym (take_more cs i c lt)))
+    ap (λ bs. lines_text (code_lines classes ds t 1 (take i cs)) ++ bs) (lines_push labels (instruction_words classes ds t x))
+    ∙ sym (flat_map-append line_text (code_lines classes ds t 1 (take i cs)) (labels ++ instruction_words classes ds t x ∷ []))
+    ∙ ap lines_text
+    (ap (λ (m : ℕ). code_lines classes ds t 1 (take i cs) ++ (map label_words (labels_at m t.labels) ++ instruction_words classes ds t x ∷ [])) count
+    ∙ sym (code_lines-push classes ds t 1 (take i cs) x) ∙ ap (code_lines classes ds t 1) (sym (take_more cs i c lt)))

@@ -1,5 +1,5 @@
 -- What a line adds to a program or to a thread.
-use Rattle.std.specs.Prelude.{◌+◌, ℕ, List, [], ◌∷◌, ◌++◌}
+use Rattle.std.specs.Prelude.{ℕ, List, [], ◌∷◌, ◌++◌}
 use Rattle.object_program.specs.Program.{ProgramText}
 use Rattle.program_syntax.specs.Reading.{operand}
 use Rattle.object_program.specs.declared.program.ThreadDef.{ThreadDef}

@@ -46,54 +46,53 @@ local_words name = codes "local" ∷ name ∷ []
 abbrev pub label_words : LabelDef → List (List ℕ)
 label_words l = codes "label" ∷ l.name ∷ []
 
-abbrev pub instruction_words : List ObjectDef → ThreadDef → Code → List (List ℕ)
-instruction_words ds t (Set x v) = codes "set" ∷ local_name t.locals x ∷ signed_decimal v ∷ []
-instruction_words ds t (Add x y z) =
+abbrev pub instruction_words : List ClassDef → List ObjectDef → ThreadDef → Code → List (List ℕ)
+instruction_words classes ds t (Set x v) = codes "set" ∷ local_name t.locals x ∷ signed_decimal v ∷ []
+instruction_words classes ds t (Add x y z) =
     codes "add" ∷ local_name t.locals x ∷ local_name t.locals y ∷ local_name t.locals z ∷ []
-instruction_words ds t (Sub x y z) =
+instruction_words classes ds t (Sub x y z) =
     codes "sub" ∷ local_name t.locals x ∷ local_name t.locals y ∷ local_name t.locals z ∷ []
-instruction_words ds t (Mul x y z) =
+instruction_words classes ds t (Mul x y z) =
     codes "mul" ∷ local_name t.locals x ∷ local_name t.locals y ∷ local_name t.locals z ∷ []
-instruction_words ds t (Ref x n) = codes "ref" ∷ local_name t.locals x ∷ object_name ds n ∷ []
-instruction_words ds t (Elem x n i) =
+instruction_words classes ds t (Ref x n) = codes "ref" ∷ local_name t.locals x ∷ object_name ds n ∷ []
+instruction_words classes ds t (Elem x n i) =
     codes "elem" ∷ local_name t.locals x ∷ object_name ds n ∷ local_name t.locals i ∷ []
-instruction_words ds t (Enter x) = codes "enter" ∷ local_name t.locals x ∷ []
-instruction_words ds t (Exit x) = codes "exit" ∷ local_name t.locals x ∷ []
-instruction_words ds t (Wait x) = codes "wait" ∷ local_name t.locals x ∷ []
-instruction_words ds t (Notify x) = codes "notify" ∷ local_name t.locals x ∷ []
-instruction_words ds t (NotifyAll x) = codes "notifyall" ∷ local_name t.locals x ∷ []
-instruction_words ds t (Get x o k) = codes "get" ∷ local_name t.locals x ∷ local_name t.locals o ∷ decimal k ∷ []
-instruction_words ds t (Put o k x) = codes "put" ∷ local_name t.locals o ∷ decimal k ∷ local_name t.locals x ∷ []
-instruction_words ds t (Hash x o) = codes "hash" ∷ local_name t.locals x ∷ local_name t.locals o ∷ []
--- a text has no word for a new object yet, and no program has one
-instruction_words ds t (New x c) = []
-instruction_words ds t (Print x) = codes "print" ∷ local_name t.locals x ∷ []
-instruction_words ds t (Jump l) = codes "jump" ∷ label_name t.labels l ∷ []
-instruction_words ds t (Jlt x y l) =
+instruction_words classes ds t (Enter x) = codes "enter" ∷ local_name t.locals x ∷ []
+instruction_words classes ds t (Exit x) = codes "exit" ∷ local_name t.locals x ∷ []
+instruction_words classes ds t (Wait x) = codes "wait" ∷ local_name t.locals x ∷ []
+instruction_words classes ds t (Notify x) = codes "notify" ∷ local_name t.locals x ∷ []
+instruction_words classes ds t (NotifyAll x) = codes "notifyall" ∷ local_name t.locals x ∷ []
+instruction_words classes ds t (Get x o k) = codes "get" ∷ local_name t.locals x ∷ local_name t.locals o ∷ decimal k ∷ []
+instruction_words classes ds t (Put o k x) = codes "put" ∷ local_name t.locals o ∷ decimal k ∷ local_name t.locals x ∷ []
+instruction_words classes ds t (Hash x o) = codes "hash" ∷ local_name t.locals x ∷ local_name t.locals o ∷ []
+instruction_words classes ds t (New x c) = codes "new" ∷ local_name t.locals x ∷ class_name classes c ∷ []
+instruction_words classes ds t (Print x) = codes "print" ∷ local_name t.locals x ∷ []
+instruction_words classes ds t (Jump l) = codes "jump" ∷ label_name t.labels l ∷ []
+instruction_words classes ds t (Jlt x y l) =
     codes "jlt" ∷ local_name t.locals x ∷ local_name t.locals y ∷ label_name t.labels l ∷ []
-instruction_words ds t (Jeq x y l) =
+instruction_words classes ds t (Jeq x y l) =
     codes "jeq" ∷ local_name t.locals x ∷ local_name t.locals y ∷ label_name t.labels l ∷ []
-instruction_words ds t Dump = codes "dump" ∷ []
-instruction_words ds t End = codes "end" ∷ []
+instruction_words classes ds t Dump = codes "dump" ∷ []
+instruction_words classes ds t End = codes "end" ∷ []
 
 -- the labels that name instruction n, in their order
 abbrev pub labels_at : ℕ → List LabelDef → List LabelDef
 labels_at n labels = filter (λ l. l.index == n) labels
 
 -- these instructions of a thread, the first of which has number n, each behind its labels
-abbrev pub code_lines : List ObjectDef → ThreadDef → ℕ → List Code → List (List (List ℕ))
-code_lines ds t n [] = []
-code_lines ds t n (c ∷ cs) =
-    map label_words (labels_at n t.labels) ++ instruction_words ds t c ∷ code_lines ds t (n + 1) cs
+abbrev pub code_lines : List ClassDef → List ObjectDef → ThreadDef → ℕ → List Code → List (List (List ℕ))
+code_lines classes ds t n [] = []
+code_lines classes ds t n (c ∷ cs) =
+    map label_words (labels_at n t.labels) ++ instruction_words classes ds t c ∷ code_lines classes ds t (n + 1) cs
 
 -- the section of a thread: its name, its locals and its code
-abbrev pub thread_lines : List ObjectDef → ThreadDef → List (List (List ℕ))
-thread_lines ds t = opening_words t ∷ map local_words t.locals ++ code_lines ds t 1 t.code
+abbrev pub thread_lines : List ClassDef → List ObjectDef → ThreadDef → List (List (List ℕ))
+thread_lines classes ds t = opening_words t ∷ map local_words t.locals ++ code_lines classes ds t 1 t.code
 
 -- the lines of a program, each as its words: its classes, its declarations of objects, and its threads
 abbrev pub program_lines : ProgramText → List (List (List ℕ))
 program_lines p =
-    map class_words p.classes ++ map (object_words p.classes) p.objects ++ flat_map (thread_lines p.objects) p.threads
+    map class_words p.classes ++ map (object_words p.classes) p.objects ++ flat_map (thread_lines p.classes p.objects) p.threads
 
 abbrev pub canonical : ProgramText → List ℕ
 canonical p = flat_map line_text (program_lines p)

@@ -5,6 +5,7 @@ use Rattle.plain_monitor.specs.Numbers.{least_number, greatest_number}
 use Rattle.object_program.specs.Limits.{most_slots, most_objects}
 use Rattle.program_syntax.specs.declared.keyword.Keyword.{Keyword}
 use Rattle.program_syntax.specs.declared.keyword.Keyword.TheVariants.{Class, Object, Array, Thread, Local, Label, Set, Add, Sub, Mul, Ref, Elem, Enter, Exit, Wait, Notify, NotifyAll, Get, Put, Hash, Print, Jump, Jlt, Jeq, Dump, End}
+use Rattle.program_syntax.specs.declared.keyword.Keyword.TheVariants as keyword
 use Rattle.program_syntax.specs.declared.operand.Space.TheVariants.{Classes, Objects, Threads, Locals, Labels}
 use Rattle.program_syntax.specs.declared.operand.Operand.{Operand}
 use Rattle.program_syntax.specs.declared.operand.Operand.TheVariants.{New, Known, Number}
@@ -16,8 +17,8 @@ spellings =
     ∷ (codes "local", Local) ∷ (codes "label", Label) ∷ (codes "set", Set) ∷ (codes "add", Add) ∷ (codes "sub", Sub)
     ∷ (codes "mul", Mul) ∷ (codes "ref", Ref) ∷ (codes "elem", Elem) ∷ (codes "enter", Enter) ∷ (codes "exit", Exit)
     ∷ (codes "wait", Wait) ∷ (codes "notify", Notify) ∷ (codes "notifyall", NotifyAll) ∷ (codes "get", Get)
-    ∷ (codes "put", Put) ∷ (codes "hash", Hash) ∷ (codes "print", Print) ∷ (codes "jump", Jump) ∷ (codes "jlt", Jlt)
-    ∷ (codes "jeq", Jeq) ∷ (codes "dump", Dump) ∷ (codes "end", End) ∷ []
+    ∷ (codes "put", Put) ∷ (codes "hash", Hash) ∷ (codes "new", keyword.New) ∷ (codes "print", Print)
+    ∷ (codes "jump", Jump) ∷ (codes "jlt", Jlt) ∷ (codes "jeq", Jeq) ∷ (codes "dump", Dump) ∷ (codes "end", End) ∷ []
 
 -- what the first of these that is spelled so stands for
 abbrev pub spelled_among : {X : Type 0} → List (List ℕ × X) → List ℕ → Option X
@@ -55,6 +56,7 @@ operands_of NotifyAll = a_local ∷ []
 operands_of Get = a_local ∷ a_local ∷ a_slot ∷ []
 operands_of Put = a_local ∷ a_slot ∷ a_local ∷ []
 operands_of Hash = a_local ∷ a_local ∷ []
+operands_of keyword.New = a_local ∷ Known Classes ∷ []
 operands_of Print = a_local ∷ []
 operands_of Jump = Known Labels ∷ []
 operands_of Jlt = a_local ∷ a_local ∷ Known Labels ∷ []

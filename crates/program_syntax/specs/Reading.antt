@@ -12,7 +12,7 @@ use Rattle.object_program.specs.declared.program.ThreadDef.{ThreadDef}
 use Rattle.object_program.specs.declared.program.Code.{Code}
 use Rattle.object_program.specs.declared.program.Code.TheVariants as code
 use Rattle.program_syntax.specs.declared.keyword.Keyword.{Keyword}
-use Rattle.program_syntax.specs.declared.keyword.Keyword.TheVariants.{Class, Object, Array, Thread, Local, Label, Set, Add, Sub, Mul, Ref, Elem, Enter, Exit, Wait, Notify, NotifyAll, Get, Put, Hash, Print, Jump, Jlt, Jeq, Dump, End}
+use Rattle.program_syntax.specs.declared.keyword.Keyword.TheVariants.{Class, Object, Array, Thread, Local, Label, Set, Add, Sub, Mul, Ref, Elem, Enter, Exit, Wait, Notify, NotifyAll, Get, Put, Hash, New, Print, Jump, Jlt, Jeq, Dump, End}
 
 -- what the lines so far have declared, and the thread of the section that is open, as far as its lines go
 pub record Before : Type 0 where
@@ -114,6 +114,7 @@ instruction_on p t later ws NotifyAll = code.NotifyAll (local_at t ws 0)
 instruction_on p t later ws Get = code.Get (local_at t ws 0) (local_at t ws 1) (count_at ws 2)
 instruction_on p t later ws Put = code.Put (local_at t ws 0) (count_at ws 1) (local_at t ws 2)
 instruction_on p t later ws Hash = code.Hash (local_at t ws 0) (local_at t ws 1)
+instruction_on p t later ws New = code.New (local_at t ws 0) (class_at p ws 1)
 instruction_on p t later ws Print = code.Print (local_at t ws 0)
 instruction_on p t later ws Jump = code.Jump (target_at t later ws 0)
 instruction_on p t later ws Jlt = code.Jlt (local_at t ws 0) (local_at t ws 1) (target_at t later ws 2)

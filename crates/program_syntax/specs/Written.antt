@@ -19,5 +19,5 @@ lines_text lines = flat_map line_text lines
 abbrev pub objects_text : List ClassDef → List ObjectDef → List ℕ
 objects_text classes objects = lines_text (map (object_words classes) objects)
 
-abbrev pub instruction_text : List ObjectDef → ThreadDef → Code → List ℕ
-instruction_text objects thread code = line_text (instruction_words objects thread code)
+abbrev pub instruction_text : List ClassDef → List ObjectDef → ThreadDef → Code → List ℕ
+instruction_text classes objects thread code = line_text (instruction_words classes objects thread code)

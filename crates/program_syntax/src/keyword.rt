@@ -22,6 +22,7 @@ pub enum Keyword {
     Get,
     Put,
     Hash,
+    New,
     Print,
     Jump,
     Jlt,

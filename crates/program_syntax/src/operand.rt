@@ -77,6 +77,7 @@ pub fn operands_of(keyword: Keyword) -> &'static [Operand]
         Keyword::Get => &[LOCAL, LOCAL, SLOT],
         Keyword::Put => &[LOCAL, SLOT, LOCAL],
         Keyword::Hash => &[LOCAL, LOCAL],
+        Keyword::New => &[LOCAL, Operand::Known(Space::Classes)],
         Keyword::Jump => &[LABEL],
         Keyword::Jlt | Keyword::Jeq => &[LOCAL, LOCAL, LABEL],
         Keyword::Dump | Keyword::End => &[],

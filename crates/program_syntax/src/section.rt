@@ -4,7 +4,7 @@ ghost use Rattle.std.specs.Prelude.{◌≡◌, ◌<◌, ◌==◌, ◌+◌, lengt
 ghost use Rattle.object_program.specs.Limits.{most_locals, most_code};
 ghost use Rattle.object_program.specs.Name.{is_name};
 ghost use Rattle.program_syntax.specs.Line.{is_instruction, operands_of};
-ghost use Rattle.program_syntax.specs.Reading.{operand, local_at, object_at, target_among};
+ghost use Rattle.program_syntax.specs.Reading.{operand, local_at, object_at, class_at, target_among};
 ghost use Rattle.program_syntax.specs.Refusal.{is_bad_number, some_operand};
 ghost use Rattle.program_syntax.specs.Added.{local_added, code_added};
 ghost use Rattle.program_syntax.specs.State.{text_of, thread_of, thread_to, IsInstructionOn};
@@ -28,6 +28,13 @@ fn object_at(declared: &Declared, operands: &Words<'_>, i: usize) -> u32
     ensures { result ≡ object_at (text_of declared.now) operands.now i }
 {
     declared.objects.number_of(operands.word(i))
+}
+
+/// The number of the class that operand `i` names.
+fn class_at(declared: &Declared, operands: &Words<'_>, i: usize) -> u32
+    ensures { result ≡ class_at (text_of declared.now) operands.now i }
+{
+    declared.classes.number_of(operands.word(i))
 }
 
 /// The number of the instruction that operand `i` names by its label; 0 where the section has no such label.
@@ -88,6 +95,10 @@ pub fn instruction_on(
             x: z,
         },
         Keyword::Hash => Code::Hash { x, o: y },
+        Keyword::New => Code::New {
+            x,
+            c: class_at(declared, operands, 1),
+        },
         Keyword::Print => Code::Print { x },
         Keyword::Jump => Code::Jump {
             l: target_at(section, operands, 0),

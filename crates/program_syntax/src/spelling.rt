@@ -87,6 +87,8 @@ fn remaining(word: &[u8]) -> Option<Keyword>
         Some(Keyword::Put)
     } else if is_word(b"hash", word) {
         Some(Keyword::Hash)
+    } else if is_word(b"new", word) {
+        Some(Keyword::New)
     } else if is_word(b"print", word) {
         Some(Keyword::Print)
     } else if is_word(b"jump", word) {

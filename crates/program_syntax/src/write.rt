@@ -45,7 +45,7 @@ fn write_parts(program: &Program, out: &mut Vec<u8>) -> Result<(), NoMemory>
     let objects = program.objects.items();
     write_classes(classes, out)?;
     write_objects(classes, objects, out)?;
-    write_threads(objects, program.threads.items(), out)
+    write_threads(classes, objects, program.threads.items(), out)
 }
 
 /// Writes a line of these words.
@@ -157,32 +157,35 @@ fn class_name(classes: &[ClassDef], class: u32) -> &[u8]
 
 /// Writes the sections of the threads.
 fn write_threads(
+    classes: &[ClassDef],
     objects: &[ObjectDef],
     threads: &[ThreadDef],
     out: &mut Vec<u8>,
 ) -> Result<(), NoMemory>
-    ensures ok { OnOk result (out.new.items ≡ out.old.items ++ threads_text objects.now threads.now) }
+    ensures ok { OnOk result (out.new.items ≡ out.old.items ++ threads_text classes.now objects.now threads.now) }
     ensures err { OnErr result (BeginsWith out.old.items out.new.items) }
 {
     for thread in threads {
-        write_thread(objects, thread, out)?;
+        write_thread(classes, objects, thread, out)?;
     }
     Ok(())
 }
 
 /// Writes the section of a thread.
 pub fn write_thread(
+    classes: &[ClassDef],
     objects: &[ObjectDef],
     thread: &ThreadDef,
     out: &mut Vec<u8>,
 ) -> Result<(), NoMemory>
-    ensures ok { OnOk result (out.new.items ≡ out.old.items ++ lines_text (thread_lines objects.now thread.now)) }
+    ensures ok { OnOk result (out.new.items ≡ out.old.items
+        ++ lines_text (thread_lines classes.now objects.now thread.now)) }
     ensures err { OnErr result (BeginsWith out.old.items out.new.items) }
 {
     let words: [&[u8]; 2] = [b"thread", thread.name.bytes()];
     write_line(out, &words)?;
     write_locals(thread.locals.items(), out)?;
-    write_code(objects, thread, thread.code.items(), out)
+    write_code(classes, objects, thread, thread.code.items(), out)
 }
 
 /// Writes the lines of the locals.
@@ -207,16 +210,17 @@ fn write_local(local: &Name, out: &mut Vec<u8>) -> Result<(), NoMemory>
 
 /// Writes these instructions of a thread, from the first on, each behind its labels.
 fn write_code(
+    classes: &[ClassDef],
     objects: &[ObjectDef],
     thread: &ThreadDef,
     code: &[Code],
     out: &mut Vec<u8>,
 ) -> Result<(), NoMemory>
-    ensures ok { OnOk result (out.new.items ≡ out.old.items ++ code_text objects.now thread.now code.now) }
+    ensures ok { OnOk result (out.new.items ≡ out.old.items ++ code_text classes.now objects.now thread.now code.now) }
     ensures err { OnErr result (BeginsWith out.old.items out.new.items) }
 {
     for (i, instruction) in code.iter().enumerate() {
-        write_step(objects, thread, i + 1, *instruction, out)?;
+        write_step(classes, objects, thread, i + 1, *instruction, out)?;
     }
     Ok(())
 }
@@ -224,17 +228,18 @@ fn write_code(
 /// Writes instruction `n` of a thread behind its labels.
 #[tactic(auto, using(crate::proofs::Written::err_behind))]
 fn write_step(
+    classes: &[ClassDef],
     objects: &[ObjectDef],
     thread: &ThreadDef,
     n: usize,
     code: Code,
     out: &mut Vec<u8>,
 ) -> Result<(), NoMemory>
-    ensures ok { OnOk result (out.new.items ≡ out.old.items ++ step_text objects.now thread.now n code) }
+    ensures ok { OnOk result (out.new.items ≡ out.old.items ++ step_text classes.now objects.now thread.now n code) }
     ensures err { OnErr result (BeginsWith out.old.items out.new.items) }
 {
     write_labels(n, thread.labels.items(), out)?;
-    write_instruction(objects, thread, code, out)
+    write_instruction(classes, objects, thread, code, out)
 }
 
 /// Writes the lines of those of these labels that name instruction `n`.
@@ -261,12 +266,14 @@ fn write_label(label: &LabelDef, out: &mut Vec<u8>) -> Result<(), NoMemory>
 
 /// Writes the line of an instruction.
 pub fn write_instruction(
+    classes: &[ClassDef],
     objects: &[ObjectDef],
     thread: &ThreadDef,
     code: Code,
     out: &mut Vec<u8>,
 ) -> Result<(), NoMemory>
-    ensures ok { OnOk result (out.new.items ≡ out.old.items ++ instruction_text objects.now thread.now code) }
+    ensures ok { OnOk result (out.new.items ≡ out.old.items
+        ++ instruction_text classes.now objects.now thread.now code) }
     ensures err { OnErr result (BeginsWith out.old.items out.new.items) }
 {
     let locals = thread.locals.items();
@@ -285,7 +292,7 @@ pub fn write_instruction(
         Code::Get { x, o, k } => write_get(locals, x, o, k, out),
         Code::Put { o, k, x } => write_put(locals, o, k, x, out),
         Code::Hash { x, o } => write_hash(locals, x, o, out),
-        Code::New { .. } => write_line(out, &[]),
+        Code::New { x, c } => write_new(locals, classes, x, c, out),
         Code::Print { x } => write_on_local(b"print", locals, x, out),
         Code::Jump { l } => write_jump(thread, l, out),
         Code::Jlt { x, y, l } => write_branch(b"jlt", thread, x, y, l, out),
@@ -437,6 +444,22 @@ fn write_hash(locals: &[Name], x: u32, o: u32, out: &mut Vec<u8>) -> Result<(), 
     ensures err { OnErr result (BeginsWith out.old.items out.new.items) }
 {
     let words: [&[u8]; 3] = [b"hash", local_name(locals, x), local_name(locals, o)];
+    write_line(out, &words)
+}
+
+/// Writes the line of a `new`.
+fn write_new(
+    locals: &[Name],
+    classes: &[ClassDef],
+    x: u32,
+    c: u32,
+    out: &mut Vec<u8>,
+) -> Result<(), NoMemory>
+    ensures ok { OnOk result (out.new.items ≡ out.old.items
+        ++ line_text (codes "new" ∷ local_name locals.now x ∷ class_name classes.now c ∷ [])) }
+    ensures err { OnErr result (BeginsWith out.old.items out.new.items) }
+{
+    let words: [&[u8]; 3] = [b"new", local_name(locals, x), class_name(classes, c)];
     write_line(out, &words)
 }
 

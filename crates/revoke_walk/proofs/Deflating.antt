@@ -3,7 +3,7 @@
 use Rattle.std.proofs.Common.{◌≡◌, ◌≢◌, ℕ, ◌<◌, ◌≤◌, ◌^◌, ◌==◌, if◌then◌else◌, Bool, true, false, List, length, refl, sym, subst, arith}
 use Rattle.std.specs.List.{list_all}
 use Rattle.std.proofs.lemmas.Bool.Decides.{nat_tests}
-use Rattle.plain_monitor.specs.Limits.{most_objects}
+use Rattle.plain_monitor.specs.Limits.{most_in_all}
 use Rattle.mark_word.specs.declared.owner.OwnerForm.TheVariants.{Free}
 use Rattle.mark_word.specs.Owner.{owner_of}
 use Rattle.core_world.specs.declared.name.Name.TheVariants.{Waiting, Object}
@@ -98,7 +98,7 @@ pub clean_of : (e : Purpose) (stage : Stage) (m : ℕ) → AreOf e.task (clean_s
 clean_of e stage m = (refl, λ _. (refl, λ _. (refl, λ _. (refl, λ _. tt))))
 
 -- THE OBJECT WORD of a monitor, which is 0 or names an object
-few_objects : (n many : ℕ) → (n ≢ 0 → n < many) → many ≤ most_objects → n < 2 ^ 32
+few_objects : (n many : ℕ) → (n ≢ 0 → n < many) → many ≤ most_in_all → n < 2 ^ 32
 few_objects n many named few = cases (n == 0) refl
   where
     cases : (b : Bool) → (n == 0) ≡ b → n < 2 ^ 32

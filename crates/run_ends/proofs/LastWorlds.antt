@@ -18,6 +18,7 @@ use Rattle.core_world.specs.Valid.{Fits, IsRevoking}
 use Rattle.core_world.specs.Words.Shape.{Shape}
 use Rattle.core_world.specs.World.{World, logs, logs_from}
 use Rattle.core_law.specs.Logic.{Heap, heap_of}
+use Rattle.core_law.specs.MadeLaw.{MadeLawHolds}
 use Rattle.core_law.specs.Reached.{Comes}
 use Rattle.core_law.proofs.Wholes.{All as Whole, all_unless}
 use Rattle.heap_table.specs.Layout.{place_of}
@@ -82,6 +83,7 @@ pub record Settled (heap : Heap) (words : List ℕ) (ks : List Known) : Type 0 w
   pub world : World
   pub objects : List PlainObject
   pub fits : Fits world objects
+  pub made : MadeLawHolds world
   pub is_of : heap_of world ≡ heap
   pub comes : Comes heap world
   pub words_are : (n : Name) → IsIn heap.shape n → slice_index words (place_of heap.shape n) ≡ world.words n
@@ -135,6 +137,7 @@ module _ (heap : Heap) (words : List ℕ) (ks : List Known) (e : IsEnd heap word
         world = w;
         objects = e.last.sound.valid.objects;
         fits = whole.fits;
+        made = whole.made;
         is_of = e.last.is_of;
         comes = e.last.comes;
         words_are = e.last.words_are;

@@ -1,22 +1,26 @@
 //! Laws of a heap's end. The functions do nothing.
 
-ghost use Rattle.std.specs.Prelude.{◌≡◌, ◌<◌, ℕ, true, false, List, slice_get, slice_index};
+ghost use Rattle.std.specs.Prelude.{◌≡◌, ◌<◌, ℕ, true, false, List, slice_get, slice_index, Some};
 ghost use Rattle.core_world.specs.declared.name.Name.TheVariants.{Prototype};
 ghost use Rattle.core_world.specs.declared.task.Op.TheVariants as op;
 ghost use Rattle.core_world.specs.Clauses.Safepoints.{IsUnfinished};
-ghost use Rattle.core_world.specs.Threads.Known.{Known};
+ghost use Rattle.core_world.specs.Threads.Known.{DumpShot, Known};
+ghost use Rattle.core_world.specs.Threads.References.{numbering};
 ghost use Rattle.core_world.specs.Words.Forms.{is_halted};
 ghost use Rattle.core_law.specs.Logic.{Heap};
 ghost use Rattle.heap_table.specs.BiasesAtEnd.{counted_by};
 ghost use Rattle.heap_table.specs.Layout.{place_of};
+ghost use Rattle.plain_history.specs.Cuts.{cut_logs};
 ghost use Rattle.plain_history.specs.ExactStamps.{StampsAreExact};
+ghost use Rattle.plain_monitor.specs.Made.{IsMadeInTime};
 ghost use Rattle.run_ends.specs.Monitors.{MonitorsAreApart};
-ghost use Rattle.run_ends.specs.OfARun.{IsEnd, HasShots, IsStuckEnd, logs_in, shots_in, unfinished_in};
+ghost use Rattle.run_ends.specs.OfARun.{IsEnd, HasShots, IsStuckEnd, logs_in, shots_at, shots_in, unfinished_in};
 ghost use Rattle.core_law.specs.Draws.{HasDraws};
 ghost use Rattle.run_ends.specs.Prototypes.{prototype_by};
 
 /// Over the logs that a run leaves on a heap: whose draws the hashes are; that each shot is right; that the stamps are
-/// exact; and where the safepoint word has the halt, that the run is stuck, and that no thread has a Hash unfinished then.
+/// exact; that each entry finds the objects that it needs, among all entries and where a dump's shot cuts the logs; and
+/// where the safepoint word has the halt, that the run is stuck, and that no thread has a Hash unfinished then.
 pub fn the_end_of_a_heap_tells_its_run()
     ensures draws { (heap : Heap) (words : List ℕ) (ks : List Known) → IsEnd heap words ks
         → HasDraws heap.start (logs_in ks) }
@@ -24,6 +28,11 @@ pub fn the_end_of_a_heap_tells_its_run()
         → HasShots heap.shape.objects (logs_in ks) (shots_in ks) }
     ensures stamps { (heap : Heap) (words : List ℕ) (ks : List Known) → IsEnd heap words ks
         → StampsAreExact (logs_in ks) }
+    ensures made { (heap : Heap) (words : List ℕ) (ks : List Known) → IsEnd heap words ks
+        → IsMadeInTime (numbering heap.shape) (logs_in ks) }
+    ensures cut { (heap : Heap) (words : List ℕ) (ks : List Known) (t i : ℕ) (s : DumpShot) → IsEnd heap words ks
+        → slice_get (shots_at (shots_in ks) t) i ≡ Some s
+        → IsMadeInTime (numbering heap.shape) (cut_logs s.cut (logs_in ks)) }
     ensures stuck { (heap : Heap) (words : List ℕ) (ks : List Known) → IsEnd heap words ks
         → is_halted (slice_index words 0) ≡ true
         → IsStuckEnd heap.shape.objects heap.shape.threads ks }

@@ -1,8 +1,8 @@
 //! What the end of a heap tells of the run on it.
 //!
 //! The last words of a heap and what its threads know then are those of a sound world. So the logs say whose draws the
-//! hashes are, their stamps are exact, each dump's shot is right over the logs as it cuts them, and where the halt is
-//! set the run is stuck.
+//! hashes are, their stamps are exact, each dump's shot is right over the logs as it cuts them, no entry needs an object
+//! that isn't made yet, and where the halt is set the run is stuck.
 //! And the prototypes are those that the counted verdicts make.
 //! Each monitor is in one place then: at a mark, with a thread or in the ring.
 //! `specs/` has the definitions.

@@ -3,6 +3,7 @@ pub mod Lists
 pub mod Stays
 pub mod Slotted
 pub mod StuckMachines
+pub mod Numbered
 pub mod Ending
 pub mod Over
 pub mod Closing

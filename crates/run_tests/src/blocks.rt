@@ -18,7 +18,7 @@ const COMPILE: &[&str] = &["compile"];
 const COUNTED: &str = "t1: 0\nt1: 1\nthread t1 done\n";
 
 /// Options of a run, of one worker and four, with biases and without, and turns of one instruction each.
-fn settings() -> [&'static [&'static str]; 4] {
+pub fn settings() -> [&'static [&'static str]; 4] {
     [
         &["sync"],
         &["sync", "--workers", "1", "--bias", "off"],

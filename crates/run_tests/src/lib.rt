@@ -11,6 +11,8 @@ mod checks;
 #[cfg(test)]
 mod leads;
 #[cfg(test)]
+mod made;
+#[cfg(test)]
 mod makes;
 #[cfg(test)]
 mod meets;

@@ -1,10 +1,10 @@
 //! A heap of two threads, and whole calls on it. `None` where a call may not begin.
-ghost use Rattle.std.specs.Prelude.{IfOk};
+ghost use Rattle.std.specs.Prelude.{◌≡◌, IfOk};
 ghost use Rattle.heap_table.specs.Fresh.{IsFresh};
 ghost use Rattle.heap_table.specs.Resting.{Rests};
 
 use crate::asked::{may_call, may_make};
-use core_world::{IllegalMonitorState, Task, TooDeep, TooManyDumps, Turn, Unguarded, Why};
+use core_world::{IllegalMonitorState, Task, TooDeep, TooMany, TooManyDumps, Turn, Unguarded, Why};
 use heap_table::{Heap, HeapShape, Pass};
 use lawful_heap::new_heap;
 use plain_monitor::{Ending, NoMemory, Path, Value};
@@ -13,10 +13,11 @@ use std::alloc::Global;
 // The class of each object.
 const CLASSES: [u32; 101] = [0; 101];
 
-fn fresh(alloc: Global, biasing: bool) -> Result<(Heap, Pass, Pass), NoMemory>
+// The heap of this shape, and the passes of its two threads.
+fn passes(alloc: Global, shape: HeapShape, biasing: bool) -> Result<(Heap, Pass, Pass), NoMemory>
+    requires { shape.threads ≡ 2 }
     ensures { IfOk result (λ r. IsFresh r.0 0 r.1 × IsFresh r.0 1 r.2) }
 {
-    let shape = HeapShape::of(alloc, 2, &[1], &CLASSES, 101)?;
     let (heap, passes) = new_heap(alloc, shape, 1000, 1, biasing)?;
     let mut passes = passes.into_vec();
     let Some(second) = passes.pop() else {
@@ -28,11 +29,32 @@ fn fresh(alloc: Global, biasing: bool) -> Result<(Heap, Pass, Pass), NoMemory>
     Ok((heap, first, second))
 }
 
+fn fresh(alloc: Global, biasing: bool) -> Result<(Heap, Pass, Pass), NoMemory>
+    ensures { IfOk result (λ r. IsFresh r.0 0 r.1 × IsFresh r.0 1 r.2) }
+{
+    let shape = HeapShape::of(alloc, 2, &[1], &CLASSES, 101)?;
+    passes(alloc, shape, biasing)
+}
+
+fn fresh_to_make(alloc: Global, biasing: bool) -> Result<(Heap, Pass, Pass), NoMemory>
+    ensures { IfOk result (λ r. IsFresh r.0 0 r.1 × IsFresh r.0 1 r.2) }
+{
+    let shape = HeapShape::of(alloc, 2, &[1], &[0], 1)?;
+    passes(alloc, shape.with_made(1)?, biasing)
+}
+
 /// A heap of two threads and 101 objects of one class with one slot, with or without biases, and its passes.
 pub fn begin(alloc: Global, biasing: bool) -> Result<(Heap, Pass, Pass), NoMemory>
     ensures { IfOk result (λ r. Rests r.0 r.1 × Rests r.0 r.2) }
 {
     fresh(alloc, biasing)
+}
+
+/// The same with one declared object, where the first thread makes the objects from 1 on, and the second those from 1025 on.
+pub fn begin_to_make(alloc: Global, biasing: bool) -> Result<(Heap, Pass, Pass), NoMemory>
+    ensures { IfOk result (λ r. Rests r.0 r.1 × Rests r.0 r.2) }
+{
+    fresh_to_make(alloc, biasing)
 }
 
 pub fn poll(heap: &Heap, pass: &mut Pass) -> Option<Turn<()>>
@@ -233,6 +255,17 @@ pub fn dump(heap: &Heap, pass: &mut Pass) -> Option<Result<Turn<u32>, TooManyDum
 {
     if may_make(heap, pass, Task::Dump) {
         Some(lock_runtime::dump(heap, pass))
+    } else {
+        None
+    }
+}
+
+pub fn create(heap: &Heap, pass: &mut Pass, class: u32) -> Option<Result<u32, TooMany>>
+    requires { Rests heap.now pass.old }
+    ensures { Rests heap.now pass.new }
+{
+    if may_make(heap, pass, Task::Create { class }) {
+        Some(lock_runtime::create(heap, pass, class))
     } else {
         None
     }

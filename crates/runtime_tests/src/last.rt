@@ -68,6 +68,15 @@ pub fn stamp(closed: &Closed, object: u32) -> Option<u64> {
     }
 }
 
+/// The class word, which an object has that isn't declared.
+pub fn class(closed: &Closed, object: u32) -> Option<u64> {
+    if (object as usize) < closed.shape().objects() {
+        word(closed, closed.shape().class_at(object))
+    } else {
+        None
+    }
+}
+
 pub fn prototype(closed: &Closed, class: u32) -> Option<u64> {
     if class < closed.shape().classes() {
         word(closed, closed.shape().prototype_at(class))

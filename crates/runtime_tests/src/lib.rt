@@ -19,6 +19,8 @@ mod hashed;
 #[cfg(test)]
 mod last;
 #[cfg(test)]
+mod made;
+#[cfg(test)]
 mod stacked;
 #[cfg(test)]
 mod waiting;

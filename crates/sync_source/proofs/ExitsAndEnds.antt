@@ -220,7 +220,10 @@ module _ (code : List Code) (classes : List ClassDef) (objects : List ObjectDef)
   call_fine s (call.Hash x o) (entry.Hash object value drawn) left a n h r =
       goes_on s (with_local s x _) left refl h (given_fine s x _ left r.spares r.kept)
   call_fine s (call.Hash x o) e left a n h r = goes_on s s left refl h r.kept
-  call_fine s (call.New x c) e left a n h r = absurd a.call
+  call_fine s (call.New x c) (entry.New object class) left a n h r =
+      goes_on s (with_local (record s { made = s.made + 1 }) x _) left refl h
+      (given_fine (record s { made = s.made + 1 }) x _ left r.spares r.kept)
+  call_fine s (call.New x c) e left a n h r = goes_on s s left refl h r.kept
   call_fine s (call.Print v) e left a n h r = goes_on s s left refl h r.kept
   call_fine s (call.Dump m) e left a n h r = goes_on s (record s { dumps = m }) left refl h r.kept
 
@@ -296,7 +299,7 @@ begun_fine code s (Ended g) e h k = subst (λ (x : Ending). NamesNoExit code x �
 
 guarded : (p : SyncText) → IsSyncText p → AllByRecursion (λ t. ArePlain t.body × IsGuarded [] t.body) p.threads
 guarded p h =
-    all_weaker _ _ (λ t k. (are_plain (length t.locals) (length p.objects) t.body k.body, body_guarded t.body k.keeps k.ends)) p.threads h.threads
+    all_weaker _ _ (λ t k. (are_plain (length p.classes) (length t.locals) (length p.objects) t.body k.body, body_guarded t.body k.keeps k.ends)) p.threads h.threads
 
 -- the machine that legal logs lead to
 fine_after : (p : SyncText) (fuel : ℕ) (logs : List (List Logged)) (m : PlainMachine) → IsSyncText p → machine_after (compiled decimal p) fuel logs ≡ Some m → AreFine m

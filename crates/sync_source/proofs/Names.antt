@@ -76,8 +76,8 @@ module _ (P : ℕ → Bool) where
       go ih true = (label_is_name a (omega arith), not_among k (a + 1) a (omega arith) (omega arith), ih)
       go ih false = ih
 
-thread_is : (objects : ℕ) (t : SyncThreadText) → IsSyncThread objects t → IsThread objects (thread_code decimal t)
-thread_is objects t h =
+thread_is : (classes objects : ℕ) (t : SyncThreadText) → IsSyncThread classes objects t → IsThread classes objects (thread_code decimal t)
+thread_is classes objects t h =
     let code = code_at 0 t.body in
     let n = code_size t.body 0 in
     record {
@@ -85,7 +85,7 @@ thread_is objects t h =
       locals_few = h.locals_few;
       labels = are_names _ (length code) 1 (omega (arith, n, h.code_few));
       targets = targets_rise decimal code;
-      code = are_instructions (length t.locals) objects decimal t.body h.body h.ends;
+      code = are_instructions classes (length t.locals) objects decimal t.body h.body h.ends;
       code_few = omega (arith, n, h.code_few);
       ends = ends_once t.body 0 h.ends;
     }
@@ -108,19 +108,19 @@ compiled_is_program p h = record {
   objects = h.objects;
   objects_few = h.objects_few;
   thread_names = subst AreNames (thread_names_are p.threads) h.thread_names;
-  threads = all_map _ (thread_code decimal) p.threads (all_weaker _ _ (λ t k. thread_is (length p.objects) t k) p.threads h.threads);
+  threads = all_map _ (thread_code decimal) p.threads (all_weaker _ _ (λ t k. thread_is (length p.classes) (length p.objects) t k) p.threads h.threads);
   threads_some = omega (arith, threads_length p.threads, h.threads_some);
   threads_few = omega (arith, threads_length p.threads, h.threads_few);
 }
 
-pub are_plain : (locals objects : ℕ) (b : Statements) → AreStatements locals objects b → ArePlain b
-are_plain locals objects Nothing h = tt
-are_plain locals objects (Plain c r) h = (h.0, are_plain locals objects r h.2)
-are_plain locals objects (Sync x b r) h = (are_plain locals objects b h.1, are_plain locals objects r h.2)
-are_plain locals objects (If t b c r) h =
-    (are_plain locals objects b h.1, are_plain locals objects c h.2, are_plain locals objects r h.3)
-are_plain locals objects (While t b r) h = (are_plain locals objects b h.1, are_plain locals objects r h.2)
+pub are_plain : (classes locals objects : ℕ) (b : Statements) → AreStatements classes locals objects b → ArePlain b
+are_plain classes locals objects Nothing h = tt
+are_plain classes locals objects (Plain c r) h = (h.0, are_plain classes locals objects r h.2)
+are_plain classes locals objects (Sync x b r) h = (are_plain classes locals objects b h.1, are_plain classes locals objects r h.2)
+are_plain classes locals objects (If t b c r) h =
+    (are_plain classes locals objects b h.1, are_plain classes locals objects c h.2, are_plain classes locals objects r h.3)
+are_plain classes locals objects (While t b r) h = (are_plain classes locals objects b h.1, are_plain classes locals objects r h.2)
 
 pub all_plain : (p : SyncText) → IsSyncText p → AllByRecursion (λ t. ArePlain t.body) p.threads
 all_plain p h =
-    all_weaker _ _ (λ t k. are_plain (length t.locals) (length p.objects) t.body k.body) p.threads h.threads
+    all_weaker _ _ (λ t k. are_plain (length p.classes) (length t.locals) (length p.objects) t.body k.body) p.threads h.threads

@@ -41,9 +41,9 @@ test_within m l t h = go t.equal
 none : {m : ℕ} → (n : ℕ) → false ≡ true → (1 ≤ n) × (n ≤ m)
 none n e = absurd (false≢true e)
 
-module _ (locals objects m : ℕ) where
+module _ (classes locals objects m : ℕ) where
   -- statements go on in themselves, or right after them
-  goes_within : (b : Statements) (at : ℕ) → AreStatements locals objects b → at + size b + 1 ≤ m → AllByRecursion (Within m) (code_at at b)
+  goes_within : (b : Statements) (at : ℕ) → AreStatements classes locals objects b → at + size b + 1 ≤ m → AllByRecursion (Within m) (code_at at b)
   goes_within Nothing at h k = tt
   goes_within (Plain c r) at h k = (plain_stays m c h.0, goes_within r (at + 1) h.2 (omega arith))
   goes_within (Sync x b r) at h k =
@@ -63,7 +63,7 @@ module _ (locals objects m : ℕ) where
   some_left (While t b r) h = omega arith
 
   -- a body that ends well goes on in itself
-  stays_within : (b : Statements) (at : ℕ) → AreStatements locals objects b → EndsWell b → at + size b ≤ m → AllByRecursion (Within m) (code_at at b)
+  stays_within : (b : Statements) (at : ℕ) → AreStatements classes locals objects b → EndsWell b → at + size b ≤ m → AllByRecursion (Within m) (code_at at b)
   stays_within Nothing at h e k = tt
   stays_within (Plain c Nothing) at h e k = (plain_stays m c h.0, tt)
   stays_within (Plain c (Plain d r)) at h e k = (plain_stays m c h.0, stays_within (Plain d r) (at + 1) h.2 e.1 (omega arith))
@@ -115,37 +115,37 @@ all_both P Q [] h k = tt
 all_both P Q (x ∷ xs) h k = ((h.0, k.0), all_both P Q xs h.1 k.1)
 
 -- its operands without its target
-abbrev HasOperands : ℕ → ℕ → Code → Type 0
-HasOperands locals objects (instr.Jump l) = Unit {0}
-HasOperands locals objects (instr.Jlt x y l) = (x < locals) × (y < locals)
-HasOperands locals objects (instr.Jeq x y l) = (x < locals) × (y < locals)
-HasOperands locals objects c = IsInstruction locals objects [] c
+abbrev HasOperands : ℕ → ℕ → ℕ → Code → Type 0
+HasOperands classes locals objects (instr.Jump l) = Unit {0}
+HasOperands classes locals objects (instr.Jlt x y l) = (x < locals) × (y < locals)
+HasOperands classes locals objects (instr.Jeq x y l) = (x < locals) × (y < locals)
+HasOperands classes locals objects c = IsInstruction classes locals objects [] c
 
-module _ (locals objects : ℕ) where
-  plain_operands : (c : Code) → IsPlain c → IsInstruction locals objects [] c → HasOperands locals objects c
+module _ (classes locals objects : ℕ) where
+  plain_operands : (c : Code) → IsPlain c → IsInstruction classes locals objects [] c → HasOperands classes locals objects c
   plain_operands (instr.Jump l) h k = absurd h
   plain_operands (instr.Jlt x y l) h k = absurd h
   plain_operands (instr.Jeq x y l) h k = absurd h
   plain_operands c h k = k
 
-  test_operands : (t : Test) (l : ℕ) → IsTest locals t → HasOperands locals objects (test_code t l)
+  test_operands : (t : Test) (l : ℕ) → IsTest locals t → HasOperands classes locals objects (test_code t l)
   test_operands t l h = go t.equal
     where
-      go : (equal : Bool) → HasOperands locals objects (if equal then instr.Jeq t.x t.y (l + 1) else instr.Jlt t.x t.y (l + 1))
+      go : (equal : Bool) → HasOperands classes locals objects (if equal then instr.Jeq t.x t.y (l + 1) else instr.Jlt t.x t.y (l + 1))
       go true = h
       go false = h
 
-  have_operands : (b : Statements) (at : ℕ) → AreStatements locals objects b → AllByRecursion (HasOperands locals objects) (code_at at b)
+  have_operands : (b : Statements) (at : ℕ) → AreStatements classes locals objects b → AllByRecursion (HasOperands classes locals objects) (code_at at b)
   have_operands Nothing at h = tt
   have_operands (Plain c r) at h = (plain_operands c h.0 h.1, have_operands r (at + 1) h.2)
   have_operands (Sync x b r) at h =
-      (h.0, all_append (HasOperands locals objects) (code_at (at + 1) b) _ (have_operands b (at + 1) h.1) (h.0, have_operands r (at + 1 + size b + 1) h.2))
+      (h.0, all_append (HasOperands classes locals objects) (code_at (at + 1) b) _ (have_operands b (at + 1) h.1) (h.0, have_operands r (at + 1 + size b + 1) h.2))
   have_operands (If t b c r) at h =
       let to = at + 1 + size c + 1 in
-      (test_operands t to h.0, all_append (HasOperands locals objects) (code_at (at + 1) c) _ (have_operands c (at + 1) h.2) (tt, all_append (HasOperands locals objects) (code_at to b) _ (have_operands b to h.1) (have_operands r (to + size b) h.3)))
+      (test_operands t to h.0, all_append (HasOperands classes locals objects) (code_at (at + 1) c) _ (have_operands c (at + 1) h.2) (tt, all_append (HasOperands classes locals objects) (code_at to b) _ (have_operands b to h.1) (have_operands r (to + size b) h.3)))
   have_operands (While t b r) at h =
       let to = at + 1 + 1 in
-      (test_operands t to h.0, (tt, all_append (HasOperands locals objects) (code_at to b) _ (have_operands b to h.1) (tt, have_operands r (to + size b + 1) h.2)))
+      (test_operands t to h.0, (tt, all_append (HasOperands classes locals objects) (code_at to b) _ (have_operands b to h.1) (tt, have_operands r (to + size b + 1) h.2)))
 
   module _ (decimal : ℕ → List ℕ) (code : List Code) where
     abbrev labels : List LabelDef
@@ -155,21 +155,21 @@ module _ (locals objects : ℕ) where
     target_there c n e h =
         let w = h.0 n e in kept decimal (λ k. list_any (goes_to k) code) n (length code) 1 w.0 (omega (arith, w.1)) (h.1 n e)
 
-    is_instruction : (c : Code) → HasOperands locals objects c → Within (length code) c × ((k : ℕ) → goes_to k c ≡ true → list_any (goes_to k) code ≡ true) → IsInstruction locals objects labels c
+    is_instruction : (c : Code) → HasOperands classes locals objects c → Within (length code) c × ((k : ℕ) → goes_to k c ≡ true → list_any (goes_to k) code ≡ true) → IsInstruction classes locals objects labels c
     is_instruction (instr.Jump l) h k = target_there (instr.Jump l) l (eq-eqb l l refl) k
     is_instruction (instr.Jlt x y l) h k = (h.0, h.1, target_there (instr.Jlt x y l) l (eq-eqb l l refl) k)
     is_instruction (instr.Jeq x y l) h k = (h.0, h.1, target_there (instr.Jeq x y l) l (eq-eqb l l refl) k)
     is_instruction c h k = h
 
   -- each instruction of the code is one that a thread may have
-  pub are_instructions : (decimal : ℕ → List ℕ) (b : Statements) → AreStatements locals objects b → EndsWell b → AllByRecursion (IsInstruction locals objects (map (label decimal) (targets (code_at 0 b)))) (code_at 0 b)
+  pub are_instructions : (decimal : ℕ → List ℕ) (b : Statements) → AreStatements classes locals objects b → EndsWell b → AllByRecursion (IsInstruction classes locals objects (map (label decimal) (targets (code_at 0 b)))) (code_at 0 b)
   are_instructions decimal b h e =
       let code = code_at 0 b in
       let n = code_size b 0 in
-      let within = stays_within locals objects (length code) b 0 h e (omega (arith, n)) in
-      all_of_both (all_both (HasOperands locals objects) _ code (have_operands b 0 h) (all_both (Within (length code)) _ code within (goes_somewhere code)))
+      let within = stays_within classes locals objects (length code) b 0 h e (omega (arith, n)) in
+      all_of_both (all_both (HasOperands classes locals objects) _ code (have_operands b 0 h) (all_both (Within (length code)) _ code within (goes_somewhere code)))
     where
-      all_of_both : AllByRecursion (λ c. HasOperands locals objects c × (Within (length (code_at 0 b)) c × ((n : ℕ) → goes_to n c ≡ true → list_any (goes_to n) (code_at 0 b) ≡ true))) (code_at 0 b) → AllByRecursion (IsInstruction locals objects (map (label decimal) (targets (code_at 0 b)))) (code_at 0 b)
+      all_of_both : AllByRecursion (λ c. HasOperands classes locals objects c × (Within (length (code_at 0 b)) c × ((n : ℕ) → goes_to n c ≡ true → list_any (goes_to n) (code_at 0 b) ≡ true))) (code_at 0 b) → AllByRecursion (IsInstruction classes locals objects (map (label decimal) (targets (code_at 0 b)))) (code_at 0 b)
       all_of_both k = all_weaker _ _ (λ c x. is_instruction decimal (code_at 0 b) c x.0 x.1) (code_at 0 b) k
 
 -- the code ends once

@@ -28,19 +28,19 @@ abbrev pub IsTest : ℕ → Test → Type 0
 IsTest locals t = (t.x < locals) × (t.y < locals)
 
 -- the instructions are plain, and the operands of all statements are declared and in range
-abbrev pub AreStatements : ℕ → ℕ → Statements → Type 0
-AreStatements locals objects Nothing = Unit {0}
-AreStatements locals objects (Plain c rest) =
-    IsPlain c × IsInstruction locals objects [] c × AreStatements locals objects rest
-AreStatements locals objects (Sync x body rest) =
-    (x < locals) × AreStatements locals objects body × AreStatements locals objects rest
-AreStatements locals objects (If t body other rest) =
+abbrev pub AreStatements : ℕ → ℕ → ℕ → Statements → Type 0
+AreStatements classes locals objects Nothing = Unit {0}
+AreStatements classes locals objects (Plain c rest) =
+    IsPlain c × IsInstruction classes locals objects [] c × AreStatements classes locals objects rest
+AreStatements classes locals objects (Sync x body rest) =
+    (x < locals) × AreStatements classes locals objects body × AreStatements classes locals objects rest
+AreStatements classes locals objects (If t body other rest) =
     IsTest locals t
-    × AreStatements locals objects body
-    × AreStatements locals objects other
-    × AreStatements locals objects rest
-AreStatements locals objects (While t body rest) =
-    IsTest locals t × AreStatements locals objects body × AreStatements locals objects rest
+    × AreStatements classes locals objects body
+    × AreStatements classes locals objects other
+    × AreStatements classes locals objects rest
+AreStatements classes locals objects (While t body rest) =
+    IsTest locals t × AreStatements classes locals objects body × AreStatements classes locals objects rest
 
 abbrev pub is_end : Code → Bool
 is_end instr.End = true
@@ -94,10 +94,10 @@ depth (Sync x body rest) = max (depth body + 1) (depth rest)
 depth (If t body other rest) = max (max (depth body) (depth other) + 1) (depth rest)
 depth (While t body rest) = max (depth body + 1) (depth rest)
 
-pub record IsSyncThread (objects : ℕ) (t : SyncThreadText) : Type 0 where
+pub record IsSyncThread (classes objects : ℕ) (t : SyncThreadText) : Type 0 where
   pub locals : AreNames t.locals
   pub locals_few : length t.locals ≤ most_locals
-  pub body : AreStatements (length t.locals) objects t.body
+  pub body : AreStatements classes (length t.locals) objects t.body
   pub ends : EndsWell t.body
   pub keeps : KeepsLocals [] t.body
   pub nested : depth t.body ≤ most_depth
@@ -112,6 +112,6 @@ pub record IsSyncText (p : SyncText) : Type 0 where
   pub objects : AreObjects (length p.classes) 0 p.objects
   pub objects_few : total_of p.objects ≤ most_objects
   pub thread_names : AreNames (map (λ t. t.name) p.threads)
-  pub threads : AllByRecursion (IsSyncThread (length p.objects)) p.threads
+  pub threads : AllByRecursion (IsSyncThread (length p.classes) (length p.objects)) p.threads
   pub threads_some : 1 ≤ length p.threads
   pub threads_few : length p.threads ≤ most_threads

@@ -37,12 +37,12 @@ joined-joined (While t body rest) b c = ap (While t body) (joined-joined rest b 
 used-with : (bl : Blocks) (s : Statements) → code_used (with_statement bl s) ≡ code_used bl + size s
 used-with bl s = omega (arith, size-joined bl.statements s)
 
-module _ (final : SyncBefore) (p : ProgramText) (t : SyncThreadText) (ts : List SyncThreadText) (named : AreNamed p.objects (heading t)) where
+module _ (final : SyncBefore) (p : ProgramText) (t : SyncThreadText) (ts : List SyncThreadText) (named : AreNamed p.classes p.objects (heading t)) where
   abbrev Reads : Blocks → List (List ℕ) → Type 0
   Reads bl lines = ReadsAs final (within p t ts named bl) lines
 
   abbrev words : Statements → List (List (List ℕ))
-  words s = statement_lines p.objects (heading t) s
+  words s = statement_lines p.classes p.objects (heading t) s
 
   abbrev lines : Statements → List (List ℕ)
   lines s = map line_of (words s)
@@ -53,7 +53,7 @@ module _ (final : SyncBefore) (p : ProgramText) (t : SyncThreadText) (ts : List 
 
   -- statements that may stand in the innermost of these blocks, and have room for their code
   pub record MayStand (bl : Blocks) (s : Statements) : Type 0 where
-    pub good : IsGood (length t.locals) (length p.objects) (open_syncs bl.opened) (length bl.opened) s
+    pub good : IsGood (length p.classes) (length t.locals) (length p.objects) (open_syncs bl.opened) (length bl.opened) s
     pub room : code_used bl + size s ≤ most_code
 
   -- what is left of statements behind the first
@@ -62,7 +62,7 @@ module _ (final : SyncBefore) (p : ProgramText) (t : SyncThreadText) (ts : List 
   behind_first bl first rest later h =
       subst (λ s. Reads (record { opened = bl.opened; statements = s }) later) (sym (joined-joined bl.statements first rest)) h
 
-  rest_stands : (bl : Blocks) (first rest : Statements) → IsGood (length t.locals) (length p.objects) (open_syncs bl.opened) (length bl.opened) rest
+  rest_stands : (bl : Blocks) (first rest : Statements) → IsGood (length p.classes) (length t.locals) (length p.objects) (open_syncs bl.opened) (length bl.opened) rest
       → code_used bl + (size first + size rest) ≤ most_code → MayStand (with_statement bl first) rest
   rest_stands bl first rest good room = record { good = good; room = omega (arith, used-with bl first) }
 
@@ -76,20 +76,20 @@ module _ (final : SyncBefore) (p : ProgramText) (t : SyncThreadText) (ts : List 
 
   -- the lines ahead of a block's first line close it
   abbrev AreFine : Statements → Type 0
-  AreFine s = AreStatements (length t.locals) (length p.objects) s
+  AreFine s = AreStatements (length p.classes) (length t.locals) (length p.objects) s
 
   closes : (body : Statements) (later : List (List ℕ)) → AreFine body → HasNoEnd body → is_closed 0 (lines body ++ closing later) ≡ true
-  closes body later h e = statements_stay p.objects t named body 0 (closing later) h e ∙ done_closes p.objects t named later
+  closes body later h e = statements_stay p.classes p.objects t named body 0 (closing later) h e ∙ done_closes p.classes p.objects t named later
 
   else_closes : (body other : Statements) (later : List (List ℕ)) → AreFine body → HasNoEnd body → AreFine other → HasNoEnd other
       → is_closed 0 (lines body ++ (map line_of (else_lines other (words other)) ++ closing later)) ≡ true
   else_closes body other later h e g f =
       let last = closing later in
       let others = words other in
-      statements_stay p.objects t named body 0 (map line_of (else_lines other others) ++ last) h e
+      statements_stay p.classes p.objects t named body 0 (map line_of (else_lines other others) ++ last) h e
       ∙ else_by (λ ls. is_closed 0 (map line_of ls ++ last) ≡ is_closed 0 last) other others refl
-      (else_stays p.objects t named 0 (map line_of others ++ last) ∙ statements_stay p.objects t named other 0 last g f)
-      ∙ done_closes p.objects t named later
+      (else_stays p.classes p.objects t named 0 (map line_of others ++ last) ∙ statements_stay p.classes p.objects t named other 0 last g f)
+      ∙ done_closes p.classes p.objects t named later
 
   -- behind the block of an `if`: its `else`, if it has one, and its `done`
   abbrev held : Blocks → Test → Statements → Blocks
@@ -126,7 +126,7 @@ module _ (final : SyncBefore) (p : ProgramText) (t : SyncThreadText) (ts : List 
       let nested = g.nested in
       let room = m.room in
       let behind = lines rest ++ later in
-      line_read final _ _ behind (instruction_words p.objects (heading t) c)
+      line_read final _ _ behind (instruction_words p.classes p.objects (heading t) c)
       (code_line p t ts named bl behind c g.fine.0 g.fine.1 g.goes_on.0 (omega (arith, room)) (not_held c bl.opened g.keeps.0))
       (statements_read rest (with_statement bl (Plain c Nothing)) later
       (rest_stands bl (Plain c Nothing) rest (record { fine = g.fine.2; goes_on = g.goes_on.1; keeps = g.keeps.1; nested = omega arith }) (omega (arith, room)))

@@ -128,40 +128,33 @@ not_held c (b ∷ bs) h = by_opener b.opener h (not_held c bs) where
   by_opener (OfWhile t) h others = others h
 
 -- an instruction that names no label doesn't depend on the lines behind it
-cause_alone : (b : plain_reading.Before) (later : List (List ℕ)) (ds : List ObjectDef) (t : ThreadDef) (c : Code) → IsPlain c
-    → keyword_cause b later (operand_words ds t c) (Some (keyword_for c)) ≡ keyword_cause b [] (operand_words ds t c) (Some (keyword_for c))
-cause_alone b later ds t (instr.Jump l) h = absurd h
-cause_alone b later ds t (instr.Jlt x y l) h = absurd h
-cause_alone b later ds t (instr.Jeq x y l) h = absurd h
-cause_alone b later ds t c h = refl
+cause_alone : (b : plain_reading.Before) (later : List (List ℕ)) (classes : List ClassDef) (ds : List ObjectDef) (t : ThreadDef) (c : Code) → IsPlain c
+    → keyword_cause b later (operand_words classes ds t c) (Some (keyword_for c)) ≡ keyword_cause b [] (operand_words classes ds t c) (Some (keyword_for c))
+cause_alone b later classes ds t (instr.Jump l) h = absurd h
+cause_alone b later classes ds t (instr.Jlt x y l) h = absurd h
+cause_alone b later classes ds t (instr.Jeq x y l) h = absurd h
+cause_alone b later classes ds t c h = refl
 
--- a new object has no word
-not_new : (l o : ℕ) (c : Code) → IsInstruction l o [] c → (x k : ℕ) → c ≡ instr.New x k → ⊥
-not_new l o c h x k e = let there : IsInstruction l o [] (instr.New x k) = subst (IsInstruction l o []) e h in there
-
-words_cause-plain : (b : SyncBefore) (later : List (List ℕ)) (ds : List ObjectDef) (t : ThreadDef) (l o : ℕ) (c : Code)
-    → IsPlain c → IsInstruction l o [] c
-    → words_cause b later (instruction_words ds t c) ≡ word_cause b later (operand_words ds t c) (Some (word.Plain (keyword_for c)))
-words_cause-plain b later ds t l o (instr.Enter x) h k = absurd h
-words_cause-plain b later ds t l o (instr.Exit x) h k = absurd h
-words_cause-plain b later ds t l o (instr.Jump x) h k = absurd h
-words_cause-plain b later ds t l o (instr.Jlt x y z) h k = absurd h
-words_cause-plain b later ds t l o (instr.Jeq x y z) h k = absurd h
-words_cause-plain b later ds t l o (instr.New x c) h k = absurd k
-words_cause-plain b later ds t l o c h k = refl
+words_cause-plain : (b : SyncBefore) (later : List (List ℕ)) (classes : List ClassDef) (ds : List ObjectDef) (t : ThreadDef) (c : Code) → IsPlain c
+    → words_cause b later (instruction_words classes ds t c) ≡ word_cause b later (operand_words classes ds t c) (Some (word.Plain (keyword_for c)))
+words_cause-plain b later classes ds t (instr.Enter x) h = absurd h
+words_cause-plain b later classes ds t (instr.Exit x) h = absurd h
+words_cause-plain b later classes ds t (instr.Jump x) h = absurd h
+words_cause-plain b later classes ds t (instr.Jlt x y z) h = absurd h
+words_cause-plain b later classes ds t (instr.Jeq x y z) h = absurd h
+words_cause-plain b later classes ds t c h = refl
 
 behind_words-plain : (p : ProgramText) (t : ThreadDef) (ts : List SyncThreadText) (bl : Blocks) (later : List (List ℕ))
-    (ds : List ObjectDef) (u : ThreadDef) (l o : ℕ) (c : Code) → IsPlain c → IsInstruction l o [] c → is_end c ≡ false
-    → behind_words (inside p t ts bl) later (instruction_words ds u c) (first_word (instruction_words ds u c))
-    ≡ inside p t ts (with_statement bl (Plain (instruction_on p t [] (operand_words ds u c) (keyword_for c)) Nothing))
-behind_words-plain p t ts bl later ds u l o (instr.Enter x) h k e = absurd h
-behind_words-plain p t ts bl later ds u l o (instr.Exit x) h k e = absurd h
-behind_words-plain p t ts bl later ds u l o (instr.Jump x) h k e = absurd h
-behind_words-plain p t ts bl later ds u l o (instr.Jlt x y z) h k e = absurd h
-behind_words-plain p t ts bl later ds u l o (instr.Jeq x y z) h k e = absurd h
-behind_words-plain p t ts bl later ds u l o (instr.New x c) h k e = absurd k
-behind_words-plain p t ts bl later ds u l o instr.End h k e = absurd (cc e)
-behind_words-plain p t ts bl later ds u l o c h k e = refl
+    (classes : List ClassDef) (ds : List ObjectDef) (u : ThreadDef) (c : Code) → IsPlain c → is_end c ≡ false
+    → behind_words (inside p t ts bl) later (instruction_words classes ds u c) (first_word (instruction_words classes ds u c))
+    ≡ inside p t ts (with_statement bl (Plain (instruction_on p t [] (operand_words classes ds u c) (keyword_for c)) Nothing))
+behind_words-plain p t ts bl later classes ds u (instr.Enter x) h e = absurd h
+behind_words-plain p t ts bl later classes ds u (instr.Exit x) h e = absurd h
+behind_words-plain p t ts bl later classes ds u (instr.Jump x) h e = absurd h
+behind_words-plain p t ts bl later classes ds u (instr.Jlt x y z) h e = absurd h
+behind_words-plain p t ts bl later classes ds u (instr.Jeq x y z) h e = absurd h
+behind_words-plain p t ts bl later classes ds u instr.End h e = absurd (cc e)
+behind_words-plain p t ts bl later classes ds u c h e = refl
 
 is_code : (c : Code) → is_instruction (keyword_for c) ≡ true
 is_code instr.End = refl
@@ -202,15 +195,15 @@ abbrev pub with_closed : ProgramText → SyncThreadText → ProgramText
 with_closed p t = record p { threads = p.threads ++ closed_heading t ∷ [] }
 
 -- The lines of statements, in the section of this thread
-module _ (p : ProgramText) (t : SyncThreadText) (ts : List SyncThreadText) (named : AreNamed p.objects (heading t)) where
+module _ (p : ProgramText) (t : SyncThreadText) (ts : List SyncThreadText) (named : AreNamed p.classes p.objects (heading t)) where
   abbrev pub within : Blocks → SyncBefore
   within bl = inside p (heading t) ts bl
 
   name_is : (x : ℕ) → x < length t.locals → is_name (local_name t.locals x) ≡ true
-  name_is x h = local_is_name p.objects (heading t) named x h
+  name_is x h = local_is_name p.classes p.objects (heading t) named x h
 
   name_word : (x : ℕ) → x < length t.locals → is_word (local_name t.locals x) ≡ true
-  name_word x h = local_word p.objects (heading t) named x h
+  name_word x h = local_word p.classes p.objects (heading t) named x h
 
   known : (x : ℕ) → x < length t.locals → is_among t.locals (local_name t.locals x) ≡ true
   known x h = nth_is_among t.locals x h
@@ -219,27 +212,27 @@ module _ (p : ProgramText) (t : SyncThreadText) (ts : List SyncThreadText) (name
   found x h = number_among-nth t.locals x named.local_names h
 
   -- an instruction, or an `end`
-  pub plain_cause_none : (later : List (List ℕ)) (c : Code) → IsPlain c → IsInstruction (length t.locals) (length p.objects) [] c
-      → keyword_cause (opened p (heading t)) later (operand_words p.objects (heading t) c) (Some (keyword_for c)) ≡ None
+  pub plain_cause_none : (later : List (List ℕ)) (c : Code) → IsPlain c → IsInstruction (length p.classes) (length t.locals) (length p.objects) [] c
+      → keyword_cause (opened p (heading t)) later (operand_words p.classes p.objects (heading t) c) (Some (keyword_for c)) ≡ None
   plain_cause_none later c h k =
-      cause_alone (opened p (heading t)) later p.objects (heading t) c h
-      ∙ plain.no_cause (opened p (heading t)) [] (operand_words p.objects (heading t) c) (keyword_for c)
+      cause_alone (opened p (heading t)) later p.classes p.objects (heading t) c h
+      ∙ plain.no_cause (opened p (heading t)) [] (operand_words p.classes p.objects (heading t) c) (keyword_for c)
       (instruction_allowed p (heading t) named [] [] [] refl (omega arith) c k)
 
-  meant : (c : Code) → IsInstruction (length t.locals) (length p.objects) [] c
-      → instruction_on p (heading t) [] (operand_words p.objects (heading t) c) (keyword_for c) ≡ c
+  meant : (c : Code) → IsInstruction (length p.classes) (length t.locals) (length p.objects) [] c
+      → instruction_on p (heading t) [] (operand_words p.classes p.objects (heading t) c) (keyword_for c) ≡ c
   meant c k = instruction_meant p (heading t) named [] [] [] refl (omega arith) c k
 
-  not_assigned : (bl : Blocks) (c : Code) → IsInstruction (length t.locals) (length p.objects) [] c → changes_held c bl.opened ≡ false
+  not_assigned : (bl : Blocks) (c : Code) → IsInstruction (length p.classes) (length t.locals) (length p.objects) [] c → changes_held c bl.opened ≡ false
       → (is_instruction (keyword_for c)
-      && changes_held (instruction_on p (heading t) [] (operand_words p.objects (heading t) c) (keyword_for c)) bl.opened) ≡ false
+      && changes_held (instruction_on p (heading t) [] (operand_words p.classes p.objects (heading t) c) (keyword_for c)) bl.opened) ≡ false
   not_assigned bl c k held = rw (is_code c, meant c k) held
 
-  pub code_cause_none : (bl : Blocks) (later : List (List ℕ)) (c : Code) → IsPlain c → IsInstruction (length t.locals) (length p.objects) [] c
+  pub code_cause_none : (bl : Blocks) (later : List (List ℕ)) (c : Code) → IsPlain c → IsInstruction (length p.classes) (length t.locals) (length p.objects) [] c
       → code_used bl + 1 ≤ most_code → changes_held c bl.opened ≡ false
-      → words_cause (within bl) later (instruction_words p.objects (heading t) c) ≡ None
+      → words_cause (within bl) later (instruction_words p.classes p.objects (heading t) c) ≡ None
   code_cause_none bl later c h k room held =
-      let ws = operand_words p.objects (heading t) c in
+      let ws = operand_words p.classes p.objects (heading t) c in
       let l = word.Plain (keyword_for c) in
       let fits : code_used bl + weight l ≤ most_code = omega (arith, one_more c) in
       let clean = clean_of (within bl) later ws l (record {
@@ -249,17 +242,17 @@ module _ (p : ProgramText) (t : SyncThreadText) (ts : List SyncThreadText) (name
         assigned = not_assigned bl c k held;
         deep = refl;
       }) in
-      words_cause-plain (within bl) later p.objects (heading t) (length t.locals) (length p.objects) c h k
+      words_cause-plain (within bl) later p.classes p.objects (heading t) c h
       ∙ ap (λ o. cause_or o (statement_cause (within bl) later ws l)) (plain_cause_none later c h k) ∙ clean
 
-  pub code_line : (bl : Blocks) (later : List (List ℕ)) (c : Code) → IsPlain c → IsInstruction (length t.locals) (length p.objects) [] c
+  pub code_line : (bl : Blocks) (later : List (List ℕ)) (c : Code) → IsPlain c → IsInstruction (length p.classes) (length t.locals) (length p.objects) [] c
       → is_end c ≡ false → code_used bl + 1 ≤ most_code → changes_held c bl.opened ≡ false
-      → IsRead (within bl) (within (with_statement bl (Plain c Nothing))) later (instruction_words p.objects (heading t) c)
+      → IsRead (within bl) (within (with_statement bl (Plain c Nothing))) later (instruction_words p.classes p.objects (heading t) c)
   code_line bl later c h k goes_on room held = record {
-    words = instruction_is_words p.objects (heading t) named c k;
+    words = instruction_is_words p.classes p.objects (heading t) named c k;
     cause = code_cause_none bl later c h k room held;
     behind =
-        behind_words-plain p (heading t) ts bl later p.objects (heading t) (length t.locals) (length p.objects) c h k goes_on
+        behind_words-plain p (heading t) ts bl later p.classes p.objects (heading t) c h goes_on
         ∙ ap (λ x. within (with_statement bl (Plain x Nothing))) (meant c k);
   }
 

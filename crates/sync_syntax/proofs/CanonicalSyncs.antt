@@ -26,8 +26,10 @@ use Rattle.sync_syntax.proofs.CanonicalReading.{ReadsAs, line_read, between, clo
 use Rattle.sync_syntax.proofs.CanonicalAhead.{statements_are_lines}
 use Rattle.sync_syntax.proofs.CanonicalSections.{section_read}
 
-named_by : (ds : List ObjectDef) (t : SyncThreadText) → AreNames (map (λ d. d.name) ds) → IsSyncThread (length ds) t → AreNamed ds (heading t)
-named_by ds t names is = record { local_names = is.locals; label_names = tt; object_names = names }
+named_by : (classes : List ClassDef) (ds : List ObjectDef) (t : SyncThreadText) → AreNames (map (λ c. c.name) classes) → AreNames (map (λ d. d.name) ds)
+    → IsSyncThread (length classes) (length ds) t → AreNamed classes ds (heading t)
+named_by classes ds t class_names names is =
+    record { local_names = is.locals; label_names = tt; object_names = names; class_names = class_names }
 
 -- the names of a program whose sections are closed up to these threads, as the plain language has them
 abbrev with_threads : SyncText → List SyncThreadText → ProgramText
@@ -38,20 +40,20 @@ same_names [] = refl
 same_names (t ∷ ts) = ap (λ ns. t.name ∷ ns) (same_names ts)
 
 threads_read : (final : SyncBefore) (p : SyncText) (done todo : List SyncThreadText) (later : List (List ℕ)) → IsSyncText p → done ++ todo ≡ p.threads
-    → AllByRecursion (IsSyncThread (length p.objects)) todo → ReadsAs final (between (with_threads p p.threads) p.threads) later
-    → ReadsAs final (between (with_threads p done) done) (map line_of (flat_map (section_lines p.objects) todo) ++ later)
+    → AllByRecursion (IsSyncThread (length p.classes) (length p.objects)) todo → ReadsAs final (between (with_threads p p.threads) p.threads) later
+    → ReadsAs final (between (with_threads p done) done) (map line_of (flat_map (section_lines p.classes p.objects) todo) ++ later)
 threads_read final p done [] later is whole all h =
     subst (λ ts. ReadsAs final (between (with_threads p ts) ts) later) (sym whole ∙ append-nil done) h
 threads_read final p done (t ∷ ts) later is whole all h =
     let few = is.threads_few in
     let rest = threads_read final p (done ++ t ∷ []) ts later is (append_assoc done (t ∷ []) ts ∙ whole) all.1 h in
-    let behind = map line_of (flat_map (section_lines p.objects) ts) ++ later in
+    let behind = map line_of (flat_map (section_lines p.classes p.objects) ts) ++ later in
     let declared : List ThreadDef → ProgramText = λ us. record { classes = p.classes; objects = p.objects; threads = us } in
     let closed = subst (λ us. ReadsAs final (between (declared us) (done ++ t ∷ [])) behind) (map-append closed_heading done (t ∷ [])) rest in
     let new = subst (λ ns. IsNew ns t.name) (same_names done) (new_in_middle (λ (u : SyncThreadText). u.name) done t ts p.threads whole is.thread_names) in
     subst (λ lines. ReadsAs final (between (with_threads p done) done) lines)
-    (sym (lines-append (section_lines p.objects t) (flat_map (section_lines p.objects) ts) later))
-    (section_read final (with_threads p done) t done (named_by p.objects t is.object_names all.0) all.0 behind new
+    (sym (lines-append (section_lines p.classes p.objects t) (flat_map (section_lines p.classes p.objects) ts) later))
+    (section_read final (with_threads p done) t done (named_by p.classes p.objects t is.class_names is.object_names all.0) all.0 behind new
     (omega (arith, length_front done t ts p.threads whole, length-map done closed_heading)) closed)
 
 -- the empty line behind the last line feed
@@ -88,7 +90,7 @@ lines_read p is =
     let end = [] ∷ [] in
     let classes = map class_words p.classes in
     let objects = map (object_words p.classes) p.objects in
-    let threads = flat_map (section_lines p.objects) p.threads in
+    let threads = flat_map (section_lines p.classes p.objects) p.threads in
     let in_threads = threads_read (all_read p) p [] p.threads end is refl is.threads (last_line_read (all_read p)) in
     let in_objects = objects_read (all_read p) p (map line_of threads ++ end) is in_threads in
     let in_classes = classes_read (all_read p) p (map line_of objects ++ (map line_of threads ++ end)) is in_objects in
@@ -96,24 +98,26 @@ lines_read p is =
     subst (λ lines. ReadsAs (all_read p) nothing_read lines) (sym joins) in_classes
 
 -- all lines are lines of words
-sections_are_lines : (ds : List ObjectDef) (ts : List SyncThreadText) → AreNames (map (λ d. d.name) ds) → AreNames (map (λ t. t.name) ts)
-    → AllByRecursion (IsSyncThread (length ds)) ts → AreLines (flat_map (section_lines ds) ts)
-sections_are_lines ds [] names thread_names h = tt
-sections_are_lines ds (t ∷ ts) names thread_names h =
+sections_are_lines : (classes : List ClassDef) (ds : List ObjectDef) (ts : List SyncThreadText) → AreNames (map (λ c. c.name) classes)
+    → AreNames (map (λ d. d.name) ds) → AreNames (map (λ t. t.name) ts)
+    → AllByRecursion (IsSyncThread (length classes) (length ds)) ts → AreLines (flat_map (section_lines classes ds) ts)
+sections_are_lines classes ds [] class_names names thread_names h = tt
+sections_are_lines classes ds (t ∷ ts) class_names names thread_names h =
     let is = h.0 in
-    let body = statement_lines ds (heading t) t.body in
-    lines_behind (section_lines ds t) (flat_map (section_lines ds) ts) (
+    let body = statement_lines classes ds (heading t) t.body in
+    lines_behind (section_lines classes ds t) (flat_map (section_lines classes ds) ts) (
       opening_is_words (heading t) thread_names.0,
-      lines_behind (map local_words t.locals) body (local_lines t.locals is.locals) (statements_are_lines ds t (named_by ds t names is) t.body is.body),
+      lines_behind (map local_words t.locals) body (local_lines t.locals is.locals)
+          (statements_are_lines classes ds t (named_by classes ds t class_names names is) t.body is.body),
     )
-    (sections_are_lines ds ts names thread_names.2 h.1)
+    (sections_are_lines classes ds ts class_names names thread_names.2 h.1)
 
 all_lines : (p : SyncText) → IsSyncText p → AreLines (sync_lines p)
 all_lines p is =
-    lines_behind (map class_words p.classes ++ map (object_words p.classes) p.objects) (flat_map (section_lines p.objects) p.threads)
+    lines_behind (map class_words p.classes ++ map (object_words p.classes) p.objects) (flat_map (section_lines p.classes p.objects) p.threads)
     (lines_behind (map class_words p.classes) (map (object_words p.classes) p.objects) (class_lines p.classes is.class_names is.class_slots)
     (object_lines p.classes 0 p.objects is.class_names is.object_names is.objects is.objects_few))
-    (sections_are_lines p.objects p.threads is.object_names is.thread_names is.threads)
+    (sections_are_lines p.classes p.objects p.threads is.class_names is.object_names is.thread_names is.threads)
 
 sync_program_of_at : (p : SyncText) (text : List ℕ) → IsSyncText p → length text ≤ 1048576 → lines_of text ≡ map line_of (sync_lines p) ++ [] ∷ []
     → sync_program_of text ≡ Ok p

@@ -8,6 +8,7 @@ use Rattle.plain_monitor.proofs.Lists.{all_push, all_weaker}
 use Rattle.object_program.specs.Limits.{most_code}
 use Rattle.object_program.specs.Program.{ProgramText}
 use Rattle.object_program.specs.Valid.{is_among, IsInstruction}
+use Rattle.object_program.specs.declared.program.ClassDef.{ClassDef}
 use Rattle.object_program.specs.declared.program.ThreadDef.{ThreadDef}
 use Rattle.object_program.specs.declared.program.Code.TheVariants as instr
 use Rattle.program_syntax.specs.Line.{a_local, is_instruction, is_outside}
@@ -42,12 +43,12 @@ pub record IsBareThread (t : ThreadDef) : Type 0 where
 
 abbrev pub HasSection : ProgramText → Blocks → Option ThreadDef → Type 0
 HasSection p bl None = Unit {0}
-HasSection p bl (Some t) = IsBareThread t × AreBlocks (length t.locals) (length p.objects) bl
+HasSection p bl (Some t) = IsBareThread t × AreBlocks (length p.classes) (length t.locals) (length p.objects) bl
 
 pub record IsKept (b : SyncBefore) (ahead : Ahead) : Type 0 where
   pub plain : IsAllowedSoFar b.plain ahead
   pub section : HasSection b.plain.text b.blocks b.plain.section
-  pub threads : AllByRecursion (IsSyncThread (length b.plain.text.objects)) b.threads
+  pub threads : AllByRecursion (IsSyncThread (length b.plain.text.classes) (length b.plain.text.objects)) b.threads
   pub names : map (λ t. t.name) b.threads ≡ map (λ t. t.name) b.plain.text.threads
 
 -- an open section before other lines, which close it too
@@ -60,16 +61,16 @@ passed p t a c bare o closed = record {
   locals_few = o.locals_few;
   labels = o.labels;
   targets = o.targets;
-  code = subst (λ cs. AllByRecursion (IsOpenCode (length t.locals) (length p.objects) (labels_with c t)) cs) (sym bare.code) tt;
+  code = subst (λ cs. AllByRecursion (IsOpenCode (length p.classes) (length t.locals) (length p.objects) (labels_with c t)) cs) (sym bare.code) tt;
   closed = closed;
 }
 
 -- more declarations
-IsSyncThread-more : (o p : ℕ) → o ≤ p → (t : SyncThreadText) → IsSyncThread o t → IsSyncThread p t
-IsSyncThread-more o p op t h = record {
+IsSyncThread-more : (k n o p : ℕ) → k ≤ n → o ≤ p → (t : SyncThreadText) → IsSyncThread k o t → IsSyncThread n p t
+IsSyncThread-more k n o p kn op t h = record {
   locals = h.locals;
   locals_few = h.locals_few;
-  body = AreStatements-more (length t.locals) (length t.locals) o p (omega arith) op t.body h.body;
+  body = AreStatements-more k n (length t.locals) (length t.locals) o p kn (omega arith) op t.body h.body;
   ends = h.ends;
   keeps = h.keeps;
   nested = h.nested;
@@ -80,35 +81,43 @@ IsSyncThread-more o p op t h = record {
 abbrev state : ProgramText → Option ThreadDef → List SyncThreadText → Blocks → SyncBefore
 state p s ts bl = record { plain = record { text = p; section = s }; threads = ts; blocks = bl }
 
+-- the class that a line declares
+abbrev declared_class : List (List ℕ) → ClassDef
+declared_class ws = record { name = operand ws 0; slots = count_at ws 1 }
+
 -- a declaration, or the opening of a section
 outside_kept : (p : ProgramText) (ts : List SyncThreadText) (bl : Blocks) (later : List (List ℕ)) (w : List ℕ) (ws : List (List ℕ)) (k : Keyword) → (a : Ahead)
     → IsKept (state p None ts bl) a → HasNoCause (record { text = p; section = None }) later ws k → is_outside k ≡ true
     → IsKept (behind_word (state p None ts bl) later ws (word.Plain k)) (ahead_of later)
-outside_kept p ts bl later w ws keyword.Class a h n outside =
-    record { plain = line_kept p None later w ws keyword.Class h.plain.text tt n; section = tt; threads = h.threads; names = h.names }
+outside_kept p ts bl later w ws keyword.Class a h n outside = record {
+  plain = line_kept p None later w ws keyword.Class h.plain.text tt n;
+  section = tt;
+  threads = all_weaker _ _ (IsSyncThread-more _ _ _ _ (omega (arith, length_push p.classes (declared_class ws))) (omega arith)) ts h.threads;
+  names = h.names;
+}
 outside_kept p ts bl later w ws keyword.Object a h n outside = record {
   plain = line_kept p None later w ws keyword.Object h.plain.text tt n;
   section = tt;
-  threads = all_weaker _ _ (IsSyncThread-more _ _ (omega (arith, length_push p.objects (declared_objects p ws 1 false)))) ts h.threads;
+  threads = all_weaker _ _ (IsSyncThread-more _ _ _ _ (omega arith) (omega (arith, length_push p.objects (declared_objects p ws 1 false)))) ts h.threads;
   names = h.names;
 }
 outside_kept p ts bl later w ws keyword.Array a h n outside = record {
   plain = line_kept p None later w ws keyword.Array h.plain.text tt n;
   section = tt;
-  threads = all_weaker _ _ (IsSyncThread-more _ _ (omega (arith, length_push p.objects (declared_objects p ws (count_at ws 2) true)))) ts h.threads;
+  threads = all_weaker _ _ (IsSyncThread-more _ _ _ _ (omega arith) (omega (arith, length_push p.objects (declared_objects p ws (count_at ws 2) true)))) ts h.threads;
   names = h.names;
 }
 outside_kept p ts bl later w ws keyword.Thread a h n outside = record {
   plain = line_kept p None later w ws keyword.Thread h.plain.text tt n;
-  section = (record { labels = refl; code = refl }, AreBlocks-none 0 (length p.objects));
+  section = (record { labels = refl; code = refl }, AreBlocks-none (length p.classes) 0 (length p.objects));
   threads = h.threads;
   names = h.names;
 }
 outside_kept p ts bl later w ws k a h n outside = absurd (cc outside)
 
 -- the thread of a section that is closed
-ended_thread : (p : ProgramText) (t : ThreadDef) (bl : Blocks) (a : Ahead) → IsOpenIn p a t → AreBlocks (length t.locals) (length p.objects) bl → code_used bl + 1 ≤ most_code
-    → IsSyncThread (length p.objects) (ended t bl)
+ended_thread : (p : ProgramText) (t : ThreadDef) (bl : Blocks) (a : Ahead) → IsOpenIn p a t → AreBlocks (length p.classes) (length t.locals) (length p.objects) bl → code_used bl + 1 ≤ most_code
+    → IsSyncThread (length p.classes) (length p.objects) (ended t bl)
 ended_thread p t bl a o blocks room =
     let good = blocks.statements in
     let nested = good.nested in
@@ -116,7 +125,7 @@ ended_thread p t bl a o blocks room =
     record {
       locals = o.locals;
       locals_few = o.locals_few;
-      body = AreStatements-joined (length t.locals) (length p.objects) bl.statements last good.fine (tt, tt, tt);
+      body = AreStatements-joined (length p.classes) (length t.locals) (length p.objects) bl.statements last good.fine (tt, tt, tt);
       ends = EndsWell-push bl.statements good.goes_on;
       keeps = KeepsLocals-joined [] bl.statements last (KeepsLocals-front [] (open_syncs bl.opened) bl.statements good.keeps) (tt, tt);
       nested = depth-joined bl.statements last most_depth (omega arith) (omega arith);
@@ -142,7 +151,7 @@ local_kept p t ts bl later w ws h n = record {
   plain = line_kept p (Some t) later w ws keyword.Local h.plain.text h.plain.section n;
   section = (
     record { labels = h.section.0.labels; code = h.section.0.code },
-    AreBlocks-more (length t.locals) (length (t.locals ++ operand ws 0 ∷ [])) (length p.objects) bl (omega (arith, length_push t.locals (operand ws 0))) h.section.1,
+    AreBlocks-more (length p.classes) (length t.locals) (length (t.locals ++ operand ws 0 ∷ [])) (length p.objects) bl (omega (arith, length_push t.locals (operand ws 0))) h.section.1,
   );
   threads = h.threads;
   names = h.names;
@@ -196,15 +205,16 @@ code_kept : (p : ProgramText) (t : ThreadDef) (ts : List SyncThreadText) (bl : B
     → IsKept (behind_word (state p (Some t) ts bl) later ws (word.Plain k)) (ahead_of later)
 code_kept p t ts bl later w ws k h n i end kept held =
     let c = instruction_on p t [] ws k in
+    let classes = length p.classes in
     let l = length t.locals in
     let o = length p.objects in
     let plain = plain_code p t ws k kept in
     let there = instruction_fine p t later ws k n.operands in
     let same : instruction_on p t later ws k ≡ c = code_alone p t later [] ws k kept in
-    let fine : IsInstruction l o [] c = IsInstruction-alone l o _ c plain (subst (IsInstruction l o _) same there) in
+    let fine : IsInstruction classes l o [] c = IsInstruction-alone classes l o _ c plain (subst (IsInstruction classes l o _) same there) in
     subst (λ b. IsKept b (ahead_of later)) (sym (code_behind (state p (Some t) ts bl) t later ws k refl i end)) (record {
       plain = record { text = h.plain.text; section = passed p t _ (ahead_of later) h.section.0 h.plain.section (code_closed later k i end h.plain.section.closed) };
-      section = (h.section.0, AreBlocks-statement l o bl c h.section.1 plain fine (code_goes_on p t ws k i end) held);
+      section = (h.section.0, AreBlocks-statement classes l o bl c h.section.1 plain fine (code_goes_on p t ws k i end) held);
       threads = h.threads;
       names = h.names;
     })
@@ -282,16 +292,16 @@ test_fine p t (x ∷ sign ∷ y ∷ []) h = by_sign (is_sign sign) h where
 
 -- a block's line
 blocks_kept : (p : ProgramText) (t : ThreadDef) (ts : List SyncThreadText) (bl : Blocks) (later ws : List (List ℕ)) (k : Word) → is_block k ≡ true
-    → AreBlocks (length t.locals) (length p.objects) bl → plain_cause (record { text = p; section = Some t }) later ws k ≡ None
-    → HasNoBlockCause (state p (Some t) ts bl) later ws k → AreBlocks (length t.locals) (length p.objects) (blocks_behind t bl ws k)
+    → AreBlocks (length p.classes) (length t.locals) (length p.objects) bl → plain_cause (record { text = p; section = Some t }) later ws k ≡ None
+    → HasNoBlockCause (state p (Some t) ts bl) later ws k → AreBlocks (length p.classes) (length t.locals) (length p.objects) (blocks_behind t bl ws k)
 blocks_kept p t ts bl later ws (word.Plain k) block h plain m = absurd (cc block)
 blocks_kept p t ts bl later ws word.Sync block h plain m =
     let known = locals_known (record { text = p; section = Some t }) 1 ws plain in
-    AreBlocks-block _ _ bl (OfSync (local_at t ws 0)) h (local_below p t 1 ws 0 known (omega arith)) (leb-false _ _ m.deep)
-blocks_kept p t ts bl later ws word.If block h plain m = AreBlocks-block _ _ bl (OfIf (test_on t ws)) h (test_fine p t ws plain) (leb-false _ _ m.deep)
-blocks_kept p t ts bl later ws word.While block h plain m = AreBlocks-block _ _ bl (OfWhile (test_on t ws)) h (test_fine p t ws plain) (leb-false _ _ m.deep)
-blocks_kept p t ts bl later ws word.Else block h plain m = AreBlocks-else _ _ bl.opened bl.statements (not-false _ m.stray) h
-blocks_kept p t ts bl later ws word.Done block h plain m = AreBlocks-done _ _ bl.opened bl.statements h
+    AreBlocks-block _ _ _ bl (OfSync (local_at t ws 0)) h (local_below p t 1 ws 0 known (omega arith)) (leb-false _ _ m.deep)
+blocks_kept p t ts bl later ws word.If block h plain m = AreBlocks-block _ _ _ bl (OfIf (test_on t ws)) h (test_fine p t ws plain) (leb-false _ _ m.deep)
+blocks_kept p t ts bl later ws word.While block h plain m = AreBlocks-block _ _ _ bl (OfWhile (test_on t ws)) h (test_fine p t ws plain) (leb-false _ _ m.deep)
+blocks_kept p t ts bl later ws word.Else block h plain m = AreBlocks-else _ _ _ bl.opened bl.statements (not-false _ m.stray) h
+blocks_kept p t ts bl later ws word.Done block h plain m = AreBlocks-done _ _ _ bl.opened bl.statements h
 
 block_behind : (b : SyncBefore) (t : ThreadDef) (later ws : List (List ℕ)) (k : Word) → b.plain.section ≡ Some t → is_block k ≡ true
     → behind_word b later ws k ≡ record b { blocks = blocks_behind t b.blocks ws k }

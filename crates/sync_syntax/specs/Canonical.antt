@@ -1,6 +1,7 @@
 -- The canonical text of a program with blocks: its lines in their order, as those of the plain language are written.
 use Rattle.std.specs.Prelude.{ℕ, if◌then◌else◌, List, [], ◌∷◌, ◌++◌, codes, map}
 use Rattle.std.specs.List.{flat_map}
+use Rattle.object_program.specs.declared.program.ClassDef.{ClassDef}
 use Rattle.object_program.specs.declared.program.ObjectDef.{ObjectDef}
 use Rattle.object_program.specs.declared.program.ThreadDef.{ThreadDef}
 use Rattle.program_syntax.specs.Canonical.{line_text, local_name, class_words, object_words, opening_words, local_words, instruction_words}
@@ -33,31 +34,31 @@ else_lines Nothing lines = []
 else_lines s lines = else_words ∷ lines
 
 -- the lines of statements of this thread
-abbrev pub statement_lines : List ObjectDef → ThreadDef → Statements → List (List (List ℕ))
-statement_lines ds t Nothing = []
-statement_lines ds t (Plain c rest) = instruction_words ds t c ∷ statement_lines ds t rest
-statement_lines ds t (Sync x body rest) =
-    sync_words t x ∷ statement_lines ds t body ++ done_words ∷ statement_lines ds t rest
-statement_lines ds t (If test body other rest) =
+abbrev pub statement_lines : List ClassDef → List ObjectDef → ThreadDef → Statements → List (List (List ℕ))
+statement_lines classes ds t Nothing = []
+statement_lines classes ds t (Plain c rest) = instruction_words classes ds t c ∷ statement_lines classes ds t rest
+statement_lines classes ds t (Sync x body rest) =
+    sync_words t x ∷ statement_lines classes ds t body ++ done_words ∷ statement_lines classes ds t rest
+statement_lines classes ds t (If test body other rest) =
     test_words (codes "if") t test
-    ∷ statement_lines ds t body
-    ++ else_lines other (statement_lines ds t other)
+    ∷ statement_lines classes ds t body
+    ++ else_lines other (statement_lines classes ds t other)
     ++ done_words
-    ∷ statement_lines ds t rest
-statement_lines ds t (While test body rest) =
-    test_words (codes "while") t test ∷ statement_lines ds t body ++ done_words ∷ statement_lines ds t rest
+    ∷ statement_lines classes ds t rest
+statement_lines classes ds t (While test body rest) =
+    test_words (codes "while") t test ∷ statement_lines classes ds t body ++ done_words ∷ statement_lines classes ds t rest
 
 -- the section of a thread: its name, its locals and its statements
-abbrev pub section_lines : List ObjectDef → SyncThreadText → List (List (List ℕ))
-section_lines ds t =
-    opening_words (heading t) ∷ map local_words t.locals ++ statement_lines ds (heading t) t.body
+abbrev pub section_lines : List ClassDef → List ObjectDef → SyncThreadText → List (List (List ℕ))
+section_lines classes ds t =
+    opening_words (heading t) ∷ map local_words t.locals ++ statement_lines classes ds (heading t) t.body
 
 -- the lines of a program, each as its words: its classes, its declarations of objects, and its threads
 abbrev pub sync_lines : SyncText → List (List (List ℕ))
 sync_lines p =
     map class_words p.classes
     ++ map (object_words p.classes) p.objects
-    ++ flat_map (section_lines p.objects) p.threads
+    ++ flat_map (section_lines p.classes p.objects) p.threads
 
 abbrev pub canonical_sync : SyncText → List ℕ
 canonical_sync p = flat_map line_text (sync_lines p)

@@ -14,7 +14,7 @@ ghost use Rattle.sync_syntax.specs.Canonical.{section_lines, sync_lines, canonic
 ghost use Rattle.sync_syntax.specs.inner.Written.{statements_text};
 
 use crate::laws::canonical_texts_are_read_back;
-use object_program::{ObjectDef, ThreadDef};
+use object_program::{ClassDef, ObjectDef, ThreadDef};
 use plain_monitor::{List, NoMemory};
 use program_syntax::{
     local_name, write_classes, write_instruction, write_line, write_objects, write_thread,
@@ -45,21 +45,22 @@ fn write_parts(alloc: Global, program: &SyncProgram, out: &mut Vec<u8>) -> Resul
     let objects = program.objects.items();
     write_classes(classes, out)?;
     write_objects(classes, objects, out)?;
-    write_threads(alloc, objects, program.threads.items(), out)
+    write_threads(alloc, classes, objects, program.threads.items(), out)
 }
 
 /// Writes the sections of the threads.
 fn write_threads(
     alloc: Global,
+    classes: &[ClassDef],
     objects: &[ObjectDef],
     threads: &[SyncThread],
     out: &mut Vec<u8>,
 ) -> Result<(), NoMemory>
     ensures { OnOk result (out.new.items ≡ out.old.items
-        ++ lines_text (flat_map (section_lines objects.now) (map thread_text threads.now))) }
+        ++ lines_text (flat_map (section_lines classes.now objects.now) (map thread_text threads.now))) }
 {
     for thread in threads {
-        write_section(alloc, objects, thread, out)?;
+        write_section(alloc, classes, objects, thread, out)?;
     }
     Ok(())
 }
@@ -67,16 +68,17 @@ fn write_threads(
 /// Writes the section of a thread.
 fn write_section(
     alloc: Global,
+    classes: &[ClassDef],
     objects: &[ObjectDef],
     thread: &SyncThread,
     out: &mut Vec<u8>,
 ) -> Result<(), NoMemory>
     ensures { OnOk result (out.new.items ≡ out.old.items
-        ++ lines_text (section_lines objects.now (thread_text thread.now))) }
+        ++ lines_text (section_lines classes.now objects.now (thread_text thread.now))) }
 {
     let heading = heading(alloc, thread)?;
-    write_thread(objects, &heading, out)?;
-    write_block(objects, &heading, &thread.body, out)
+    write_thread(classes, objects, &heading, out)?;
+    write_block(classes, objects, &heading, &thread.body, out)
 }
 
 /// The thread as the plain language has it before its first statement.
@@ -97,16 +99,17 @@ fn heading(alloc: Global, thread: &SyncThread) -> Result<ThreadDef, NoMemory>
 /// Writes the lines of the block's statements.
 #[cycle(lines)]
 fn write_block(
+    classes: &[ClassDef],
     objects: &[ObjectDef],
     thread: &ThreadDef,
     block: &Block,
     out: &mut Vec<u8>,
 ) -> Result<(), NoMemory>
     ensures { OnOk result (out.new.items ≡ out.old.items
-        ++ statements_text objects.now thread.now (all_of block.now.statements.items)) }
+        ++ statements_text classes.now objects.now thread.now (all_of block.now.statements.items)) }
 {
     for statement in &block.statements {
-        write_statement(objects, thread, statement, out)?;
+        write_statement(classes, objects, thread, statement, out)?;
     }
     Ok(())
 }
@@ -114,25 +117,31 @@ fn write_block(
 /// Writes the lines of the statement.
 #[cycle(lines)]
 fn write_statement(
+    classes: &[ClassDef],
     objects: &[ObjectDef],
     thread: &ThreadDef,
     statement: &Statement,
     out: &mut Vec<u8>,
 ) -> Result<(), NoMemory>
     ensures { OnOk result (out.new.items ≡ out.old.items
-        ++ statements_text objects.now thread.now (before statement.now Nothing)) }
+        ++ statements_text classes.now objects.now thread.now (before statement.now Nothing)) }
 {
     match statement {
-        Statement::Plain(code) => write_instruction(objects, thread, *code, out),
-        Statement::Sync { local, body } => write_sync_block(objects, thread, *local, body, out),
-        Statement::If { test, body, other } => write_if(objects, thread, *test, body, other, out),
-        Statement::While { test, body } => write_while(objects, thread, *test, body, out),
+        Statement::Plain(code) => write_instruction(classes, objects, thread, *code, out),
+        Statement::Sync { local, body } => write_sync_block(
+            classes, objects, thread, *local, body, out,
+        ),
+        Statement::If { test, body, other } => write_if(
+            classes, objects, thread, *test, body, other, out,
+        ),
+        Statement::While { test, body } => write_while(classes, objects, thread, *test, body, out),
     }
 }
 
 /// Writes a `sync`, its block, and a `done`.
 #[cycle(lines)]
 fn write_sync_block(
+    classes: &[ClassDef],
     objects: &[ObjectDef],
     thread: &ThreadDef,
     local: u32,
@@ -140,17 +149,18 @@ fn write_sync_block(
     out: &mut Vec<u8>,
 ) -> Result<(), NoMemory>
     ensures { OnOk result (out.new.items ≡ out.old.items
-        ++ statements_text objects.now thread.now (Sync local (all_of body.now.statements.items) Nothing)) }
+        ++ statements_text classes.now objects.now thread.now (Sync local (all_of body.now.statements.items) Nothing)) }
 {
     let words: [&[u8]; 2] = [b"sync", local_name(thread.locals.items(), local)];
     write_line(out, &words)?;
-    write_block(objects, thread, body, out)?;
+    write_block(classes, objects, thread, body, out)?;
     write_done(out)
 }
 
 /// Writes an `if`, its block, its `else`, and a `done`.
 #[cycle(lines)]
 fn write_if(
+    classes: &[ClassDef],
     objects: &[ObjectDef],
     thread: &ThreadDef,
     test: Test,
@@ -158,18 +168,19 @@ fn write_if(
     other: &Block,
     out: &mut Vec<u8>,
 ) -> Result<(), NoMemory>
-    ensures { OnOk result (out.new.items ≡ out.old.items ++ statements_text objects.now thread.now
+    ensures { OnOk result (out.new.items ≡ out.old.items ++ statements_text classes.now objects.now thread.now
         (If test (all_of body.now.statements.items) (all_of other.now.statements.items) Nothing)) }
 {
     write_test(b"if", thread, test, out)?;
-    write_block(objects, thread, body, out)?;
-    write_else(objects, thread, other, out)?;
+    write_block(classes, objects, thread, body, out)?;
+    write_else(classes, objects, thread, other, out)?;
     write_done(out)
 }
 
 /// Writes an `else` and its block, where it has statements.
 #[cycle(lines)]
 fn write_else(
+    classes: &[ClassDef],
     objects: &[ObjectDef],
     thread: &ThreadDef,
     other: &Block,
@@ -177,19 +188,20 @@ fn write_else(
 ) -> Result<(), NoMemory>
     ensures { OnOk result (out.new.items ≡ out.old.items
         ++ lines_text (else_lines (all_of other.now.statements.items)
-        (statement_lines objects.now thread.now (all_of other.now.statements.items)))) }
+        (statement_lines classes.now objects.now thread.now (all_of other.now.statements.items)))) }
 {
     let bare = other.statements.is_empty();
     if bare {
         return Ok(());
     }
     write_line(out, &[b"else"])?;
-    write_block(objects, thread, other, out)
+    write_block(classes, objects, thread, other, out)
 }
 
 /// Writes a `while`, its block, and a `done`.
 #[cycle(lines)]
 fn write_while(
+    classes: &[ClassDef],
     objects: &[ObjectDef],
     thread: &ThreadDef,
     test: Test,
@@ -197,10 +209,10 @@ fn write_while(
     out: &mut Vec<u8>,
 ) -> Result<(), NoMemory>
     ensures { OnOk result (out.new.items ≡ out.old.items
-        ++ statements_text objects.now thread.now (While test (all_of body.now.statements.items) Nothing)) }
+        ++ statements_text classes.now objects.now thread.now (While test (all_of body.now.statements.items) Nothing)) }
 {
     write_test(b"while", thread, test, out)?;
-    write_block(objects, thread, body, out)?;
+    write_block(classes, objects, thread, body, out)?;
     write_done(out)
 }
 

@@ -44,7 +44,7 @@ fn expect<R: Abort + AllocGlobal>(rt: &R, fuel: u32, last: Entry) -> Result<(), 
 }
 
 /// Asserts that the first thread makes this entry next.
-fn take(rt: &impl Abort, machine: &mut Machine, entry: Entry)
+pub fn take(rt: &impl Abort, machine: &mut Machine, entry: Entry)
     requires { 0 < length machine.old.threads }
     ensures { 0 < length machine.new.threads }
 {

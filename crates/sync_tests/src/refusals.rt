@@ -58,7 +58,7 @@ fn lines_that_close_no_block(rt: HostRuntime) -> Result<(), Fail> {
 #[test]
 fn locals_of_open_syncs(rt: HostRuntime) -> Result<(), Fail> {
     let alloc = rt.alloc();
-    let rows: [(&[u8], u32); 10] = [
+    let rows: [(&[u8], u32); 11] = [
         (b"sync o\nset o 1\ndone\nend\n", 8),
         (b"sync o\nadd o x y\ndone\nend\n", 8),
         (b"sync o\nsub o x y\ndone\nend\n", 8),
@@ -67,6 +67,7 @@ fn locals_of_open_syncs(rt: HostRuntime) -> Result<(), Fail> {
         (b"sync o\nelem o a x\ndone\nend\n", 8),
         (b"sync o\nget o x 0\ndone\nend\n", 8),
         (b"sync o\nhash o x\ndone\nend\n", 8),
+        (b"sync o\nnew o C\ndone\nend\n", 8),
         (
             b"sync o\nsync x\nif x < y\nelse\nset o 1\ndone\ndone\ndone\nend\n",
             11,
@@ -141,12 +142,13 @@ fn sections_that_are_not_closed(rt: HostRuntime) {
 #[test]
 fn texts_that_are_read(rt: HostRuntime) -> Result<(), Fail> {
     let alloc = rt.alloc();
-    let rows: [&[u8]; 7] = [
+    let rows: [&[u8]; 8] = [
         b"end\n",
         b"sync o\ndone\nset o 1\nend\n",
         b"sync o\nput o 0 x\nget x o 0\nwait o\nprint o\ndone\nend\n",
         b"if x = y\nelse\ndone\nend\n",
         b"if x < y\nif x < y\nelse\ndone\nelse\nwhile x = y\ndone\ndone\nend\n",
+        b"while x < y\nsync o\nnew x C\ndone\nnew o C\ndone\nend\n",
         b"sync o\nlocal z\nset z 1\ndone\nprint z\nend\n",
         b"\tsync  o # on o\r\n\n done\nend",
     ];

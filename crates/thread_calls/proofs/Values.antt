@@ -1,11 +1,13 @@
 -- Values that may stand beside a heap's objects.
-use Rattle.std.proofs.Common.{◌≡◌, ◌<◌, ℕ, ltb-true, true, length, arith, refl}
+use Rattle.std.proofs.Common.{◌≡◌, ◌<◌, ◌&&◌, Bool, ℕ, ltb-true, true, false, length, arith, refl}
+use Rattle.std.specs.List.{AllByRecursion}
 use Rattle.std.proofs.lemmas.Int.{ints}
 use Rattle.plain_monitor.specs.declared.entry.Value.{Value}
 use Rattle.plain_monitor.specs.declared.entry.Value.TheVariants.{Nil, Int, Ref}
+use Rattle.plain_monitor.specs.Made.{refers}
 use Rattle.plain_monitor.specs.Numbers.{IsInRange, is_in_range}
 use Rattle.core_world.specs.Threads.Known.{Known}
-use Rattle.core_world.specs.Threads.References.{has_reference, has_value}
+use Rattle.core_world.specs.Threads.References.{is_object, numbering, knows_by_log, has_reference, has_value}
 use Rattle.core_world.specs.Trees.Calls.{is_value}
 use Rattle.heap_table.specs.Seen.{HeapSeen}
 use Rattle.plain_machine.specs.Values.{IsValueOf}
@@ -16,12 +18,22 @@ range_test z r = let a = r.0 in let b = r.1 in grind (arith, ints)
 in_range : (z : _) → is_in_range z ≡ true → IsInRange z
 in_range z r = grind (arith, ints)
 
--- where the thread knows each of these objects, it may store and print such a value
-pub value_is : (h : HeapSeen) (k : Known) (n : ℕ) (v : Value) → ((o : ℕ) → o < n → has_reference h.heap.shape k o ≡ true) → IsValueOf n v
+-- the thread may store and print such a value where it knows the object to which the value refers
+pub value_is : (h : HeapSeen) (k : Known) (n : ℕ) (Knows : ℕ → Type 0) (v : Value)
+    → ((o : ℕ) → o < n → Knows o → has_reference h.heap.shape k o ≡ true) → AllByRecursion Knows (refers v) → IsValueOf n v
     → has_value h.heap.shape k v ≡ true
-value_is h k n Nil knows is = refl
-value_is h k n (Int z) knows is = range_test z is.1
-value_is h k n (Ref o) knows is = knows o is.0
+value_is h k n Knows Nil has knows is = refl
+value_is h k n Knows (Int z) has knows is = range_test z is.1
+value_is h k n Knows (Ref o) has knows is = has o is.0 knows.0
+
+-- the heap has an object to which a thread has a reference
+first_of : (a b : Bool) → (a && b) ≡ true → a ≡ true
+first_of true b is = refl
+first_of false b is = absurd (cc (is))
+
+pub within : (h : HeapSeen) (k : Known) (o : ℕ) → has_reference h.heap.shape k o ≡ true → o < length h.heap.shape.objects
+within h k o is =
+    ltb-true o (length h.heap.shape.objects) (first_of (is_object h.heap.shape o) (knows_by_log (numbering h.heap.shape) k.log o) is)
 
 pub value_of : (h : HeapSeen) (v : Value) → is_value h.heap.shape v ≡ true → IsValueOf (length h.heap.shape.objects) v
 value_of h Nil is = (tt, tt)

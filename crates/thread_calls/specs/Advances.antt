@@ -8,7 +8,7 @@ use Rattle.core_world.specs.declared.answer.Why.{Why}
 use Rattle.core_world.specs.declared.task.Task.{Task}
 use Rattle.core_world.specs.declared.task.Task.TheVariants as task
 use Rattle.core_world.specs.Trees.Calls.{side_purpose}
-use Rattle.core_world.specs.Trees.Operations.{enter_steps, exit_steps, wait_steps, notify_steps, notify_all_steps, hash_steps, get_steps, put_steps, print_steps, finish_steps, dump_steps}
+use Rattle.core_world.specs.Trees.Operations.{enter_steps, exit_steps, wait_steps, notify_steps, notify_all_steps, hash_steps, get_steps, put_steps, print_steps, finish_steps, dump_steps, create_steps}
 use Rattle.core_world.specs.Trees.SafepointSteps.{poll_steps, stop_steps, resume_steps}
 use Rattle.core_world.specs.Threads.Known.{StepMade}
 use Rattle.core_world.specs.Due.{Ran}
@@ -41,6 +41,7 @@ DoneIn h p q (task.Get o slot) = (value : Value) × RanFrom h (get_steps (start_
 DoneIn h p q (task.Put o slot value) = RanFrom h (put_steps (start_now h p) o slot value) p q (Ok tt)
 DoneIn h p q (task.Print value) = RanFrom h (print_steps (start_now h p) value) p q tt
 DoneIn h p q task.Dump = (number : ℕ) × RanFrom h (dump_steps h.heap.shape (start_now h p)) p q (Ok (Done number))
+DoneIn h p q (task.Create c) = (o : ℕ) × RanFrom h (create_steps h.heap.shape (start_now h p) c) p q (Ok o)
 DoneIn h p q (task.Finish ending) = RanFrom h (finish_steps (start_now h p) ending) p q tt
 DoneIn h p q task.Poll = RanFrom h (poll_steps (side_purpose task.Poll (start_now h p))) p q (Done tt)
 DoneIn h p q task.Stop =

@@ -1,5 +1,5 @@
 -- What holds of a pass, and of the state of its thread, between two calls.
-use Rattle.std.specs.Prelude.{◌≡◌, ℕ, ◌+◌, ◌*◌, ◌≤◌, true, false, length, Option, is_some}
+use Rattle.std.specs.Prelude.{◌≡◌, ℕ, ◌≤◌, true, false, length, Option, is_some}
 use Rattle.plain_monitor.specs.Limits.{most_fuel, entries_for}
 use Rattle.core_world.specs.declared.task.Unfinished.{Unfinished}
 use Rattle.heap_table.specs.Resting.{Rests}
@@ -13,10 +13,12 @@ use Rattle.thread_frame.specs.Frames.{FrameSeen, next_state, has_ended}
 use Rattle.thread_frame.specs.Sights.{counts_from}
 use Rattle.thread_logs.specs.Followed.{Follows, HaveValues}
 
--- The heap is one for the program: it has a place for each thread, and the program's objects, of which the declared ones have the first numbers.
+-- The heap is one for the program: it has a place for each thread and each class, and the program's objects, of which the declared ones have the first
+-- numbers; the others are those that threads may make.
 pub record IsHeapOf (h : HeapSeen) (p : ProgramText) : Type 0 where
   pub program : IsProgram p
   pub threads : h.heap.shape.threads ≡ length p.threads
+  pub classes : h.heap.shape.classes ≡ length p.classes
   pub objects : h.heap.shape.objects ≡ shape_of p
   pub declared : h.heap.shape.declared ≡ declared_total p
 

@@ -1,11 +1,13 @@
 //! The calls that make one entry each, by their passes.
 
-ghost use Rattle.std.specs.Prelude.{◌≡◌, ◌+◌, ◌≤◌, length, false};
+ghost use Rattle.std.specs.Prelude.{◌≡◌, ◌+◌, ◌<◌, ◌≤◌, length, false};
 ghost use Rattle.core_calls.specs.CallsSay.{is_full};
 ghost use Rattle.core_calls.specs.Moments.{HasCalled};
 ghost use Rattle.core_world.specs.declared.task.Task.TheVariants as task;
 ghost use Rattle.heap_table.specs.Resting.{MayOperate, start_now};
+ghost use Rattle.plain_history.specs.Known.{news};
 ghost use Rattle.plain_machine.specs.declared.call.Call.TheVariants as call;
+ghost use Rattle.plain_monitor.specs.Limits.{most_made};
 ghost use Rattle.thread_calls.specs.inner.Made.{HasMade, Holds, MayMake};
 ghost use Rattle.thread_calls.specs.Timed.{StaysTimed};
 
@@ -130,6 +132,19 @@ fn hash(heap: &Heap, pass: &mut Pass, local: u32, object: u32, now: u64) -> Turn
     }
 }
 
+// A new object, for this local: the thread's next one. It is not refused, since the thread has made fewer than 1,024.
+fn create(heap: &Heap, pass: &mut Pass, local: u32, class: u32) -> Turn<Entry>
+    requires may { MayOperate heap.now pass.old (task.Create class) }
+    requires room { length (news pass.old.known.log) < most_made }
+    ensures made { HasMade heap.now pass.old pass.new (call.New local class) result }
+    ensures called { HasCalled (task.Create class) pass.old.known pass.new.known }
+{
+    match runtime::create(heap, pass, class) {
+        Ok(object) => Turn::Done(Entry::New { object, class }),
+        Err(_) => unreachable!(),
+    }
+}
+
 // A print.
 fn print(heap: &Heap, pass: &mut Pass, value: Value) -> Turn<Entry>
     requires may { MayOperate heap.now pass.old (task.Print value) }
@@ -188,7 +203,7 @@ pub(crate) fn make<C: Clock>(
         Call::Hash { local, object } => {
             hash(heap, pass, local, object, moment(clock.now(), tick))
         }
-        Call::New { .. } => unreachable!(),
+        Call::New { local, class } => create(heap, pass, local, class),
         Call::Print { value } => print(heap, pass, value),
         Call::Dump { number } => dump(heap, pass, number),
     }

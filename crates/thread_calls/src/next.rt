@@ -18,7 +18,8 @@ use thread_frame::{Frame, Walked};
 ///
 /// `Done(true)` says that an instruction was done, `Done(false)` that the thread went on without one: it ends for want of fuel, it left a
 /// hold as it unwinds, or it has ended. `Pending(why)` is the answer of the call that was made: what it asks stays what the thread asks
-/// next, but for a wait that let go, which then goes on to wait. Calls that take a moment get the clock's time now, by `tick`.
+/// next, but for a wait that let go, which then goes on to wait. A `new` makes the thread's next object on the heap, to which its local then
+/// refers; it is never pending. Calls that take a moment get the clock's time now, by `tick`.
 pub fn advance<C: Clock>(
     program: &Program,
     heap: &Heap,

@@ -2,28 +2,23 @@
 use Rattle.std.proofs.Common.{◌≡◌, ℕ, zero, suc, ◌+◌, ◌<◌, ◌≤◌, true, List, [], ◌∷◌, length, map, slice_get, slice_set, Option, Some, None, IsSome, option_map, option_and_then, refl, sym, ap, ◌∙◌, subst, arith}
 use Rattle.std.specs.List.{AllByRecursion}
 use Rattle.std.proofs.lemmas.List.{length-map}
-use Rattle.std.proofs.lemmas.Option.{none-some, same_Some, cond_some}
+use Rattle.std.proofs.lemmas.Option.{none-some, same_Some}
 use Rattle.plain_monitor.specs.declared.entry.Entry.{Entry}
 use Rattle.plain_monitor.specs.declared.entry.Logged.{Logged}
 use Rattle.plain_monitor.specs.Objects.{PlainObject, new_objects, take_entry}
+use Rattle.plain_monitor.specs.Made.{take_made, made_after}
 use Rattle.plain_monitor.specs.Order.{order}
 use Rattle.plain_monitor.specs.History.{RisesAbove, objects_after, log_of, run_all}
-use Rattle.plain_monitor.specs.Monitor.{only_if}
 use Rattle.plain_history.specs.Joined.{run_log, both, take_joined, take_all_joined, EachTakesItsLog}
 use Rattle.plain_history.proofs.Joined.{first_some}
-use Rattle.object_program.specs.Program.{ProgramText, shape_of}
+use Rattle.object_program.specs.Program.{ProgramText, shape_of, numbering_of}
 use Rattle.object_program.specs.Valid.{IsProgram}
-use Rattle.machine_laws.specs.Reached.{IsReached}
-use Rattle.machine_laws.proofs.ReachedAsked.{asked_of, taken}
-use Rattle.machine_laws.proofs.ReachedEntries.{progress}
-use Rattle.machine_laws.proofs.ReachedFirst.{first_is_reached}
+use Rattle.machine_laws.proofs.ReachedAsked.{taken}
 use Rattle.machine_laws.proofs.ReachedFrame.{moved_to}
-use Rattle.machine_laws.proofs.ReachedKinds.{thread_of}
-use Rattle.machine_laws.proofs.ReachedNeeds.{made_there}
 use Rattle.plain_machine.specs.declared.call.Asked.{Asked}
 use Rattle.plain_machine.specs.Thread.{ThreadState}
 use Rattle.plain_machine.specs.Asking.{ask, fits, behind_entry, thread_after}
-use Rattle.plain_machine.specs.Machine.{PlainMachine, new_machine, code_of, take}
+use Rattle.plain_machine.specs.Machine.{PlainMachine, new_machine, code_of, made_behind, take}
 use Rattle.plain_machine.specs.Legal.{IsLegal, behind_all, machine_after}
 use Rattle.thread_logs.specs.inner.Coded.{Coded, coded_step}
 use Rattle.thread_logs.specs.Followed.{Follows, HaveFollowed}
@@ -134,23 +129,6 @@ behind_parts m (x ∷ xs) =
     onward None h = refl
     onward (Some n) h = h n
 
--- an entry that the thread asks for and the objects take
-taken_together : (m n : PlainMachine) (t : ℕ) (e : Entry) → IsReached m → take_together m t e ≡ Some n → take m t e ≡ Some n
-taken_together m n t e h k =
-    let a = first_some (λ s. together m t (thread_after m.program (code_of m.program t) s e) (take_entry m.objects t e)) (slice_get m.threads t) n k in
-    by_parts a.0 a.1 (thread_after m.program (code_of m.program t) a.0 e) (take_entry m.objects t e) refl refl a.2
-  where
-    by_parts : (s : ThreadState) → slice_get m.threads t ≡ Some s → (r : Option ThreadState) (o : Option (List PlainObject)) → thread_after m.program (code_of m.program t) s e ≡ r
-        → take_entry m.objects t e ≡ o → together m t r o ≡ Some n → take m t e ≡ Some n
-    by_parts s at None o f g k = absurd (none-some n k)
-    by_parts s at (Some after) None f g k = absurd (none-some n k)
-    by_parts s at (Some after) (Some objects) f g k =
-        let a = first_some (λ asked. only_if (fits asked e) (behind_entry m.program (code_of m.program t) s asked e)) (ask s) after f in
-        let fit = (cond_some (fits a.0 e) (behind_entry m.program (code_of m.program t) s a.0 e) after a.2).0 in
-        let asked = asked_of m.program s a.0 (thread_of m t s (record { reached = h; at = at })) a.1 in
-        let made = made_there m t s a.0 e objects h asked fit g in
-        rw (at, f, made, g) k
-
 -- the machine where this is made: threads and objects together don't look at that
 abbrev with_made : List (List ℕ) → PlainMachine → PlainMachine
 with_made made m = record m { made = made }
@@ -176,13 +154,55 @@ all_together made m last (x ∷ xs) h =
     let a = first_some (λ n. behind_all n xs) (take m x.0 x.1.entry) last h in
     rw (took_together made m a.0 x.0 x.1.entry a.1) (all_together made a.0 last xs a.2)
 
--- and a reached machine takes it, since all is there that its threads need
-pub all_taken : (m last : PlainMachine) (xs : List (ℕ × Logged)) → IsReached m → run_all take_together m xs ≡ Some last → behind_all m xs ≡ Some last
-all_taken m last [] h e = e
-all_taken m last (x ∷ xs) h e =
-    let a = first_some (λ n. run_all take_together n xs) (take_together m x.0 x.1.entry) last e in
-    let takes = taken_together m a.0 x.0 x.1.entry h a.1 in
-    rw takes (all_taken a.0 last xs (progress m a.0 x.0 x.1.entry h takes).reached a.2)
+-- threads and objects together go on alike, whatever was made
+moved_alike : (made : List (List ℕ)) (m : PlainMachine) (t : ℕ) (r : Option ThreadState) (o : Option (List PlainObject))
+    → together (with_made made m) t r o ≡ option_map (with_made made) (together m t r o)
+moved_alike made m t None o = refl
+moved_alike made m t (Some s) None = refl
+moved_alike made m t (Some s) (Some objects) = refl
+
+step_alike : (made : List (List ℕ)) (m : PlainMachine) (t : ℕ) (e : Entry) → take_together (with_made made m) t e ≡ option_map (with_made made) (take_together m t e)
+step_alike made m t e = by_thread (slice_get m.threads t)
+  where
+    by_thread : (r : Option ThreadState)
+        → option_and_then (λ s. together (with_made made m) t (thread_after m.program (code_of m.program t) s e) (take_entry m.objects t e)) r
+        ≡ option_map (with_made made) (option_and_then (λ s. together m t (thread_after m.program (code_of m.program t) s e) (take_entry m.objects t e)) r)
+    by_thread None = refl
+    by_thread (Some s) = moved_alike made m t (thread_after m.program (code_of m.program t) s e) (take_entry m.objects t e)
+
+pub all_alike : (made : List (List ℕ)) (m last : PlainMachine) (xs : List (ℕ × Logged)) → run_all take_together m xs ≡ Some last
+    → run_all take_together (with_made made m) xs ≡ Some (with_made made last)
+all_alike made m last [] h = ap (option_map (with_made made)) h
+all_alike made m last (x ∷ xs) h =
+    let a = first_some (λ n. run_all take_together n xs) (take_together m x.0 x.1.entry) last h in
+    rw (step_alike made m x.0 x.1.entry, a.1) (all_alike made a.0 last xs a.2)
+
+-- and the machine takes what they take together, where each entry finds what it needs
+taken_together : (m n : PlainMachine) (made : List (List ℕ)) (t : ℕ) (e : Entry) → take_together m t e ≡ Some n → made_behind m t e ≡ Some made
+    → (take m t e ≡ Some (with_made made n)) × (n.program ≡ m.program)
+taken_together m n made t e k makes =
+    let a = first_some (λ s. together m t (thread_after m.program (code_of m.program t) s e) (take_entry m.objects t e)) (slice_get m.threads t) n k in
+    by_parts a.0 a.1 (thread_after m.program (code_of m.program t) a.0 e) (take_entry m.objects t e) refl refl a.2
+  where
+    by_parts : (s : ThreadState) → slice_get m.threads t ≡ Some s → (r : Option ThreadState) (o : Option (List PlainObject)) → thread_after m.program (code_of m.program t) s e ≡ r
+        → take_entry m.objects t e ≡ o → together m t r o ≡ Some n → (take m t e ≡ Some (with_made made n)) × (n.program ≡ m.program)
+    by_parts s at None o f g k = absurd (none-some n k)
+    by_parts s at (Some after) None f g k = absurd (none-some n k)
+    by_parts s at (Some after) (Some objects) f g k =
+        let same = same_Some _ n k in (
+          rw (at, f, makes, g) (ap (λ (x : PlainMachine). Some (with_made made x)) same),
+          ap (λ (x : PlainMachine). x.program) (sym same),
+        )
+
+pub all_taken : (m last : PlainMachine) (xs : List (ℕ × Logged)) (made : List (List ℕ)) → run_all take_together m xs ≡ Some last
+    → run_all (take_made (numbering_of m.program)) m.made xs ≡ Some made → behind_all m xs ≡ Some (with_made made last)
+all_taken m last [] made h g = ap (λ (x : List (List ℕ)). Some (with_made x m)) (same_Some m.made made g) ∙ ap (λ (x : PlainMachine). Some (with_made made x)) (same_Some m last h)
+all_taken m last (x ∷ xs) made h g =
+    let a = first_some (λ n. run_all take_together n xs) (take_together m x.0 x.1.entry) last h in
+    let b = first_some (λ k. run_all (take_made (numbering_of m.program)) k xs) (take_made (numbering_of m.program) m.made x.0 x.1.entry) made g in
+    let step = taken_together m a.0 b.0 x.0 x.1.entry a.1 b.1 in
+    let rest : run_all (take_made (numbering_of a.0.program)) b.0 xs ≡ Some made = ap (λ p. run_all (take_made (numbering_of p)) b.0 xs) step.1 ∙ b.2 in
+    rw step.0 (all_taken (with_made b.0 a.0) (with_made b.0 last) xs made (all_alike b.0 a.0 last xs a.2) rest)
 
 -- one thread's log leads to the same state with the code beside it
 run_coded : (p : ProgramText) (t : ℕ) (log : List Logged) (s final : ThreadState)
@@ -311,10 +331,12 @@ module _ (law : Law) (p : ProgramText) (fuel : ℕ) (logs : List (List Logged)) 
   now : (h : HaveFollowed p fuel logs) → IsBehind p fuel logs h
   now h = there h (objects_after (shape_of p) logs) refl h.objects.taken
 
+  by_made : (h : HaveFollowed p fuel logs) (r : Option (List (List ℕ))) → made_after (numbering_of p) logs ≡ r → IsSome r → IsSome (machine_after p fuel logs)
+  by_made h None e s = absurd (cc s)
+  by_made h (Some made) e s = subst IsSome (sym (all_taken (new_machine p fuel) (now h).machine (order logs) made (now h).is e)) refl
+
   pub legal : IsProgram p → HaveFollowed p fuel logs → IsLegal p fuel logs
-  legal valid h =
-      let takes = all_taken (new_machine p fuel) (now h).machine (order logs) (first_is_reached p fuel valid) (now h).is in
-      record { rises = h.objects.rises; taken = subst IsSome (sym takes) refl }
+  legal valid h = record { rises = h.objects.rises; taken = by_made h (made_after (numbering_of p) logs) refl h.made }
 
   module _ (m : PlainMachine) (h : HaveFollowed p fuel logs) (at : machine_after p fuel logs ≡ Some m) where
     same : (now h).machine ≡ with_made (new_machine p fuel).made m

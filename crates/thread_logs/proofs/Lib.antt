@@ -6,3 +6,4 @@ pub mod Told
 pub mod Standing
 pub mod Joining
 pub mod MachineSwaps
+pub mod References

@@ -6,9 +6,9 @@ use Rattle.std.proofs.lemmas.Int.{ints}
 use Rattle.std.proofs.lemmas.List.Folds.{sum_by-replicate}
 use Rattle.std.proofs.lemmas.List.Sums.{sum_by-set}
 use Rattle.plain_monitor.specs.declared.entry.Entry.{Entry}
-use Rattle.plain_monitor.specs.declared.entry.Entry.TheVariants.{Get, Hash}
+use Rattle.plain_monitor.specs.declared.entry.Entry.TheVariants.{Get, Hash, New}
 use Rattle.plain_monitor.specs.declared.entry.Ending.{Ending}
-use Rattle.plain_monitor.specs.declared.entry.Value.TheVariants.{Int}
+use Rattle.plain_monitor.specs.declared.entry.Value.TheVariants.{Int, Ref}
 use Rattle.plain_monitor.specs.Numbers.{IsInRange}
 use Rattle.plain_monitor.proofs.Lists.{all_at}
 use Rattle.object_program.specs.declared.program.ThreadDef.{ThreadDef}
@@ -68,6 +68,13 @@ less p s o st held = let there : IsObject p o = held.0 in sum_less s.holds o (om
 hash_value : (value : ℕ) → value < 2 ^ 32 → IsInRange (pos value)
 hash_value value low = (omega (arith, ints), omega (arith, ints))
 
+new_answer : (p : ProgramText) (s : ThreadState) (x c : ℕ) (e : Entry) → IsStateOf p s
+    → is_call (call.New x c) e ≡ true → HasValue (objects_total p) e → IsAnswered p s (answered s (call.New x c) e)
+new_answer p s x c (New object class) st fit v =
+    let counted : IsStateOf p (record s { made = s.made + 1 }) = record { holds = st.holds; few = st.few; dumps = st.dumps; locals = st.locals } in
+    record { state = set_state p (record s { made = s.made + 1 }) x (Ref object) counted (v, tt); few = omega arith }
+new_answer p s x c e st fit v = absurd (false≢true fit)
+
 get_answer : (p : ProgramText) (s : ThreadState) (x o k : ℕ) (e : Entry) → IsStateOf p s
     → is_call (call.Get x o k) e ≡ true → HasValue (objects_total p) e
     → IsAnswered p s (answered s (call.Get x o k) e)
@@ -80,7 +87,7 @@ hash_answer p s x o (Hash object value drawn) st fit v =
     record { state = set_state p s x (Int (pos value)) st (tt, hash_value value v); few = omega arith }
 hash_answer p s x o e st fit v = absurd (false≢true fit)
 
-answer : (p : ProgramText) (s : ThreadState) (c : Call) (e : Entry) → IsStateOf p s → IsCallOf p s.holds s.dumps c
+answer : (p : ProgramText) (s : ThreadState) (c : Call) (e : Entry) → IsStateOf p s → IsCallOf p s.holds s.dumps s.made c
     → is_call c e ≡ true → HasValue (objects_total p) e → IsAnswered p s (answered s c e)
 answer p s (call.Enter o) e st h fit v =
     let there : IsObject p o = h.0 in
@@ -91,7 +98,7 @@ answer p s (call.Exit o) e st h fit v =
     record { state = holds_set p s o (holds_of s o - 1) st (omega (arith, fewer, st.few)); few = omega (arith, fewer) }
 answer p s (call.Get x o k) e st h fit v = get_answer p s x o k e st fit v
 answer p s (call.Hash x o) e st h fit v = hash_answer p s x o e st fit v
-answer p s (call.New x c) e st h fit v = absurd h
+answer p s (call.New x c) e st h fit v = new_answer p s x c e st fit v
 answer p s (call.Dump k) e st h fit v =
     record { state = record { holds = st.holds; few = st.few; dumps = h.1; locals = st.locals }; few = omega arith }
 answer p s c e st h fit v = record { state = st; few = omega arith }
@@ -166,7 +173,7 @@ abbrev IsFirstRun : ProgramText → ℕ → ThreadState → Type 0
 IsFirstRun p fuel s = IsRunOf p (replicate (objects_total p) 0) fuel s
 
 first_runs : (p : ProgramText) (fuel : ℕ) (ts : List ThreadDef) → IsProgram p
-    → AllByRecursion (RunsAll (length p.objects)) ts
+    → AllByRecursion (RunsAll p) ts
     → AllByRecursion (IsFirstRun p fuel) (map (λ t. first_state p t fuel) ts)
 first_runs p fuel [] h all = tt
 first_runs p fuel (d ∷ ts) h all = (first_run p d fuel h all.0, first_runs p fuel ts h all.1)

@@ -5,8 +5,9 @@ use Rattle.plain_monitor.specs.declared.entry.Entry.{Entry}
 use Rattle.plain_monitor.specs.declared.entry.Entry.TheVariants as entry
 use Rattle.plain_monitor.specs.declared.entry.Logged.{Logged}
 use Rattle.plain_monitor.specs.History.{LegalObjects, log_of}
+use Rattle.plain_monitor.specs.Made.{IsMadeInTime}
 use Rattle.plain_history.specs.Joined.{run_log}
-use Rattle.object_program.specs.Program.{ProgramText, shape_of, objects_total}
+use Rattle.object_program.specs.Program.{ProgramText, shape_of, objects_total, numbering_of}
 use Rattle.plain_machine.specs.Thread.{ThreadState}
 use Rattle.plain_machine.specs.Asking.{thread_after}
 use Rattle.plain_machine.specs.Machine.{code_of, new_machine}
@@ -23,16 +24,18 @@ pub record HasFollowed (p : ProgramText) (fuel t : ℕ) (log : List Logged) : Ty
   pub now : ThreadState
   pub follows : Follows p fuel t log now
 
--- the objects take the logs, of which there is one for each thread, and each follows its thread's code
+-- the objects take the logs, of which there is one for each thread, and each follows its thread's code; and each entry finds what it needs
 pub record HaveFollowed (p : ProgramText) (fuel : ℕ) (logs : List (List Logged)) : Type 0 where
   pub objects : LegalObjects (shape_of p) logs
+  pub made : IsMadeInTime (numbering_of p) logs
   pub count : length logs ≡ length p.threads
   pub each : (t : ℕ) → t < length p.threads → HasFollowed p fuel t (log_of logs t)
 
--- what was read from a slot is a value of the program, and a hash has 32 bits
+-- what was read from a slot is a value of the program, a hash has 32 bits, and what was made is one of the program's objects
 abbrev pub HasValue : ℕ → Entry → Type 0
 HasValue n (entry.Get object slot value) = IsValueOf n value
 HasValue n (entry.Hash object value drawn) = value < 2 ^ 32
+HasValue n (entry.New object class) = object < n
 HasValue n _ = Unit {0}
 
 abbrev pub HaveValues : ProgramText → List Logged → Type 0

@@ -12,4 +12,5 @@ pub use cuts::machines_pass_through_a_cut_in_order;
 pub use joins::{logs_that_follow_the_code_are_legal, the_machine_is_what_the_logs_make_it};
 pub use threads::{
     a_log_tells_where_its_thread_stands, fronts_of_logs_follow_the_code, threads_stay_theirs,
+    what_a_thread_asks_its_log_tells,
 };

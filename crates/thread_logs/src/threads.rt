@@ -1,15 +1,21 @@
 //! Laws of one thread of a program and its log. The functions do nothing.
 
-ghost use Rattle.std.specs.Prelude.{◌≡◌, ◌+◌, ◌*◌, ◌<◌, ◌≤◌, ◌++◌, ◌∷◌, [], ℕ, not, false, List, length, slice_get, take, Some};
-ghost use Rattle.object_program.specs.Program.{ProgramText, objects_total};
+ghost use Rattle.std.specs.Prelude.{◌≡◌, ◌+◌, ◌*◌, ◌<◌, ◌≤◌, ◌++◌, ◌∷◌, [], ℕ, not, true, false, List, length, slice_get, take, Some};
+ghost use Rattle.std.specs.List.{AllByRecursion};
+ghost use Rattle.object_program.specs.Program.{ProgramText, objects_total, numbering_of};
 ghost use Rattle.object_program.specs.Valid.{IsProgram};
 ghost use Rattle.plain_history.specs.HeldByLog.{held_by, nothing_held};
-ghost use Rattle.plain_machine.specs.Asking.{thread_after};
+ghost use Rattle.plain_history.specs.Known.{news, knows_by_log};
+ghost use Rattle.plain_machine.specs.Asking.{ask, fits, thread_after};
 ghost use Rattle.plain_machine.specs.Machine.{code_of, new_machine, is_live};
 ghost use Rattle.machine_laws.specs.ReachedThread.{IsThreadOf};
 ghost use Rattle.plain_machine.specs.Ready.{waits_on};
-ghost use Rattle.plain_machine.specs.Thread.{ThreadState, holds_of};
+ghost use Rattle.plain_machine.specs.Thread.{ThreadState, local, holds_of};
 ghost use Rattle.machine_laws.specs.Work.{work_of};
+ghost use Rattle.plain_machine.specs.declared.call.Asked.{Asked};
+ghost use Rattle.plain_monitor.specs.Made.{needs};
+ghost use Rattle.plain_monitor.specs.declared.entry.Entry.{Entry};
+ghost use Rattle.plain_monitor.specs.declared.entry.Value.TheVariants.{Ref};
 ghost use Rattle.plain_monitor.specs.declared.entry.Logged.{Logged};
 ghost use Rattle.wait_history.specs.WaitsByLog.{waits_by};
 ghost use Rattle.thread_logs.specs.Followed.{Follows, HasFollowed, HaveValues, ends_by, dumps_by};
@@ -32,7 +38,7 @@ pub fn threads_stay_theirs()
 {}
 
 /// Where a thread stands is told by its log: how often it holds each object, whether it waits on one, whether it has ended, and how many
-/// dumps it has made.
+/// dumps and objects it has made.
 pub fn a_log_tells_where_its_thread_stands()
     ensures holds { (p : ProgramText) (fuel t o : ℕ) (log : List Logged) (s : ThreadState)
         → Follows p fuel t log s → o < objects_total p
@@ -43,6 +49,19 @@ pub fn a_log_tells_where_its_thread_stands()
         → Follows p fuel t log s → not (is_live s) ≡ ends_by log }
     ensures dumps { (p : ProgramText) (fuel t : ℕ) (log : List Logged) (s : ThreadState)
         → Follows p fuel t log s → s.dumps ≡ dumps_by log }
+    ensures made { (p : ProgramText) (fuel t : ℕ) (log : List Logged) (s : ThreadState) → IsProgram p
+        → Follows p fuel t log s → s.made ≡ length (news log) }
+{}
+
+/// What a thread asks its log tells: each object that an entry needs which fits it is declared, or the thread has made it or got it from a
+/// slot; and so is each object to which its locals refer.
+pub fn what_a_thread_asks_its_log_tells()
+    ensures asked { (p : ProgramText) (fuel t : ℕ) (log : List Logged) (s : ThreadState) (a : Asked) (e : Entry)
+        → IsProgram p → Follows p fuel t log s → ask s ≡ Some a → fits a e ≡ true
+        → AllByRecursion (λ o. knows_by_log (numbering_of p) log o ≡ true) (needs e) }
+    ensures local { (p : ProgramText) (fuel t x o : ℕ) (log : List Logged) (s : ThreadState)
+        → IsProgram p → Follows p fuel t log s → local s x ≡ Ref o
+        → knows_by_log (numbering_of p) log o ≡ true }
 {}
 
 /// The front of a log that follows its thread's code follows it, too.

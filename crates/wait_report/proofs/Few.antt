@@ -25,13 +25,13 @@ use Rattle.machine_laws.proofs.ReachedRunning.{RunsAll, first_run, program_runs}
 use Rattle.wait_report.specs.Counts.{is_enter, is_entered}
 
 -- a thread's work before its first entry
-first_work : (p : ProgramText) (d : ThreadDef) (fuel : ℕ) → IsProgram p → RunsAll (length p.objects) d → work_of (first_state p d fuel) ≤ 2 * fuel + 1
+first_work : (p : ProgramText) (d : ThreadDef) (fuel : ℕ) → IsProgram p → RunsAll p d → work_of (first_state p d fuel) ≤ 2 * fuel + 1
 first_work p d fuel h all =
     let run = first_run p d fuel h all in
     let none = sum_by-replicate (λ (x : ℕ). x) (objects_total p) 0 in
     omega (arith, run.fuel_falls, run.one_entry, ap sum run.holds_stay, none)
 
-works : (p : ProgramText) (fuel : ℕ) (ds : List ThreadDef) → IsProgram p → AllByRecursion (RunsAll (length p.objects)) ds → work_in (map (λ d. first_state p d fuel) ds) ≤ length ds * (2 * fuel + 1)
+works : (p : ProgramText) (fuel : ℕ) (ds : List ThreadDef) → IsProgram p → AllByRecursion (RunsAll p) ds → work_in (map (λ d. first_state p d fuel) ds) ≤ length ds * (2 * fuel + 1)
 works p fuel [] h all = omega arith
 works p fuel (d ∷ ds) h all = omega (arith, first_work p d fuel h all.0, works p fuel ds h all.1)
 

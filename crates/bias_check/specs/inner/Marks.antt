@@ -3,7 +3,7 @@ use Rattle.std.specs.Prelude.{ℕ, zero, suc, ◌+◌, Bool, true, false, ◌&&�
 use Rattle.lock_policy.specs.Draws.{start_state, next_state, value_of}
 use Rattle.plain_monitor.specs.declared.entry.Entry.{Entry}
 use Rattle.plain_monitor.specs.declared.entry.Entry.TheVariants.{Hash}
-use Rattle.object_program.specs.Program.{ProgramText, declared_total}
+use Rattle.object_program.specs.Program.{ProgramText, objects_total}
 use Rattle.bias_check.specs.declared.hashes.Mark.{Mark}
 use Rattle.bias_check.specs.declared.hashes.Mark.TheVariants.{Unseen, Undrawn, Drawn, Bad}
 use Rattle.bias_check.specs.declared.hashes.Drawer.{Drawer}
@@ -21,7 +21,7 @@ drawers_to start (suc t) = drawers_to start t ++ new_drawer start t ∷ []
 
 abbrev pub new_hashes : ProgramText → ℕ → HashState
 new_hashes p start =
-    record { marks = replicate (declared_total p) Unseen; drawers = drawers_to start (length p.threads) }
+    record { marks = replicate (objects_total p) Unseen; drawers = drawers_to start (length p.threads) }
 
 -- one draw
 abbrev pub drawer_next : Drawer → Drawer

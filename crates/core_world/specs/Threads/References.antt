@@ -1,13 +1,10 @@
 -- To which objects a thread has a reference, and which values it may hand on.
-use Rattle.std.specs.Prelude.{◌≡◌, ℕ, ◌<◌, nat_lt, ◌==◌, Bool, true, false, ◌&&◌, ◌||◌, Option, Some, None, List, take, map, length}
-use Rattle.std.specs.List.{list_any}
-use Rattle.plain_monitor.specs.declared.entry.Entry.{Entry}
-use Rattle.plain_monitor.specs.declared.entry.Entry.TheVariants.{Get, New}
-use Rattle.plain_monitor.specs.declared.entry.Logged.{Logged}
+use Rattle.std.specs.Prelude.{◌≡◌, ℕ, ◌<◌, nat_lt, ◌==◌, Bool, true, false, ◌&&◌, Option, Some, None, List, take, map, length}
 use Rattle.plain_monitor.specs.declared.entry.Value.{Value}
 use Rattle.plain_monitor.specs.declared.entry.Value.TheVariants.{Nil, Int, Ref}
-use Rattle.plain_monitor.specs.Made.{Numbering, first_made}
+use Rattle.plain_monitor.specs.Made.{Numbering}
 use Rattle.plain_monitor.specs.Numbers.{is_in_range}
+pub use Rattle.plain_history.specs.Known.{tells_of, is_told, knows_by_log}
 use Rattle.core_world.specs.declared.task.Op.{Op}
 use Rattle.core_world.specs.declared.task.Op.TheVariants as op
 use Rattle.core_world.specs.declared.task.Unfinished.{Unfinished}
@@ -21,18 +18,6 @@ is_object s o = nat_lt o (length s.objects)
 -- which numbers the heap's objects have
 abbrev pub numbering : Shape → Numbering
 numbering s = record { declared = take s.declared (map (λ x. x.0) s.objects); threads = s.threads; classes = s.classes }
-
--- WHICH OBJECTS A THREAD KNOWS BY ITS LOG: the declared ones, those that it has made, and those that it got from a slot
-abbrev pub tells_of : ℕ → Entry → Bool
-tells_of o (New object class) = o == object
-tells_of o (Get object slot (Ref value)) = o == value
-tells_of o _ = false
-
-abbrev pub is_told : List Logged → ℕ → Bool
-is_told log o = list_any (λ l. tells_of o l.entry) log
-
-abbrev pub knows_by_log : Numbering → List Logged → ℕ → Bool
-knows_by_log n log o = nat_lt o (first_made n) || is_told log o
 
 -- the thread has a reference to the object: the heap has it, and the thread knows it by its log
 pub record HasReference (s : Shape) (k : Known) (o : ℕ) : Type 0 where

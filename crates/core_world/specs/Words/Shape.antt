@@ -1,7 +1,7 @@
 -- What no step changes of a heap: how many there are of everything.
 use Rattle.std.specs.Prelude.{ℕ, zero, suc, ◌+◌, ◌^◌, ◌<◌, ◌≤◌, nat_le, if◌then◌else◌, List, length, slice_index_or}
 use Rattle.std.specs.List.{AllByRecursion}
-use Rattle.plain_monitor.specs.Limits.{most_threads, most_classes, most_slots, most_objects}
+use Rattle.plain_monitor.specs.Limits.{most_threads, most_classes, most_slots, most_in_all}
 
 pub record Shape : Type 0 where
   pub threads : ℕ
@@ -29,7 +29,7 @@ bits_for (suc f) b n = if nat_le n (2 ^ b) then b else bits_for f (b + 1) n
 
 -- the ring has the least power of two of places that is at least the number of monitors
 unfoldable pub ring_bits : Shape → ℕ
-ring_bits s = bits_for 13 0 (monitor_count s)
+ring_bits s = bits_for 15 0 (monitor_count s)
 
 abbrev pub ring_places : Shape → ℕ
 ring_places s = 2 ^ ring_bits s
@@ -39,5 +39,5 @@ pub record IsInLimits (s : Shape) : Type 0 where
   pub threads : s.threads ≤ most_threads
   pub classes : s.classes ≤ most_classes
   pub declared : s.declared ≤ length s.objects
-  pub objects : length s.objects ≤ most_objects
+  pub objects : length s.objects ≤ most_in_all
   pub each : AllByRecursion (λ x. (x.0 < s.classes) × (x.1 ≤ most_slots)) s.objects

@@ -2,7 +2,7 @@
 use Rattle.std.specs.Prelude.{ℕ, zero, suc, ◌+◌, ◌-◌, ◌*◌, Bool, false, List, [], ◌∷◌, ◌++◌, replicate}
 use Rattle.core_world.specs.Opening.{first_mark}
 use Rattle.core_world.specs.Words.Shape.{Shape, monitor_count, ring_places}
-use Rattle.heap_table.specs.Layout.{many}
+use Rattle.heap_table.specs.Layout.{many, object_size}
 
 -- this many copies of a group's words
 abbrev pub copies : ℕ → List ℕ → List ℕ
@@ -22,16 +22,17 @@ heap_words monitors = replicate 7 0 ++ (monitors ∷ replicate 8 0)
 abbrev pub class_words : ℕ → List ℕ
 class_words mark = mark ∷ replicate 15 0
 
--- an object's mark, its stamp, its 16 slots, each with the word of the number 0, and its class word
-abbrev pub object_words : ℕ → List ℕ
-object_words mark = mark ∷ 0 ∷ (replicate 16 9223372036854775809 ++ replicate 14 0)
+-- an object's mark, its stamp, its class word, and as many slots as a group of this size has room for, each with the
+-- word of the number 0
+abbrev pub object_words : ℕ → ℕ → List ℕ
+object_words size mark = mark ∷ 0 ∷ 0 ∷ copies (size - 3) (9223372036854775809 ∷ [])
 
 -- a declared object has the mark of its class's prototype, and one that isn't made yet a neutral one
 abbrev pub opening_groups : Shape → Bool → List (ℕ × List ℕ)
 opening_groups s biasing =
     (1, heap_words (monitor_count s)) ∷ (s.classes, class_words (first_mark biasing))
-    ∷ (s.declared, object_words (first_mark biasing)) ∷ (many s - s.declared, object_words (first_mark false))
-    ∷ (144 * s.threads + 16 * (many s + s.threads), 0 ∷ []) ∷ []
+    ∷ (s.declared, object_words (object_size s) (first_mark biasing)) ∷ (many s - s.declared, object_words (object_size s) (first_mark false))
+    ∷ (144 * s.threads + 11 * (many s + s.threads), 0 ∷ []) ∷ []
 
 -- the numbers below n, in their order
 abbrev pub numbers : ℕ → List ℕ

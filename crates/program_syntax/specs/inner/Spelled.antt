@@ -1,7 +1,7 @@
 -- The words that lines begin with, in four parts.
 use Rattle.std.specs.Prelude.{ℕ, List, [], ◌∷◌, codes}
 use Rattle.program_syntax.specs.declared.keyword.Keyword.{Keyword}
-use Rattle.program_syntax.specs.declared.keyword.Keyword.TheVariants.{Class, Object, Array, Thread, Local, Label, Set, Add, Sub, Mul, Ref, Elem, Enter, Exit, Wait, Notify, NotifyAll, Get, Put, Hash, Print, Jump, Jlt, Jeq, Dump, End}
+use Rattle.program_syntax.specs.declared.keyword.Keyword.TheVariants.{Class, Object, Array, Thread, Local, Label, Set, Add, Sub, Mul, Ref, Elem, Enter, Exit, Wait, Notify, NotifyAll, Get, Put, Hash, New, Print, Jump, Jlt, Jeq, Dump, End}
 
 -- the lines that aren't instructions
 abbrev pub declaring : List (List ℕ × Keyword)
@@ -24,5 +24,5 @@ locking =
 -- the others
 abbrev pub remaining : List (List ℕ × Keyword)
 remaining =
-    (codes "get", Get) ∷ (codes "put", Put) ∷ (codes "hash", Hash) ∷ (codes "print", Print) ∷ (codes "jump", Jump)
-    ∷ (codes "jlt", Jlt) ∷ (codes "jeq", Jeq) ∷ (codes "dump", Dump) ∷ (codes "end", End) ∷ []
+    (codes "get", Get) ∷ (codes "put", Put) ∷ (codes "hash", Hash) ∷ (codes "new", New) ∷ (codes "print", Print)
+    ∷ (codes "jump", Jump) ∷ (codes "jlt", Jlt) ∷ (codes "jeq", Jeq) ∷ (codes "dump", Dump) ∷ (codes "end", End) ∷ []

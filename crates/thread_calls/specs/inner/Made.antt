@@ -1,5 +1,5 @@
 -- What a thread makes of its pass by one call.
-use Rattle.std.specs.Prelude.{◌≡◌, ℕ, ◌+◌, ◌≤◌, ◌++◌, ◌∷◌, [], Bool, true, false, length, Option, None, is_some}
+use Rattle.std.specs.Prelude.{◌≡◌, ℕ, ◌+◌, ◌<◌, ◌≤◌, ◌++◌, ◌∷◌, [], Bool, true, false, length, Option, None, is_some}
 use Rattle.core_calls.specs.CallsSay.{is_full}
 use Rattle.core_world.specs.declared.answer.Turn.{Turn}
 use Rattle.core_world.specs.declared.answer.Turn.TheVariants.{Done, Pending}
@@ -10,10 +10,12 @@ use Rattle.heap_table.specs.Resting.{Rests, MayOperate, start_now}
 use Rattle.heap_table.specs.Seen.{HeapSeen, PassSeen}
 use Rattle.lock_runtime.specs.Standing.{IsRunning, StandsBehind}
 use Rattle.plain_history.specs.HeldByLog.{held_by, nothing_held}
+use Rattle.plain_history.specs.Known.{news}
 use Rattle.plain_machine.specs.Asking.{is_call}
 use Rattle.plain_machine.specs.declared.call.Call.{Call}
 use Rattle.plain_machine.specs.declared.call.Call.TheVariants as call
 use Rattle.plain_monitor.specs.declared.entry.Entry.{Entry}
+use Rattle.plain_monitor.specs.Limits.{most_made}
 use Rattle.thread_calls.specs.Advances.{DoneIn, PendedIn, MadeCall}
 use Rattle.thread_calls.specs.Asked.{unfinished_of_call}
 use Rattle.thread_frame.specs.Frames.{FrameSeen, frame_behind_call}
@@ -23,8 +25,8 @@ use Rattle.thread_logs.specs.Followed.{HasValue}
 abbrev pub Holds : PassSeen → ℕ → Type 0
 Holds p o = 1 ≤ held_by nothing_held p.known.log o
 
--- a call on the heap that may begin, at whatever moment, and isn't refused; a wait is not one of these, since it makes two entries,
--- nor is a new object, which no program makes yet
+-- a call on the heap that may begin, at whatever moment, and isn't refused; a wait is not one of these, since it makes two entries. A thread that makes
+-- an object has made fewer than it may, by its own log.
 abbrev pub MayMake : HeapSeen → PassSeen → Call → Type 0
 MayMake h p (call.Enter o) = ((now : ℕ) → MayOperate h p (task.Enter o now)) × (is_full (start_now h p) o ≡ false)
 MayMake h p (call.Exit o) = MayOperate h p (task.Exit o) × Holds p o
@@ -34,7 +36,7 @@ MayMake h p (call.NotifyAll o) = ((now : ℕ) → MayOperate h p (task.NotifyAll
 MayMake h p (call.Get x o k) = MayOperate h p (task.Get o k) × Holds p o
 MayMake h p (call.Put o k v) = MayOperate h p (task.Put o k v) × Holds p o
 MayMake h p (call.Hash x o) = (now : ℕ) → MayOperate h p (task.Hash o now)
-MayMake h p (call.New x c) = ⊥
+MayMake h p (call.New x c) = MayOperate h p (task.Create c) × (length (news p.known.log) < most_made)
 MayMake h p (call.Print v) = MayOperate h p (task.Print v)
 MayMake h p (call.Dump n) = MayOperate h p task.Dump × (n ≡ length p.known.shots + 1) × (n ≤ 4)
 

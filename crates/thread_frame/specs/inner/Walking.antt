@@ -1,5 +1,5 @@
 -- What each outcome of an instruction makes of a frame, and where a frame may stand for it.
-use Rattle.std.specs.Prelude.{◌+◌, ◌-◌, ◌<◌, ℕ, slice_set, Some}
+use Rattle.std.specs.Prelude.{◌+◌, ◌-◌, ◌<◌, slice_set, Some}
 use Rattle.object_program.specs.Limits.{most_code}
 use Rattle.plain_machine.specs.declared.call.Mode.TheVariants.{Calling, Unwinding}
 use Rattle.plain_machine.specs.declared.step.Next.{Next}

@@ -7,7 +7,7 @@ returns-in-None c =
     let run = c.args.run.now in
     let n = c.args.class.now in
     let past : slice_get run.classes n ≡ None = ap (λ ls. slice_get ls n) (sym c.items.ensures) ∙ sym c.line_at.ensures.at ∙ c.in-None.is in
-    (classes_left-end run n past, refl, c.requires.clear)
+    (classes_left-end run c.args.machine.now n past, refl, c.requires.clear)
 
 pub returns-in-Some : goal.returns-in-Some
 returns-in-Some c =
@@ -15,4 +15,4 @@ returns-in-Some c =
     let n = c.args.class.now in
     let at : slice_get run.classes n ≡ Some c.in-Some.line = ap (λ ls. slice_get ls n) (sym c.items.ensures) ∙ sym c.line_at.ensures.at ∙ c.in-Some.is in
     let line = rw c.enters_of.ensures at c.push_class_line.ensures in
-    rw line (classes_left-line run n c.in-Some.line at)
+    rw line (classes_left-line run c.args.machine.now n c.in-Some.line at)

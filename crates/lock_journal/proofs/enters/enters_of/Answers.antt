@@ -11,7 +11,7 @@ returns c =
     let run = c.args.run.now in
     let logs = take most_threads run.logs in
     let none : drop c.loop-log.log-index logs ≡ [] = drop_all c.loop-log.log-index logs (omega (arith, ap length c.first_logs-log-items.ensures.first)) in
-    counts_are run.program c.args.c logs c.loop-log.counts c.loop-log.invariant.six (λ path.
+    counts_are c.args.machine.now c.args.c logs c.loop-log.counts c.loop-log.invariant.six (λ path.
     let all = rw none at (c.loop-log.invariant.counted path) in
     omega arith)
-    ∙ ap (enters_of run.program c.args.c) (all_in_order run.logs c.requires)
+    ∙ ap (enters_of c.args.machine.now c.args.c) (all_in_order run.logs c.requires)

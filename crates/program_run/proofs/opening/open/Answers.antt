@@ -1,4 +1,4 @@
-use Rattle.std.proofs.Common.{◌+◌, ◌*◌, ◌<◌, ℕ, ◌∙◌, sym, ap, subst}
+use Rattle.std.proofs.Common.{◌<◌, ℕ, ◌∙◌, sym, ap, subst}
 use Rattle.plain_monitor.specs.Limits.{entries_for}
 use Rattle.core_world.specs.Words.Shape.{Shape}
 use Rattle.core_law.specs.Logic.{Heap}
@@ -13,6 +13,7 @@ returns-clause-program c =
     record {
       program = c.in_ok-shape.ensures.program;
       threads = ap (λ (b : Heap). b.shape.threads) heap ∙ ap (λ (s : Shape). s.threads) shape;
+      classes = ap (λ (b : Heap). b.shape.classes) heap ∙ ap (λ (s : Shape). s.classes) shape;
       objects = ap (λ (b : Heap). b.shape.objects) heap ∙ ap (λ (s : Shape). s.objects) shape;
       declared = ap (λ (b : Heap). b.shape.declared) heap ∙ ap (λ (s : Shape). s.declared) shape;
     }

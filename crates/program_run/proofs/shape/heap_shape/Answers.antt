@@ -1,50 +1,21 @@
-use Rattle.std.proofs.Common.{◌∙◌, ap, subst, arith}
-use Rattle.heap_table.proofs.Resting.{if_ok}
-use Rattle.object_program.specs.Program.{ProgramText}
-use Rattle.object_program.specs.Valid.{IsProgram}
-use Rattle.program_run.proofs.Shaped.{all_there, classes_there, in_limits, shape_is, slots_few}
+use Rattle.std.proofs.Common.{◌≤◌, ◌∙◌, length, sym, subst}
+use Rattle.core_world.specs.Words.Shape.{Shape}
+use Rattle.object_program.proofs.Made.{made_slots_few}
+use Rattle.plain_monitor.specs.Limits.{most_objects, most_slots}
+use Rattle.program_run.proofs.Shaped.{has_class, has_room}
 use Rattle.program_run.proofs.shape.heap_shape.Goals as goal
 
-pub of-requires-clause-counts : goal.of-requires-clause-counts
-of-requires-clause-counts c =
-    let is = subst IsProgram c.program.view_is c.program.invariant in
-    let threads = c.items.ensures ∙ ap (λ (p : ProgramText). p.threads) c.program.view_is in
-    let slots = c.as_slice.ensures.value ∙ c.in_ok-slots.ensures in
-    let classes = c.as_slice-2.ensures.value ∙ c.in_ok-classes.ensures in
-    in_limits c.args.program.now is _ _ _ threads slots classes
+pub with_made-requires-clause-room : goal.with_made-requires-clause-room
+with_made-requires-clause-room c =
+    let shape = c.in_ok-shape.ensures.shape in
+    subst (λ (s : Shape). length s.objects ≤ most_objects) (sym shape) (has_room c.args.program.now c.in_ok-shape.ensures.program)
 
-pub of-requires-clause-declared : goal.of-requires-clause-declared
-of-requires-clause-declared c =
-    let is = subst IsProgram c.program.view_is c.program.invariant in
-    let threads = c.items.ensures ∙ ap (λ (p : ProgramText). p.threads) c.program.view_is in
-    let slots = c.as_slice.ensures.value ∙ c.in_ok-slots.ensures in
-    let classes = c.as_slice-2.ensures.value ∙ c.in_ok-classes.ensures in
-    let few = all_there c.args.program.now is _ _ _ threads slots classes in
-    let declared = c.declared_total-declared.ensures in omega (arith, few, declared)
+pub with_made-requires-clause-class : goal.with_made-requires-clause-class
+with_made-requires-clause-class c =
+    let shape = c.in_ok-shape.ensures.shape in
+    subst (λ (s : Shape). 1 ≤ s.classes) (sym shape) (has_class c.args.program.now c.in_ok-shape.ensures.program
+    (λ e. c.if-total-declared.false (c.objects_total-total.ensures ∙ e ∙ sym c.declared_total-declared.ensures)))
 
-pub of-requires-clause-slots : goal.of-requires-clause-slots
-of-requires-clause-slots c =
-    let is = subst IsProgram c.program.view_is c.program.invariant in
-    let threads = c.items.ensures ∙ ap (λ (p : ProgramText). p.threads) c.program.view_is in
-    let slots = c.as_slice.ensures.value ∙ c.in_ok-slots.ensures in
-    let classes = c.as_slice-2.ensures.value ∙ c.in_ok-classes.ensures in
-    slots_few c.args.program.now is _ _ _ threads slots classes
-
-pub of-requires-clause-classes : goal.of-requires-clause-classes
-of-requires-clause-classes c =
-    let is = subst IsProgram c.program.view_is c.program.invariant in
-    let threads = c.items.ensures ∙ ap (λ (p : ProgramText). p.threads) c.program.view_is in
-    let slots = c.as_slice.ensures.value ∙ c.in_ok-slots.ensures in
-    let classes = c.as_slice-2.ensures.value ∙ c.in_ok-classes.ensures in
-    classes_there c.args.program.now is _ _ _ threads slots classes
-
-pub returns-clause-shape : goal.returns-clause-shape
-returns-clause-shape c =
-    let is = subst IsProgram c.program.view_is c.program.invariant in
-    let threads = c.items.ensures ∙ ap (λ (p : ProgramText). p.threads) c.program.view_is in
-    let slots = c.as_slice.ensures.value ∙ c.in_ok-slots.ensures in
-    let classes = c.as_slice-2.ensures.value ∙ c.in_ok-classes.ensures in
-    if_ok c.of.result (λ s e. e ∙ shape_is c.args.program.now is _ _ _ threads slots classes _ c.declared_total-declared.ensures) c.of.ensures
-
-pub returns-clause-program : goal.returns-clause-program
-returns-clause-program c = if_ok c.of.result (λ s e. subst IsProgram c.program.view_is c.program.invariant) c.of.ensures
+pub with_made-requires-clause-slots : goal.with_made-requires-clause-slots
+with_made-requires-clause-slots c =
+    subst (λ n. n ≤ most_slots) (sym c.made_slots.ensures) (made_slots_few c.args.program.now c.in_ok-shape.ensures.program)

@@ -5,4 +5,4 @@ use Rattle.program_syntax.specs.Written.{lines_text}
 use Rattle.program_syntax.proofs.write.write_threads.Given as goal
 
 abbrev pub invariant-loop-thread : goal.invariant-loop-thread
-invariant-loop-thread l = l.out.items ≡ l.fn.out.items ++ lines_text (flat_map (thread_lines l.objects) (take l.thread-index l.threads))
+invariant-loop-thread l = l.out.items ≡ l.fn.out.items ++ lines_text (flat_map (thread_lines l.classes l.objects) (take l.thread-index l.threads))

@@ -28,5 +28,5 @@ abbrev pub invariant-write_block-loop-statement : goal.invariant-write_block-loo
 invariant-write_block-loop-statement l =
     let left = all_of (drop l.statement-index l.statement-items) in
     let all = all_of l.statement-items in
-    (l.out.items ++ statements_text l.objects l.thread left ≡ l.initial.out.items ++ statements_text l.objects l.thread all)
+    (l.out.items ++ statements_text l.classes l.objects l.thread left ≡ l.initial.out.items ++ statements_text l.classes l.objects l.thread all)
     × (size left ≤ size all)

@@ -1,10 +1,11 @@
-use Rattle.std.proofs.Common.{true, refl, sym, subst, arith}
+use Rattle.std.proofs.Common.{eq-eqb, true, refl, sym, subst, arith}
 use Rattle.core_world.specs.declared.answer.Turn.TheVariants.{Done}
 use Rattle.core_calls.proofs.Called.{called}
 use Rattle.core_calls.proofs.NamedCalls.{wait_named}
 use Rattle.core_world.specs.declared.task.Task.TheVariants as task
 use Rattle.heap_table.specs.Resting.{start_now}
 use Rattle.plain_machine.specs.declared.call.Asked.TheVariants.{Resumes}
+use Rattle.plain_monitor.specs.declared.entry.Entry.TheVariants as entry
 use Rattle.plain_machine.specs.declared.call.Mode.TheVariants.{Waiting}
 use Rattle.machine_laws.proofs.ReachedAsked.{asked_of}
 use Rattle.thread_calls.specs.Advances.{HasAdvanced}
@@ -25,7 +26,8 @@ wait-requires g c =
     let asks = asks_resume a.heap.now a.program.now a.fuel a.pass.now a.frame.now r.heap r.may a.object r.at in
     let s = state_by a.heap.now a.program.now a.pass.now a.frame.now in
     let there = (asked_of a.program.now s (Resumes a.object) (thread_is a.heap.now a.program.now a.fuel a.pass.now a.frame.now r.heap r.may) asks).there in
-    may_wait a.heap.now a.program.now a.fuel a.pass.now a.frame.now r.heap r.may (Resumes a.object) a.object c.moment.result asks refl there
+    may_wait a.heap.now a.program.now a.fuel a.pass.now a.frame.now r.heap r.may (Resumes a.object) (entry.Resume a.object) a.object c.moment.result asks
+    (eq-eqb a.object a.object refl) refl refl there
 
 pub unreachable-requires : goal.unreachable-requires
 unreachable-requires g c =

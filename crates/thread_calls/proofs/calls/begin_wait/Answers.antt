@@ -1,4 +1,4 @@
-use Rattle.std.proofs.Common.{true, refl, sym, ap, ◌∙◌, subst, arith}
+use Rattle.std.proofs.Common.{eq-eqb, true, refl, sym, ap, ◌∙◌, subst, arith}
 use Rattle.core_world.specs.declared.answer.Turn.TheVariants.{Done, Pending}
 use Rattle.core_calls.proofs.Called.{called}
 use Rattle.core_calls.proofs.NamedCalls.{wait_named}
@@ -26,7 +26,8 @@ wait-requires g c =
     let asks = asks_call a.heap.now a.program.now a.fuel a.pass.now a.frame.now r.heap r.may w r.at in
     let s = state_by a.heap.now a.program.now a.pass.now a.frame.now in
     let paid = asked_of a.program.now s (Calls w) (thread_is a.heap.now a.program.now a.fuel a.pass.now a.frame.now r.heap r.may) asks in
-    may_wait a.heap.now a.program.now a.fuel a.pass.now a.frame.now r.heap r.may (Calls w) a.object c.moment.result asks refl paid.call.0
+    may_wait a.heap.now a.program.now a.fuel a.pass.now a.frame.now r.heap r.may (Calls w) (entry.Wait a.object) a.object c.moment.result asks
+    (eq-eqb a.object a.object refl) refl refl paid.call.0
 
 pub unreachable-requires : goal.unreachable-requires
 unreachable-requires g c =

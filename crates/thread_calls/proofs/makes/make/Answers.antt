@@ -52,6 +52,10 @@ pub returns-in-Put-clause-timed : goal.returns-in-Put-clause-timed
 returns-in-Put-clause-timed g c =
     timed_still c.args.tick (task.Put c.in-Put.object c.in-Put.slot c.in-Put.value) c.args.pass.now.known c.put.new.pass.known refl c.put.ensures.called
 
+pub returns-in-New-clause-timed : goal.returns-in-New-clause-timed
+returns-in-New-clause-timed g c =
+    timed_still c.args.tick (task.Create c.in-New.class) c.args.pass.now.known c.create.new.pass.known refl c.create.ensures.called
+
 pub returns-in-Print-clause-timed : goal.returns-in-Print-clause-timed
 returns-in-Print-clause-timed g c =
     timed_still c.args.tick (task.Print c.in-Print.value) c.args.pass.now.known c.print.new.pass.known refl c.print.ensures.called

@@ -1,0 +1,183 @@
+//! A program that makes an object in each pass of a loop, hands it on under a monitor, and enters it: its code as text, what it logs with
+//! just enough fuel and with one less, both worked out by hand, and its refusals. Four statements, two passes of nine units (a test, an enter, a
+//! `new`, a put, an enter, two exits, an addition, and the way back), the test that is missed, the way out, and the `end`: 25 in all.
+
+ghost use Rattle.std.specs.Prelude.{◌<◌, length};
+
+use crate::fuel::take;
+use crate::texts::is_refused;
+use plain_machine::{Machine, Offer};
+use plain_monitor::{Entry, Path, Value};
+use program_syntax::{Why, write_program};
+use std::process::Abort;
+use std::test::Fail;
+use sync_source::compile;
+use sync_syntax::{SyncWhy, read_sync, write_sync};
+
+/// Thirteen lines, behind which the others of the thread follow.
+const FRONT: &str = "\
+class C 1
+class D 2
+object a C
+thread t1
+local o
+local p
+local i
+local n
+local one
+ref o a
+set i 0
+set n 2
+set one 1
+";
+
+const LOOP: &str = "\
+while i < n
+sync o
+new p D
+put o 0 p
+sync p
+done
+done
+add i i one
+done
+end
+";
+
+/// The instructions of the loop.
+const CODE: &str = "\
+label L5
+jlt i n L7
+jump L15
+label L7
+enter o
+new p D
+put o 0 p
+enter p
+exit p
+exit o
+add i i one
+jump L5
+label L15
+end
+";
+
+/// The one declared object has the number 0, and so those that the first thread makes have the numbers from 1 on.
+const PASSES: [Entry; 12] = [
+    Entry::Enter {
+        object: 0,
+        path: Path::StackFirst,
+    },
+    Entry::New {
+        object: 1,
+        class: 1,
+    },
+    Entry::Put {
+        object: 0,
+        slot: 0,
+        value: Value::Ref(1),
+    },
+    Entry::Enter {
+        object: 1,
+        path: Path::StackFirst,
+    },
+    Entry::Exit { object: 1 },
+    Entry::Exit { object: 0 },
+    Entry::Enter {
+        object: 0,
+        path: Path::StackFirst,
+    },
+    Entry::New {
+        object: 2,
+        class: 1,
+    },
+    Entry::Put {
+        object: 0,
+        slot: 0,
+        value: Value::Ref(2),
+    },
+    Entry::Enter {
+        object: 2,
+        path: Path::StackFirst,
+    },
+    Entry::Exit { object: 2 },
+    Entry::Exit { object: 0 },
+];
+
+/// The thirteen lines, and then these.
+fn behind_lines<R: AllocGlobal>(rt: &R, lines: &str) -> Result<Vec<u8>, Fail> {
+    let mut text = Vec::new(rt.alloc());
+    text.extend_from_slice(FRONT.as_bytes())?;
+    text.extend_from_slice(lines.as_bytes())?;
+    Ok(text)
+}
+
+#[test]
+fn a_new_is_an_instruction_of_the_code(rt: HostRuntime) -> Result<(), Fail> {
+    let text = behind_lines(&rt, LOOP)?;
+    let source = read_sync(rt.alloc(), text.as_slice())?;
+    let program = compile(rt.alloc(), &source)?;
+    let mut out = Vec::new(rt.alloc());
+    write_program(&program, &mut out)?;
+    let code = behind_lines(&rt, CODE)?;
+    assert!(rt; out.as_slice() == code.as_slice());
+    Ok(())
+}
+
+#[test]
+fn a_new_is_written_as_it_was_read(rt: HostRuntime) -> Result<(), Fail> {
+    let text = behind_lines(&rt, LOOP)?;
+    let source = read_sync(rt.alloc(), text.as_slice())?;
+    let out = write_sync(rt.alloc(), &source)?;
+    assert!(rt; out.as_slice() == text.as_slice());
+    Ok(())
+}
+
+/// Asserts that the thread makes these entries, then this one, and then no more.
+fn expect<R: Abort + AllocGlobal>(rt: &R, fuel: u32, last: Entry) -> Result<(), Fail> {
+    let text = behind_lines(rt, LOOP)?;
+    let source = read_sync(rt.alloc(), text.as_slice())?;
+    let program = compile(rt.alloc(), &source)?;
+    let mut machine = Machine::new(rt.alloc(), &program, fuel)?;
+    for entry in PASSES {
+        take(rt, &mut machine, entry);
+    }
+    take(rt, &mut machine, last);
+    assert!(rt; machine.offer(0) == Offer::Ended);
+    Ok(())
+}
+
+#[test]
+fn twenty_five_units_bring_the_end(rt: HostRuntime) -> Result<(), Fail> {
+    expect(&rt, 25, Entry::Done)
+}
+
+#[test]
+fn twenty_four_units_are_spent(rt: HostRuntime) -> Result<(), Fail> {
+    expect(&rt, 24, Entry::Spent)
+}
+
+#[test]
+fn lines_of_a_new_that_are_refused(rt: HostRuntime) -> Result<(), Fail> {
+    let undeclared = SyncWhy::Plain(Why::Undeclared);
+    let operands = SyncWhy::Plain(Why::Operands);
+    let rows: [(&str, u32, SyncWhy); 8] = [
+        ("while i < n\nnew p E\ndone\nend\n", 15, undeclared),
+        ("new p a\nend\n", 14, undeclared),
+        ("sync o\nnew q D\ndone\nend\n", 15, undeclared),
+        // A class that a later line declares isn't declared yet.
+        ("new p E\nend\nclass E 0\n", 14, undeclared),
+        ("new p\nend\n", 14, operands),
+        ("new p D D\nend\n", 14, operands),
+        ("new 1 D\nend\n", 14, SyncWhy::Plain(Why::BadName)),
+        ("sync o\nnew o D\ndone\nend\n", 15, SyncWhy::Assigned),
+    ];
+    for (lines, line, why) in rows {
+        let text = behind_lines(&rt, lines)?;
+        assert!(rt;
+            is_refused(rt.alloc(), text.as_slice(), line, why),
+            "{line} {why:?}"
+        );
+    }
+    Ok(())
+}
