@@ -2,8 +2,8 @@
 
 use crate::compare::same;
 use run_io::{
-    Clock, Failed, FreeGate, Gate, MemorySink, MemorySource, ReadSource, Sink, Source, StepClock,
-    WriteSink, moment,
+    BufferedSink, Clock, Failed, FreeGate, Gate, MemorySink, MemorySource, ReadSource, Sink,
+    Source, StepClock, WriteSink, moment,
 };
 use std::test::Fail;
 
@@ -84,5 +84,38 @@ fn streams(rt: HostRuntime) -> Result<(), Fail> {
     same(&rt, write_once(&mut sink, &[4, 5]), Ok(2));
     drop(sink);
     same(&rt, out.as_slice(), [4, 5].as_slice());
+    Ok(())
+}
+
+/// Pieces that fit reach the writer by the flush alone, and one that doesn't fit goes behind a flush of its own.
+#[test]
+fn writes_are_gathered(rt: HostRuntime) -> Result<(), Fail> {
+    let mut out: Vec<u8> = Vec::new(rt.alloc());
+    let made = BufferedSink::new(rt.alloc(), WriteSink::new(&mut out), 4);
+    let mut sink = made.ok().ok_or("memory")?;
+    same(&rt, write_once(&mut sink, &[1, 2, 3]), Ok(3));
+    same(&rt, write_once(&mut sink, &[4, 5]), Ok(2));
+    same(&rt, write_once(&mut sink, &[6, 7, 8, 9, 10]), Ok(4));
+    same(&rt, sink.flush(), Ok(()));
+    same(&rt, sink.flush(), Ok(()));
+    drop(sink);
+    let wants: [u8; 9] = [1, 2, 3, 4, 5, 6, 7, 8, 9];
+    same(&rt, out.as_slice(), wants.as_slice());
+    Ok(())
+}
+
+/// Where a write of the sink behind fails, so does the call that came to it, and nothing is lost or written twice.
+#[test]
+fn gathered_write_that_fails(rt: HostRuntime) -> Result<(), Fail> {
+    let fails = [2].to_vec(rt.alloc())?;
+    let behind = MemorySink::new(rt.alloc(), 9, fails, 2);
+    let behind = behind.ok().ok_or("memory")?;
+    let made = BufferedSink::new(rt.alloc(), behind, 3);
+    let mut sink = made.ok().ok_or("memory")?;
+    same(&rt, write_once(&mut sink, &[1, 2, 3]), Ok(3));
+    same(&rt, write_once(&mut sink, &[4, 5]), Err(Failed));
+    same(&rt, write_once(&mut sink, &[4, 5]), Ok(2));
+    same(&rt, sink.flush(), Ok(()));
+    same(&rt, sink.into_inner().held(), [1, 2, 3, 4, 5].as_slice());
     Ok(())
 }

@@ -11,3 +11,4 @@ pub mod PlainRuns
 pub mod JournalsLegal
 pub mod BlocksAllowed
 pub mod BlockRuns
+pub mod Briefly

@@ -1,3 +1,4 @@
 -- What only the private contracts of this crate cite: its own steps, states and invariants.
 pub mod Asked
 pub mod Input
+pub mod Briefly

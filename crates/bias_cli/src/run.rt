@@ -1,18 +1,18 @@
 //! A call of `biasrun`: the words, the text, the run and the writing.
 
-ghost use Rattle.std.specs.Prelude.{◌≡◌, ◌⊎◌, ◌++◌, map, string_bytes, Some, IfOk};
+ghost use Rattle.std.specs.Prelude.{◌≡◌, ◌⊎◌, ◌++◌, length, map, string_bytes, Some, IfOk};
 ghost use Rattle.object_program.specs.Program.{ProgramText};
 ghost use Rattle.program_syntax.specs.Refusal.{program_of};
 ghost use Rattle.run_words.specs.Command.{accepted};
-ghost use Rattle.lock_journal.specs.LinesLeft.{IsShown};
-ghost use Rattle.lock_journal.specs.RunText.{text_of_run, text_of_lines};
+ghost use Rattle.lock_journal.specs.RunText.{text_of_lines};
 ghost use Rattle.run_words.specs.declared.options.Command.TheVariants.{Run};
 ghost use Rattle.bias_cli.specs.Asked.{settings_of};
 ghost use Rattle.bias_cli.specs.inner.Asked.{IsRunnable};
 ghost use Rattle.bias_cli.specs.Input.{most_of_program};
 ghost use Rattle.bias_cli.specs.Seen.{source_seen, sink_seen};
-ghost use Rattle.bias_cli.specs.Finish.{most_asked, Meets, Runs, run_due, status_of, IsGivenUp, IsFinish, IsRunOf, IsWritten, TakesAtMost};
-ghost use Rattle.bias_cli.specs.Report.{IsReportWhere};
+ghost use Rattle.bias_cli.specs.Finish.{most_asked, Meets, Runs, run_due, IsGivenUp, IsFinish, IsWritten, TakesAtMost};
+ghost use Rattle.plain_machine.specs.Legal.{IsLegal};
+ghost use Rattle.bias_cli.specs.inner.Briefly.{IsToldBy, IsRunBy, IsReportBy, IsShownBy, lines_by, status_by};
 
 use crate::blocks::run_blocks_of;
 use crate::check::check_source;
@@ -22,9 +22,9 @@ use crate::input::{MOST_OF_PROGRAM, ReadError, read_text};
 use crate::make::make_program;
 use crate::refusal::refusal_line;
 use crate::report::report_where;
-use crate::text::{status_of, write_text};
+use crate::text::{status_by, write_text};
 use heap_table::Closed;
-use lock_journal::{RunRecord, replay};
+use lock_journal::{RunRecord, have_ended, replay};
 use object_program::Program;
 use plain_machine::Machine;
 use plain_monitor::{List, NoMemory};
@@ -137,13 +137,13 @@ pub(crate) fn run_and_write<R: Threads + Wait + Sync, K: Sink, C: Clock + Sync, 
     }
 }
 
-/// A run that is over: its record, the closed heap, the machine under the record, and the lines of its report, none where none is
-/// asked for.
+/// A run that is over: its record, the closed heap, the machine under the record where the logs alone don't tell what is to be written, and
+/// the lines of its report, none where none is asked for.
 #[derive(Drop)]
 struct Done {
     run: RunRecord,
     closed: Closed,
-    machine: Machine,
+    machine: Option<Machine>,
     report: Vec<List<u8>>,
 }
 
@@ -157,23 +157,61 @@ fn run_of<R: Threads + Wait + Sync, C: Clock + Sync, G: Gate + Sync>(
     gate: &G,
 ) -> Result<Done, NoMemory>
     requires { IsRunnable options.now }
-    ensures run { IfOk result (λ done. IsRunOf options.now program done.run done.closed done.machine) }
-    ensures shown { IfOk result (λ done. IsShown done.run done.machine) }
-    ensures reported { IfOk result (λ done. IsReportWhere options.now.report done.run done.machine done.report.items) }
+    ensures run { IfOk result (λ done. IsRunBy options.now program done.run done.closed done.machine) }
+    ensures shown { IfOk result (λ done. IsShownBy done.run done.machine) }
+    ensures reported { IfOk result (λ done. IsReportBy options.now.report done.run done.machine done.report.items) }
 {
     let settings = settings_of(options);
     let Ran {
         record: run,
         closed,
     } = run_program(rt, alloc, program, &settings, clock, gate)?;
-    let machine = replay(alloc, &run)?;
-    let report = report_where(alloc, options.report, &run, &machine)?;
+    let machine = machine_where(alloc, options, &run)?;
+    let report = report_by(alloc, options.report, &run, &machine)?;
     Ok(Done {
         run,
         closed,
         machine,
         report,
     })
+}
+
+/// The machine under the record, where the logs alone don't tell what is to be written: a log doesn't end with its thread's ending, a
+/// report is asked for, or statistics, which go by the classes of the objects that threads made.
+fn machine_where(
+    alloc: Global,
+    options: &Options,
+    run: &RunRecord,
+) -> Result<Option<Machine>, NoMemory>
+    requires legal { IsLegal run.now.program run.now.fuel run.now.logs }
+    requires logs { length run.now.logs ≡ length run.now.program.threads }
+    ensures told { IfOk result (λ at. IsToldBy options.now run.now at) }
+    ensures shown { IfOk result (λ at. IsShownBy run.now at) }
+{
+    // The type of a program says that its threads are few.
+    let _threads = run.program.threads.items();
+    if !options.report && !options.stats && have_ended(run) {
+        return Ok(None);
+    }
+    let machine = replay(alloc, run)?;
+    Ok(Some(machine))
+}
+
+/// The lines of the report where one is asked for, and none where there is no machine.
+fn report_by(
+    alloc: Global,
+    asked: bool,
+    run: &RunRecord,
+    machine: &Option<Machine>,
+) -> Result<Vec<List<u8>>, NoMemory>
+    requires legal { IsLegal run.now.program run.now.fuel run.now.logs }
+    requires shown { IsShownBy run.now machine.now }
+    ensures { IfOk result (λ lines. IsReportBy asked run.now machine.now lines.items) }
+{
+    match machine {
+        None => Ok(Vec::new(alloc)),
+        Some(machine) => report_where(alloc, asked, run, machine),
+    }
 }
 
 /// How the options say that a program is run.
@@ -192,9 +230,9 @@ fn settings_of(options: &Options) -> Settings
 
 /// Writes the text of a run that is over.
 fn write_run<K: Sink>(sink: &mut K, options: &Options, done: Done) -> Finish
-    requires shown { IsShown done.run done.machine }
-    requires reported { IsReportWhere options.now.report done.run done.machine done.report.items }
-    ensures { (p : ProgramText) → IsRunOf options.now p done.run done.closed done.machine
+    requires shown { IsShownBy done.run done.machine }
+    requires reported { IsReportBy options.now.report done.run done.machine done.report.items }
+    ensures { (p : ProgramText) → IsRunBy options.now p done.run done.closed done.machine
         → Meets (sink_seen K.Sink sink.old) (sink_seen K.Sink sink.new) result (Runs options.now p) }
 {
     let Done {
@@ -216,16 +254,15 @@ fn write_done<K: Sink>(
     sink: &mut K,
     options: &Options,
     run: &RunRecord,
-    machine: &Machine,
+    machine: &Option<Machine>,
     report: &[List<u8>],
 ) -> u8
-    requires { IsShown run.now machine.now }
-    ensures { IsWritten (sink_seen K.Sink sink.old) (sink_seen K.Sink sink.new) result (status_of machine.now)
-        (text_of_run options.now.stats options.now.journal run.now machine.now ++ text_of_lines report.now) }
+    requires { IsShownBy run.now machine.now }
+    ensures { IsWritten (sink_seen K.Sink sink.old) (sink_seen K.Sink sink.new) result (status_by run.now machine.now)
+        (text_of_lines (lines_by options.now.stats options.now.journal run.now machine.now) ++ text_of_lines report.now) }
 {
-    let threads = run.program.threads.items().len() as u32;
     match write_text(sink, run, machine, options, report) {
-        Ok(()) => status_of(machine, threads),
+        Ok(()) => status_by(run, machine),
         Err(_) => WRITE_FAILED,
     }
 }

@@ -1,18 +1,18 @@
 //! Writing the text of a run, and the status that its machine gives.
 
-ghost use Rattle.std.specs.Prelude.{◌≡◌, ◌≤◌, ◌++◌, false, length, IsTrue, OnOk, OnErr};
+ghost use Rattle.std.specs.Prelude.{◌≡◌, ◌≤◌, ◌++◌, ◌∷◌, [], MatchBool, false, length, IsTrue, OnOk, OnErr};
 ghost use Rattle.std.specs.List.{list_any};
 ghost use Rattle.run_io.specs.Faults.{rose};
 ghost use Rattle.plain_machine.specs.Machine.{ending_in};
 ghost use Rattle.bias_cli.specs.Output.{Wrote, WroteFront};
-ghost use Rattle.lock_journal.specs.RunText.{text_of_run, text_of_lines};
-ghost use Rattle.lock_journal.specs.LinesLeft.{IsShown};
+ghost use Rattle.lock_journal.specs.RunText.{text_of_lines};
 ghost use Rattle.bias_cli.specs.Finish.{status_of, is_cut_short};
+ghost use Rattle.bias_cli.specs.inner.Briefly.{IsShownBy, left_by, lines_by, logs_cut_short, status_by};
 
 use crate::output::write_piece;
-use lock_journal::{Line, Lines, RunRecord};
+use lock_journal::{Line, Lines, RunRecord, last_said};
 use plain_machine::Machine;
-use plain_monitor::{Ending, List};
+use plain_monitor::{Ending, List, Logged};
 use run_io::{Failed, Sink};
 use run_words::Options;
 
@@ -21,41 +21,54 @@ use run_words::Options;
 fn write_lines<K: Sink>(
     sink: &mut K,
     run: &RunRecord,
-    machine: &Machine,
+    machine: &Option<Machine>,
     stats: bool,
     journal: bool,
 ) -> Result<(), Failed>
-    requires { IsShown run.now machine.now }
+    requires { IsShownBy run.now machine.now }
     ensures counted { K.faults sink.old ≤ K.faults sink.new }
     ensures ok { OnOk result (Wrote (K.held sink.old) (K.held sink.new)
-        (text_of_run stats journal run.now machine.now)) }
+        (text_of_lines (lines_by stats journal run.now machine.now))) }
     ensures failed { OnErr result (IsTrue (rose (K.faults sink.old) (K.faults sink.new))) }
     ensures front { OnErr result
-        (WroteFront (K.held sink.old) (K.held sink.new) (text_of_run stats journal run.now machine.now)) }
+        (WroteFront (K.held sink.old) (K.held sink.new) (text_of_lines (lines_by stats journal run.now machine.now))) }
 {
     let mut lines = Lines::new(stats, journal);
     let mut line = Line::new();
-    while lines.next(run, machine, &mut line) {
+    while next_line(&mut lines, run, machine, &mut line) {
         write_piece(sink, line.bytes())?;
     }
     Ok(())
+}
+
+/// Writes the next line, by the machine or by the logs.
+fn next_line(lines: &mut Lines, run: &RunRecord, machine: &Option<Machine>, out: &mut Line) -> bool
+    requires { IsShownBy run.now machine.now }
+    ensures { MatchBool result
+        (left_by run.now machine.now lines.old ≡ out.new ∷ left_by run.now machine.now lines.new)
+        ((left_by run.now machine.now lines.old ≡ []) × (left_by run.now machine.now lines.new ≡ []) × (out.new ≡ [])) }
+{
+    match machine {
+        Some(machine) => lines.next(run, machine, out),
+        None => lines.next_ended(run, out),
+    }
 }
 
 /// Writes the lines of the run's text, with what the options ask for, and behind them those of the report.
 pub(crate) fn write_text<K: Sink>(
     sink: &mut K,
     run: &RunRecord,
-    machine: &Machine,
+    machine: &Option<Machine>,
     options: &Options,
     report: &[List<u8>],
 ) -> Result<(), Failed>
-    requires { IsShown run.now machine.now }
+    requires { IsShownBy run.now machine.now }
     ensures counted { K.faults sink.old ≤ K.faults sink.new }
     ensures ok { OnOk result (Wrote (K.held sink.old) (K.held sink.new)
-        (text_of_run options.now.stats options.now.journal run.now machine.now ++ text_of_lines report.now)) }
+        (text_of_lines (lines_by options.now.stats options.now.journal run.now machine.now) ++ text_of_lines report.now)) }
     ensures failed { OnErr result (IsTrue (rose (K.faults sink.old) (K.faults sink.new))) }
     ensures front { OnErr result (WroteFront (K.held sink.old) (K.held sink.new)
-        (text_of_run options.now.stats options.now.journal run.now machine.now ++ text_of_lines report.now)) }
+        (text_of_lines (lines_by options.now.stats options.now.journal run.now machine.now) ++ text_of_lines report.now)) }
 {
     write_lines(sink, run, machine, options.stats, options.journal)?;
     write_report(sink, report)?;
@@ -75,9 +88,31 @@ fn write_report<K: Sink>(sink: &mut K, lines: &[List<u8>]) -> Result<(), Failed>
     Ok(())
 }
 
+/// The status of a run whose text was written: by the machine, or where there is none by the last entries of the logs.
+pub(crate) fn status_by(run: &RunRecord, machine: &Option<Machine>) -> u8
+    requires { IsShownBy run.now machine.now }
+    ensures { result ≡ status_by run.now machine.now }
+{
+    match machine {
+        Some(machine) => status_of(machine, run.program.threads.items().len() as u32),
+        None => if logs_cut_short(run.logs.items()) {
+            1
+        } else {
+            0
+        },
+    }
+}
+
+/// Whether the last entry of one of these logs says that its thread faulted or was spent.
+fn logs_cut_short(logs: &[List<Logged>]) -> bool
+    ensures { result ≡ logs_cut_short logs.now }
+{
+    logs.iter().any(|log| is_cut_short(last_said(log.items())))
+}
+
 /// The status of a run whose text was written: 4 where the machine is stuck, else 1 where one of its threads, of which there
 /// are `threads`, faulted or was spent, else 0.
-pub(crate) fn status_of(machine: &Machine, threads: u32) -> u8
+fn status_of(machine: &Machine, threads: u32) -> u8
     requires { threads ≡ length machine.now.threads }
     ensures { result ≡ status_of machine.now }
 {

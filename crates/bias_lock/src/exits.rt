@@ -10,7 +10,7 @@ ghost use Rattle.bias_lock.specs.inner.Parts.{marked_exit};
 
 use core_world::{Name, Stage};
 use heap_table::{Heap, Pass, Purpose, is_biased};
-use stack_lock::{leave, raise, top_place};
+use stack_lock::{leave, place_at_depth, raise};
 
 // The mark says whether it is a bias under which the hold is left.
 fn leave_marked(heap: &Heap, pass: &mut Pass, why: &Purpose, object: u32, place: u32) -> bool
@@ -45,7 +45,8 @@ pub fn bias_exit(heap: &Heap, pass: &mut Pass, why: &Purpose, object: u32) -> bo
         pass.old pass.new result }
     ensures kept { result ≡ false → local_of pass.new.known ≡ local_of pass.old.known }
 {
-    let place = top_place(pass, object);
-    raise(heap, pass, why, object);
+    let depth = pass.held(object);
+    let place = place_at_depth(pass, object, depth);
+    raise(heap, pass, why, object, depth);
     leave_marked(heap, pass, why, object, place)
 }

@@ -1,13 +1,16 @@
 //! The program `biasrun`: the trusted edge between the top call and the process.
 //!
-//! The arguments, `words`, are the process's, with an empty one for its name. The source is standard input, and the sink standard output;
-//! nothing is written to standard error. The process ends with the status that the top call answers.
+//! The arguments, `words`, are the process's, with an empty one for its name. The source is standard input, and the sink standard output,
+//! which gets many lines in one write; nothing is written to standard error. The process ends with the status that the top call answers, or
+//! with that of a failed write, where the last one fails.
 #![tactic(auto)]
 
 #[cfg(test)]
 mod arguments;
+mod flushed;
 
-use run_io::{FreeGate, ReadSource, StepClock, WriteSink};
+use flushed::biasrun_flushed;
+use run_io::{BufferedSink, FreeGate, ReadSource, StepClock, WriteSink};
 use std::env::{Env, FillError};
 use std::process::ExitCode;
 use std::{env, io};
@@ -15,13 +18,18 @@ use std::{env, io};
 /// The status where memory runs out.
 const NO_MEMORY: u8 = 7;
 
+/// How many bytes are gathered for one write: those of some 2,000 lines.
+const GATHERED: usize = 65_536;
+
 fn main(rt: HostRuntime) -> ExitCode {
     let Ok(words) = words_of(&rt) else {
         return ExitCode::from(NO_MEMORY);
     };
     let mut source = ReadSource::new(rt.stdin());
-    let mut sink = WriteSink::new(rt.stdout());
-    let finish = bias_cli::biasrun(
+    let Ok(mut sink) = BufferedSink::new(rt.alloc(), WriteSink::new(rt.stdout()), GATHERED) else {
+        return ExitCode::from(NO_MEMORY);
+    };
+    let finish = biasrun_flushed(
         &rt,
         rt.alloc(),
         words.as_slice(),

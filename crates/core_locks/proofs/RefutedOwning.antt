@@ -5,7 +5,7 @@ use Rattle.plain_monitor.specs.Objects.{named}
 use Rattle.plain_monitor.specs.Order.{is_before, insert_ordered, with_threads}
 use Rattle.plain_monitor.specs.History.{last_above}
 use Rattle.plain_monitor.proofs.Orders.{before_asym}
-use Rattle.plain_history.proofs.Ordering.{NoneBefore, IsOrdered, none_before, ordered_is_ordered}
+use Rattle.plain_monitor.proofs.Ordering.{NoneBefore, IsOrdered, none_before, ordered_is_ordered}
 use Rattle.plain_history.proofs.Inserting.{first_taken}
 use Rattle.plain_history.proofs.Swaps.{elsewhere, hash_taken}
 use Rattle.core_locks.specs.OwnersEntries.{is_by_owner}

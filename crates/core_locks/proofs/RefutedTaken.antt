@@ -7,7 +7,7 @@ use Rattle.plain_monitor.proofs.Orders.{before_asym}
 use Rattle.plain_history.specs.Tied.{is_same_object, is_tied}
 use Rattle.plain_history.specs.Appending.{MayAppend}
 use Rattle.plain_history.proofs.Bounds.{above_bound}
-use Rattle.plain_history.proofs.Ordering.{NoneBefore, IsOrdered, none_before, ordered_is_ordered}
+use Rattle.plain_monitor.proofs.Ordering.{NoneBefore, IsOrdered, none_before, ordered_is_ordered}
 use Rattle.plain_history.proofs.Inserting.{IsBehindTied, first_taken, order_with}
 use Rattle.plain_history.proofs.Swaps.{TakenAt, take_swap}
 

@@ -1,8 +1,8 @@
 -- Hold words of which only the first are in use, and the objects that they name.
 use Rattle.std.proofs.Common.{◌≡◌, ◌≢◌, ℕ, zero, suc, ◌+◌, ◌*◌, ◌/◌, ◌%◌, ◌^◌, ◌<◌, ◌≤◌, ◌==◌, ◌&&◌, nat_lt, nat_le, eq-eqb, ne_eqb, List, [], ◌∷◌, length, get_or, take, replicate, Bool, true, false, refl, sym, ap, ◌∙◌, arith}
-use Rattle.std.proofs.lemmas.Bool.{cond_both}
+use Rattle.std.proofs.lemmas.Bool.{cond_both, false≢true}
 use Rattle.std.proofs.lemmas.Bool.Decides.{nat_tests}
-use Rattle.std.proofs.lemmas.List.Sums.{position_or_len_is}
+use Rattle.std.proofs.lemmas.List.Sums.{position_or_len_is, fails_before_first}
 use Rattle.std.specs.List.{position_or_len}
 use Rattle.mark_word.specs.Hold.{read_hold}
 use Rattle.core_world.specs.Locks.{count_where}
@@ -41,6 +41,18 @@ nowhere word n xs empty none nonzero =
     behind : (k : ℕ) (b : Bool) → nat_lt k n ≡ b → (get_or xs k 0 == word) ≡ false
     behind k true e = none k (grind (arith, nat_tests))
     behind k false e = let l : n ≤ k = grind (arith, nat_tests) in ne_eqb _ _ (λ same. nonzero (sym same ∙ empty k l))
+
+-- the lowest empty place is no later than the one past the last in use
+pub place_left : (n : ℕ) (xs : List ℕ) → IsEmptyFrom n xs → position_or_len (λ h. h == 0) xs ≤ n
+place_left n xs empty = told (nat_lt n (position_or_len (λ h. h == 0) xs)) refl
+  where
+    told : (b : Bool) → nat_lt n (position_or_len (λ h. h == 0) xs) ≡ b → position_or_len (λ h. h == 0) xs ≤ n
+    told true e =
+        let before : n < position_or_len (λ h. h == 0) xs = grind (arith, nat_tests) in
+        let nonzero = fails_before_first (λ h. h == 0) xs n 0 before in
+        let zero : (get_or xs n 0 == 0) ≡ true = eq-eqb _ _ (empty n (omega arith)) in
+        absurd (false≢true (sym nonzero ∙ zero))
+    told false e = grind (arith, nat_tests)
 
 -- an empty word names no object
 pub none_named : (o : ℕ) → names o 0 ≡ false

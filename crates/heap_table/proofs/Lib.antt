@@ -22,3 +22,4 @@ pub mod Aside
 pub mod Loops
 pub mod Forms
 pub mod ClassSteps
+pub mod Idling

@@ -1,5 +1,6 @@
 //! What a step makes of the parts of its thread's knowledge that a pass keeps.
 ghost use Rattle.std.specs.Prelude.{◌≡◌, ◌<◌, ◌≤◌, ℕ, vec_capacity, vec_len};
+ghost use Rattle.mark_word.specs.Safe.{read_safe};
 ghost use Rattle.core_world.specs.Threads.Known.{Known};
 ghost use Rattle.core_world.specs.Steps.{kept_after, saved_after, unfinished_after, runs_after, asks_after, reached_after, halted_after, is_taking, stamp_by, holds_after, wait_after, published_after, log_after};
 ghost use Rattle.plain_monitor.specs.Limits.{most_threads};
@@ -10,7 +11,7 @@ ghost use Rattle.heap_table.specs.inner.Kept.{StampFits, entry_after, looked, le
 ghost use Rattle.heap_table.specs.inner.Layout.{IsPlaced};
 
 use crate::holds::Holds;
-use crate::reads::{hash_of_word, safe_of_word, value_of_word};
+use crate::reads::{has_running_bits_alone, hash_of_word, safe_of_word, value_of_word};
 use core_world::{Act, Name, Note, Own, Unfinished};
 use mark_word::SafeForm;
 use plain_monitor::{Entry, Logged};
@@ -116,6 +117,18 @@ fn looked_next(form: Option<SafeForm>, stand: Stand) -> Stand
     }
 }
 
+/// The same by the word. One with running bits alone tells nothing new to a thread that asks for no safepoint: then nothing is written.
+#[inline(always)]
+#[tactic(auto, using(crate::proofs::Idling::looked_idle))]
+fn looked_at(word: u64, stand: &mut Stand)
+    ensures { stand.new ≡ looked (read_safe word) stand.old }
+{
+    if has_running_bits_alone(word) && !stand.requesting {
+        return;
+    }
+    *stand = looked_next(safe_of_word(word), *stand);
+}
+
 #[inline(always)]
 fn asks(form: &SafeForm, thread: u32) -> bool
     ensures { result ≡ is_thread form.now.requester thread }
@@ -153,19 +166,16 @@ fn left_next(form: Option<SafeForm>, thread: u32, stand: Stand) -> Stand
 
 /// What the thread knows of the safepoint word after an act that hit left this word.
 #[inline(always)]
-pub fn stand_next(at: Name, act: &Act, word: u64, thread: u32, stand: Stand) -> Stand
+pub fn stand_next(at: Name, act: &Act, word: u64, thread: u32, stand: &mut Stand)
     requires { thread < most_threads }
-    ensures { result ≡ stand_after at act.now word thread stand }
+    ensures { stand.new ≡ stand_after at act.now word thread stand.old }
 {
     match at {
-        Name::Safepoint => {
-            let form = safe_of_word(word);
-            match *act {
-                Act::Load => looked_next(form, stand),
-                _ => left_next(form, thread, stand),
-            }
-        }
-        _ => stand,
+        Name::Safepoint => match *act {
+            Act::Load => looked_at(word, stand),
+            _ => *stand = left_next(safe_of_word(word), thread, *stand),
+        },
+        _ => {}
     }
 }
 

@@ -112,6 +112,17 @@ impl Holds {
         if word == 0 { self.used } else { HOLDS }
     }
 
+    /// Whether none of the words is empty. Where one past the last in use is a place, there is nothing to look for.
+    #[inline(always)]
+    pub fn is_full(&self) -> bool
+        ensures { result ≡ (position_or_len (λ h. h == 0) self.now.words == most_holds) }
+    {
+        if self.used < HOLDS {
+            return false;
+        }
+        self.place_of(0) == HOLDS
+    }
+
     /// How many of the words are not empty.
     pub fn count(&self) -> u32
         ensures holds { result ≡ all_holds self.now.words }

@@ -151,7 +151,13 @@ impl Mirror {
         let effect = apply(found, &step.act);
         if effect.hit {
             note_entry(&mut self.log, &mut self.last, &step.note, found);
-            self.stand = stand_next(step.at, &step.act, effect.word, self.thread, self.stand);
+            stand_next(
+                step.at,
+                &step.act,
+                effect.word,
+                self.thread,
+                &mut self.stand,
+            );
             keep_next(&mut self.kept, &step.own, found);
             self.saved = saved_next(&step.own, found, self.saved);
             store_hold(&mut self.holds, step.at, &step.act);

@@ -112,6 +112,14 @@ impl Pass {
         self.mirror.holds.place_of(word)
     }
 
+    /// Whether the thread has a hold word in each of its places, so that there is none for one more hold.
+    #[inline(always)]
+    pub fn is_full(&self) -> bool
+        ensures { result ≡ (position_or_len (λ h. h == 0) self.now.known.holds == most_holds) }
+    {
+        self.mirror.holds.is_full()
+    }
+
     /// What the thread last stored in its waiting word.
     pub fn wait_word(&self) -> u64
         ensures { result ≡ self.now.known.wait }

@@ -1,5 +1,5 @@
 //! What words say, as the definitions read them.
-ghost use Rattle.std.specs.Prelude.{◌≡◌};
+ghost use Rattle.std.specs.Prelude.{◌≡◌, ◌^◌, nat_lt};
 ghost use Rattle.mark_word.specs.Hold.{read_hold};
 ghost use Rattle.mark_word.specs.Mark.{read_mark};
 ghost use Rattle.mark_word.specs.Safe.{read_safe};
@@ -14,6 +14,9 @@ use mark_word::{
     decode_safe, decode_wait,
 };
 use plain_monitor::{Value, word_value};
+
+/// Words below this have no other bits than those of running threads.
+const RUNNING_BITS_END: u64 = 1 << 32;
 
 /// What a mark says.
 pub fn mark_of_word(word: u64) -> Option<MarkForm>
@@ -76,10 +79,25 @@ pub fn hold_of_word(word: u64) -> Option<HoldForm>
     decode_hold(word).ok()
 }
 
-/// What the safepoint word says.
+/// Whether a safepoint word has running bits alone: nobody asks by it, and it has no halt.
+#[inline(always)]
+pub(crate) fn has_running_bits_alone(word: u64) -> bool
+    ensures { result ≡ nat_lt word (2 ^ 32) }
+{
+    word < RUNNING_BITS_END
+}
+
+/// What the safepoint word says. Mostly it has running bits alone, and these are tested first.
 pub fn safe_of_word(word: u64) -> Option<SafeForm>
     ensures { result ≡ read_safe word }
 {
+    if has_running_bits_alone(word) {
+        return Some(SafeForm {
+            running: word as u32,
+            requester: None,
+            halted: false,
+        });
+    }
     decode_safe(word).ok()
 }
 

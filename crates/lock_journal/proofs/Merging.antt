@@ -13,7 +13,7 @@ use Rattle.plain_monitor.specs.History.{RisesAbove, log_of}
 use Rattle.plain_monitor.proofs.Merging.{least_head_first, empty_order}
 use Rattle.lock_journal.proofs.Lists.{left_from, none_from}
 use Rattle.lock_journal.specs.Merging.{left_of}
-use Rattle.lock_journal.specs.inner.Heads.{head_of, stamp_in, stamp_of, or_greatest, IsLeastHead, IsLeastOf, IsFirstLeast, HasStamps, earlier}
+use Rattle.lock_journal.specs.inner.Heads.{head_of, stamp_in, stamp_of, or_greatest, IsLeastHead, IsLeastOf, IsFirstLeast, HasStamps, IsLimit, earlier}
 
 -- all is left where nothing was given
 pub all_left : (logs : List (List Logged)) (n : ℕ) → left_of logs (replicate n 0) ≡ logs
@@ -180,6 +180,13 @@ first_is_least logs places stamps x few held first small =
         | inr above ↦ grind (arith, nat_tests)
       ];
     }
+
+-- a limit of the others stays one where the leader's stamp changes
+pub limit_given : (stamps : List ℕ) (leader limit s : ℕ) → IsLimit stamps leader limit → IsLimit (set stamps leader s) leader limit
+limit_given stamps leader limit s is = record {
+  within = is.within;
+  others = λ u h other. rw (get_or-set_other stamps leader u s 0 other) (is.others u h other);
+}
 
 -- the stamps at hand after thread t was given one entry more
 pub stamps_given : (logs : List (List Logged)) (old new stamps : List ℕ) (t p s : ℕ) → length stamps ≡ most_threads → t < most_threads → new ≡ set old t p → HasStamps logs old stamps → s ≡ or_greatest (stamp_of logs new t) → HasStamps logs new (set stamps t s)

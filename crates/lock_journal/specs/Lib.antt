@@ -1,5 +1,6 @@
 pub mod Words
 pub mod RunText
+pub mod EndedLines
 pub mod Merging
 pub mod LineView
 pub mod LinesLeft

@@ -22,4 +22,5 @@ pub use lines::Lines;
 pub use order::Merge;
 pub use record::{Cell, ClassLine, RunRecord, Shot};
 pub use replaying::{legal_logs_can_be_merged, replay};
+pub use threads::{have_ended, last_said};
 pub use words::{push_object, push_thread};

@@ -1,19 +1,19 @@
 //! The lines of a run's text, one at a time.
 
 ghost use Rattle.std.specs.Prelude.{◌≡◌, ◌∷◌, [], MatchBool};
-ghost use Rattle.lock_journal.specs.RunText.{lines_of_run};
-ghost use Rattle.lock_journal.specs.LinesLeft.{lines_left, IsShown};
+ghost use Rattle.lock_journal.specs.LinesLeft.{lines_left, lines_left_ended, lines_of_ended, IsShown, IsShownEnded};
 ghost use Rattle.lock_journal.specs.declared.record.RunRecord.{RunRecord};
+ghost use Rattle.lock_journal.specs.RunText.{lines_of_run};
 ghost use Rattle.plain_machine.specs.Machine.{PlainMachine};
 
-use crate::cells::{Place, next_cell};
+use crate::cells::Place;
 use crate::classes::next_class;
 use crate::journal::next_entry;
 use crate::line::Line;
 use crate::order::Merge;
-use crate::prints::next_print;
+use crate::prints::next_said;
 use crate::record::RunRecord;
-use crate::threads::next_thread;
+use crate::threads::{next_ended, next_thread};
 use plain_machine::Machine;
 
 /// The lines of a run's text, one after the other: what its entries print and dump by rising stamp, then how each thread ended
@@ -29,6 +29,8 @@ pub struct Lines {
     cells: Option<Place>,
     /// Gives the entries whose prints and dumps are left.
     prints: Merge,
+    /// The thread of the last print or dump, if there was one.
+    printer: Option<u32>,
     /// The next thread that has a line.
     thread: u32,
     /// The next class that has a line.
@@ -40,13 +42,15 @@ pub struct Lines {
 impl Lines {
     /// Before the first line of any run, with the statistics and the journal where they are asked for.
     pub fn new(stats: bool, journal: bool) -> Lines
-        ensures { (run : RunRecord) (m : PlainMachine) → lines_left run m result ≡ lines_of_run stats journal run m }
+        ensures under { (run : RunRecord) (m : PlainMachine) → lines_left run m result ≡ lines_of_run stats journal run m }
+        ensures ended { (run : RunRecord) → lines_left_ended run result ≡ lines_of_ended journal run }
     {
         Lines {
             stats,
             journal,
             cells: None,
             prints: Merge::before_all(),
+            printer: None,
             thread: 0,
             class: 0,
             entries: Merge::before_all(),
@@ -64,16 +68,43 @@ impl Lines {
             × (out.new ≡ [])) }
     {
         out.clear();
-        if next_cell(&mut self.cells, run, out) {
-            return true;
-        }
-        if next_print(&mut self.prints, &mut self.cells, run, out) {
+        if next_said(
+            &mut self.prints,
+            &mut self.printer,
+            &mut self.cells,
+            run,
+            out,
+        ) {
             return true;
         }
         if next_thread(&mut self.thread, &run.program, machine, out) {
             return true;
         }
         if self.stats && next_class(&mut self.class, run, machine, out) {
+            return true;
+        }
+        self.journal && next_entry(&mut self.entries, run, out)
+    }
+
+    /// The same with no machine, and with no line on a class: the lines on threads are those that the last entries of the logs say, which
+    /// are those of the machine where each log ends with its thread's ending (`have_ended`).
+    pub fn next_ended(&mut self, run: &RunRecord, out: &mut Line) -> bool
+        requires { IsShownEnded run.now }
+        ensures { MatchBool result
+            (lines_left_ended run.now self.old ≡ out.new ∷ lines_left_ended run.now self.new)
+            ((lines_left_ended run.now self.old ≡ []) × (lines_left_ended run.now self.new ≡ []) × (out.new ≡ [])) }
+    {
+        out.clear();
+        if next_said(
+            &mut self.prints,
+            &mut self.printer,
+            &mut self.cells,
+            run,
+            out,
+        ) {
+            return true;
+        }
+        if next_ended(&mut self.thread, run, out) {
             return true;
         }
         self.journal && next_entry(&mut self.entries, run, out)

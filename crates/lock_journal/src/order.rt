@@ -7,7 +7,7 @@ ghost use Rattle.plain_monitor.specs.Order.{order};
 ghost use Rattle.plain_monitor.specs.History.{RisesAbove, log_of};
 ghost use Rattle.plain_monitor.specs.declared.entry.Logged.{Logged};
 ghost use Rattle.lock_journal.specs.Merging.{left_of, AreOfSixteen};
-ghost use Rattle.lock_journal.specs.inner.Heads.{stamp_in, or_greatest, earlier, IsLeastOf, IsLeastHead, IsFirstLeast, HasStamps};
+ghost use Rattle.lock_journal.specs.inner.Heads.{stamp_in, or_greatest, earlier, IsLeastOf, IsLeastHead, IsFirstLeast, HasStamps, IsAhead, IsLimit, IsFirstOf};
 
 use crate::record::RunRecord;
 use plain_monitor::limits::THREADS;
@@ -15,7 +15,7 @@ use plain_monitor::{List, Logged};
 use std::marker::Model;
 
 /// The most threads that a program has.
-const MOST_THREADS: usize = THREADS as usize;
+pub(crate) const MOST_THREADS: usize = THREADS as usize;
 
 /// All entries of a run's logs by rising stamp, ties by rising thread. It takes no memory of the heap.
 #[derive(Drop)]
@@ -69,12 +69,30 @@ impl Merge {
     pub(crate) fn ahead(&self, run: &RunRecord) -> Ahead
         requires { AreOfSixteen run.now.logs }
         ensures places { result.places ≡ self.now }
-        ensures stamps { HasStamps run.now.logs result.places result.stamps }
+        ensures stamps { IsAhead run.now.logs result }
     {
         Ahead {
             places: self.places,
             stamps: head_stamps(first_logs(run), &self.places),
+            leader: 0,
+            limit: 0,
         }
+    }
+
+    /// How many entries of the thread's log were given or passed over.
+    pub(crate) fn place(&self, thread: usize) -> usize
+        requires { thread < most_threads }
+        ensures { result ≡ slice_index self.now thread }
+    {
+        self.places[thread]
+    }
+
+    /// So many entries of the thread's log are passed over.
+    pub(crate) fn set_place(&mut self, thread: usize, place: usize)
+        requires { thread < most_threads }
+        ensures { self.new ≡ slice_set self.old thread place }
+    {
+        self.places[thread] = place;
     }
 
     /// Goes on where the other one is.
@@ -85,14 +103,18 @@ impl Merge {
     }
 }
 
-/// A merge for a loop over many entries of one run: it holds the stamps of the heads, so that a step compares 16 numbers and looks
-/// into one log.
+/// A merge for a loop over many entries of one run: it holds the stamps of the heads, and goes on in one log while its stamps are below
+/// those of the others. Where they aren't any more, it compares 16 numbers.
 #[derive(Drop)]
 pub(crate) struct Ahead {
     /// How many entries of each thread's log were given.
     places: [usize; MOST_THREADS],
     /// The stamp of the first entry that each thread has left, and the greatest number where it has none.
     stamps: [u64; MOST_THREADS],
+    /// The thread whose log the merge goes on in.
+    leader: u32,
+    /// A stamp that none of the others' is below.
+    limit: u64,
 }
 
 impl Ahead {
@@ -100,17 +122,20 @@ impl Ahead {
     pub(crate) fn next(&mut self, run: &RunRecord) -> Option<(u32, Logged)>
         requires rising { AllByRecursion (RisesAbove 0) run.now.logs }
         requires few { AreOfSixteen run.now.logs }
-        requires stamps { HasStamps run.now.logs self.old.places self.old.stamps }
+        requires stamps { IsAhead run.now.logs self.old }
         ensures first { MatchOption result (order (left_of run.now.logs self.old.places) ≡ [])
             (λ x. order (left_of run.now.logs self.old.places) ≡ x ∷ order (left_of run.now.logs self.new.places)) }
         ensures end { result ≡ None → self.new ≡ self.old }
-        ensures stamps { HasStamps run.now.logs self.new.places self.new.stamps }
+        ensures stamps { IsAhead run.now.logs self.new }
     {
         let logs = first_logs(run);
-        let least = first_head(logs, &self.places, &self.stamps)?;
+        let first = first_head(logs, &self.places, &self.stamps, self.leader, self.limit)?;
+        let least = first.0;
         let head = take_head(logs, &mut self.places, least);
         let index = least.0 as usize;
         self.stamps[index] = cached_stamp(&logs[index], self.places[index]);
+        self.leader = least.0;
+        self.limit = first.1;
         Some((least.0, head))
     }
 }
@@ -146,37 +171,64 @@ fn cached_stamp(log: &List<Logged>, place: usize) -> u64
     }
 }
 
-/// The thread and the stamp of the least head. Where each stamp at hand is the greatest number, the logs tell.
+/// The thread and the stamp of the least head, and a limit of the other stamps. Where each stamp at hand is the greatest number, the logs
+/// tell.
 fn first_head(
     logs: &[List<Logged>],
     places: &[usize; MOST_THREADS],
     stamps: &[u64; MOST_THREADS],
-) -> Option<(u32, u64)>
+    leader: u32,
+    limit: u64,
+) -> Option<((u32, u64), u64)>
     requires few { length logs.now ≤ most_threads }
     requires stamps { HasStamps logs.now places.now stamps.now }
-    ensures { IsLeastOf logs.now places.now (length logs.now) result }
+    requires leader { IsLimit stamps.now leader limit }
+    ensures { IsFirstOf logs.now places.now stamps.now result }
 {
-    let first = first_least(stamps);
-    if first.1 < u64::MAX {
-        Some(first)
-    } else {
-        least_head(logs, places)
+    let first = first_stamp(stamps, leader, limit);
+    let least = first.0;
+    if least.1 < u64::MAX {
+        return Some(first);
+    }
+    match least_head(logs, places) {
+        Some(least) => Some((least, 0)),
+        None => None,
     }
 }
 
-/// The least of the stamps, and the first thread that has it. The thread says nothing where the least is the greatest number.
-fn first_least(stamps: &[u64; MOST_THREADS]) -> (u32, u64)
-    ensures { IsFirstLeast stamps.now most_threads result }
+/// The least of the stamps with its thread, and a limit of the others: that of the leader, while it is below the limit.
+fn first_stamp(stamps: &[u64; MOST_THREADS], leader: u32, limit: u64) -> ((u32, u64), u64)
+    requires { IsLimit stamps.now leader limit }
+    ensures first { IsFirstLeast stamps.now most_threads result.0 }
+    ensures limit { IsLimit stamps.now result.0.0 result.1 }
+{
+    let stamp = stamps[leader as usize];
+    if stamp < limit {
+        ((leader, stamp), limit)
+    } else {
+        two_least(stamps)
+    }
+}
+
+/// The least of the stamps, with the first thread that has it, and the least of the others. The thread says nothing where the least is the
+/// greatest number.
+fn two_least(stamps: &[u64; MOST_THREADS]) -> ((u32, u64), u64)
+    ensures first { IsFirstLeast stamps.now most_threads result.0 }
+    ensures limit { IsLimit stamps.now result.0.0 result.1 }
 {
     let mut first = 0;
     let mut least = u64::MAX;
+    let mut second = u64::MAX;
     for (thread, stamp) in stamps.iter().enumerate() {
         if *stamp < least {
+            second = least;
             first = thread as u32;
             least = *stamp;
+        } else if *stamp < second {
+            second = *stamp;
         }
     }
-    (first, least)
+    ((first, least), second)
 }
 
 /// Gives the first entry of those that are left, with its thread. `None` exactly where nothing is left.

@@ -1,15 +1,19 @@
 //! The lines on threads.
 
-ghost use Rattle.std.specs.Prelude.{◌≡◌, ◌+◌, ◌<◌, ◌≤◌, ◌++◌, ◌∷◌, [], length, MatchBool};
+ghost use Rattle.std.specs.Prelude.{◌≡◌, ◌+◌, ◌<◌, ◌≤◌, ◌++◌, ◌∷◌, [], length, true, MatchBool};
+ghost use Rattle.plain_monitor.specs.Limits.{most_threads};
 ghost use Rattle.plain_machine.specs.Machine.{ending_of};
 ghost use Rattle.lock_journal.specs.RunText.{standing_text, state_text};
-ghost use Rattle.lock_journal.specs.LinesLeft.{threads_left};
-ghost use Rattle.lock_journal.specs.inner.LineTexts.{thread_line};
+ghost use Rattle.lock_journal.specs.LinesLeft.{threads_left, ended_left};
+ghost use Rattle.machine_laws.specs.LogEnds.{ending_said, last_said, HaveEnded};
+ghost use Rattle.lock_journal.specs.inner.LineTexts.{thread_line, ended_line};
 
 use crate::line::Line;
+use crate::record::RunRecord;
 use crate::words::{push_ending, push_object, push_thread};
 use object_program::Program;
 use plain_machine::{Machine, Offer};
+use plain_monitor::{Ending, Entry, Logged};
 
 /// Writes the line on the next thread. False exactly where there is none, and then nothing changes.
 pub(crate) fn next_thread(
@@ -31,6 +35,76 @@ pub(crate) fn next_thread(
     }
     push_thread_line(out, program, machine, t);
     *thread = t + 1;
+    true
+}
+
+/// Writes the line on the next thread by the last entry of its log. False exactly where there is none, and then nothing changes.
+pub(crate) fn next_ended(thread: &mut u32, run: &RunRecord, out: &mut Line) -> bool
+    requires clear { out.old ≡ [] }
+    requires few { length run.now.logs ≤ most_threads }
+    ensures { MatchBool result
+        (ended_left run.now thread.old ≡ out.new ∷ ended_left run.now thread.new)
+        ((ended_left run.now thread.old ≡ []) × (thread.new ≡ thread.old) × (out.new ≡ [])) }
+{
+    let t = *thread;
+    match run.logs.items().get(t as usize) {
+        None => false,
+        Some(log) => {
+            push_ended_line(out, &run.program, t, log.items());
+            *thread = t + 1;
+            true
+        }
+    }
+}
+
+/// Writes the line on thread `t`, by the last entry of its log.
+fn push_ended_line(out: &mut Line, program: &Program, t: u32, log: &[Logged])
+    requires { out.old ≡ [] }
+    ensures { out.new ≡ ended_line program.now t log.now }
+{
+    out.push(b"thread ");
+    push_thread(out, program, t);
+    out.push(b" ");
+    if let Some(ending) = last_said(log) {
+        push_ending(out, ending);
+    }
+    out.end();
+}
+
+/// The ending that the last entry of the log says.
+pub fn last_said(log: &[Logged]) -> Option<Ending>
+    ensures { result ≡ last_said log.now }
+{
+    if log.is_empty() {
+        return None;
+    }
+    ending_said(&log[log.len() - 1].entry)
+}
+
+/// The ending that an entry says.
+fn ending_said(entry: &Entry) -> Option<Ending>
+    ensures { result ≡ ending_said entry.now }
+{
+    match entry {
+        Entry::Trap { fault, index } => Some(Ending::Trap {
+            fault: *fault,
+            index: *index,
+        }),
+        Entry::Spent => Some(Ending::Spent),
+        Entry::Done => Some(Ending::Done),
+        _ => None,
+    }
+}
+
+/// Whether each thread's log ends with its ending entry.
+pub fn have_ended(run: &RunRecord) -> bool
+    ensures { result ≡ true → HaveEnded run.now.logs }
+{
+    for log in run.logs.items() {
+        if last_said(log.items()).is_none() {
+            return false;
+        }
+    }
     true
 }
 

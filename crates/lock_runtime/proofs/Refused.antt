@@ -1,5 +1,5 @@
 -- A call is refused exactly where by its own log the thread has no hold: its hold words follow from its log.
-use Rattle.std.proofs.Common.{◌≡◌, ℕ, zero, suc, ◌≤◌, ◌==◌, false, sym, ◌∙◌, subst, arith}
+use Rattle.std.proofs.Common.{◌≡◌, ℕ, zero, suc, ◌<◌, ◌≤◌, ◌==◌, false, sym, ◌∙◌, subst, ne_eqb, arith}
 use Rattle.plain_history.specs.HeldByLog.{held_by, nothing_held}
 use Rattle.core_world.specs.Locks.{hold_count}
 use Rattle.heap_table.specs.Resting.{Rests}
@@ -16,3 +16,10 @@ module _ (h : HeapSeen) (p : PassSeen) (rests : Rests h p) (o : ℕ) where
 
   pub held : (hold_count o p.known.holds == 0) ≡ false → 1 ≤ held_by nothing_held p.known.log o
   held some = subst (λ n. 1 ≤ n) (own_number h p o rests) (some_held (hold_count o p.known.holds) some)
+
+  -- and where by its log it has one, so it has by its hold words
+  pub some_by_log : 1 ≤ held_by nothing_held p.known.log o → 0 < hold_count o p.known.holds
+  some_by_log some = let same = own_number h p o rests in omega (arith, some, same)
+
+  pub goes_by_log : 1 ≤ held_by nothing_held p.known.log o → (hold_count o p.known.holds == 0) ≡ false
+  goes_by_log some = ne_eqb _ _ (λ none. let one = some_by_log some in omega (arith, none, one))

@@ -20,9 +20,8 @@ use heap_table::{Heap, Pass, Purpose, mark_of_word};
 use mark_word::MarkForm;
 use object_monitor::{inflate, monitor_enter};
 use plain_monitor::Path;
-use plain_monitor::limits::HOLDS;
 use revoke_walk::Revocation;
-use stack_lock::{free_place, stack_enter};
+use stack_lock::stack_enter;
 
 // Another thread has the lock by a record: it is inflated, and entered by the monitor.
 fn enter_monitor(heap: &Heap, pass: &mut Pass, why: &Purpose, object: u32) -> Turn<Path>
@@ -187,7 +186,7 @@ pub fn enter(heap: &Heap, pass: &mut Pass, object: u32, now: u64) -> Result<Turn
     ensures stands { StandsOrSame pass.old.known pass.new.known result }
     ensures others { PendsOrRefused pass.old.known.thread result }
 {
-    if free_place(pass) == HOLDS {
+    if pass.is_full() {
         return Err(TooDeep);
     }
     let why = unfinished(Task::Enter { object, now }, Op::Enter, object);

@@ -1,5 +1,6 @@
 //! The call that leaves an object.
-ghost use Rattle.std.specs.Prelude.{◌≡◌, ◌<◌, length};
+ghost use Rattle.std.specs.Prelude.{◌≡◌, ◌<◌, ◌≤◌, length, Ok};
+ghost use Rattle.plain_history.specs.HeldByLog.{held_by, nothing_held};
 ghost use Rattle.core_world.specs.declared.task.Task.TheVariants.{Exit};
 ghost use Rattle.core_world.specs.Locks.{hold_count};
 ghost use Rattle.core_world.specs.Threads.Known.{local_of};
@@ -10,7 +11,7 @@ ghost use Rattle.heap_table.specs.Parts.{IsDueOn, HasRun};
 ghost use Rattle.heap_table.specs.Resting.{MayOperate, Rests, start_now};
 ghost use Rattle.heap_table.specs.Seen.{IsOf};
 ghost use Rattle.lock_runtime.specs.inner.Parts.{exit_unbiased};
-ghost use Rattle.lock_runtime.specs.Standing.{StandsOrSame};
+ghost use Rattle.lock_runtime.specs.Standing.{StandsBehind, StandsOrSame};
 ghost use Rattle.lock_runtime.specs.Refusals.{IsRefusedUnheld};
 
 use crate::purposes::unfinished;
@@ -71,6 +72,20 @@ pub fn exit(heap: &Heap, pass: &mut Pass, object: u32) -> Result<Turn<()>, Illeg
     if pass.held(object) == 0 {
         return Err(IllegalMonitorState);
     }
+    Ok(exit_held(heap, pass, object))
+}
+
+/// Leaves the thread's newest hold of the object, as `exit` does, where it has one by its log. Whoever calls has looked
+/// for that. `Done(())` and the two causes of a pending exit are those of `exit`.
+pub fn exit_held(heap: &Heap, pass: &mut Pass, object: u32) -> Turn<()>
+    requires may { MayOperate heap.now pass.old (Exit object) }
+    requires held { 1 ≤ held_by nothing_held pass.old.known.log object }
+    ensures rests { Rests heap.now pass.new }
+    ensures run { HasRun heap.now (exit_steps (start_now heap.now pass.old) object) pass.old pass.new (Ok result) }
+    ensures says { Tells pass.old.known pass.new.known
+        (λ ms. ExitSays (start_now heap.now pass.old) object ms (Ok result)) }
+    ensures stands { StandsBehind pass.new.known result }
+{
     let why = unfinished(Task::Exit { object }, Op::Exit, object);
-    Ok(leave_held(heap, pass, &why, object))
+    leave_held(heap, pass, &why, object)
 }

@@ -19,9 +19,9 @@ mod waiting;
 
 pub use entering::enter;
 pub use hashing::hash;
-pub use leaving::exit;
+pub use leaving::{exit, exit_held};
 pub use looking::{check_stuck, dump};
 pub use making::create;
 pub use running::{poll, resume, stop};
-pub use values::{finish, get, print, put};
+pub use values::{finish, get, get_held, print, put, put_held};
 pub use waiting::{notify, notify_all, wait};

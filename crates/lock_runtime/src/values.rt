@@ -1,5 +1,6 @@
 //! Calls that make one entry at once: slots, prints and the end of a thread.
-ghost use Rattle.std.specs.Prelude.{◌≡◌, true, Ok};
+ghost use Rattle.std.specs.Prelude.{◌≡◌, ◌≤◌, true, Ok};
+ghost use Rattle.plain_history.specs.HeldByLog.{held_by, nothing_held};
 ghost use Rattle.core_world.specs.declared.task.Task.TheVariants.{Get, Put, Print, Finish};
 ghost use Rattle.core_world.specs.Trees.Operations.{get_steps, put_steps, print_steps, finish_steps};
 ghost use Rattle.core_calls.specs.Paths.{Tells};
@@ -34,9 +35,25 @@ pub fn get(heap: &Heap, pass: &mut Pass, object: u32, slot: u32) -> Result<Value
     if pass.held(object) == 0 {
         return Err(Unguarded);
     }
+    Ok(get_held(heap, pass, object, slot))
+}
+
+/// The value of the object's slot, as `get` loads it, where the thread has a hold on the object by its log. Whoever calls
+/// has looked for that, so the hold words are not looked through again.
+pub fn get_held(heap: &Heap, pass: &mut Pass, object: u32, slot: u32) -> Value
+    requires may { MayOperate heap.now pass.old (Get object slot) }
+    requires held { 1 ≤ held_by nothing_held pass.old.known.log object }
+    ensures rests { Rests heap.now pass.new }
+    ensures run { HasRun heap.now (get_steps (start_now heap.now pass.old) object slot)
+        pass.old pass.new (Ok result) }
+    ensures says { Tells pass.old.known pass.new.known
+        (λ ms. GetSays (start_now heap.now pass.old) object slot ms (Ok result)) }
+    ensures stands { IsRunning pass.new.known }
+    ensures value { is_value heap.now.heap.shape result ≡ true }
+{
     let why = alone(Task::Get { object, slot });
     let word = heap.log_get(pass, &why, object, slot);
-    Ok(value_of_word(word))
+    value_of_word(word)
 }
 
 /// Stores the value in the object's slot, by one store, which logs a Put with it.
@@ -61,6 +78,22 @@ pub fn put(
     if pass.held(object) == 0 {
         return Err(Unguarded);
     }
+    put_held(heap, pass, object, slot, value);
+    Ok(())
+}
+
+/// Stores the value in the object's slot, as `put` does, where the thread has a hold on the object by its log. Whoever
+/// calls has looked for that, so the hold words are not looked through again.
+pub fn put_held(heap: &Heap, pass: &mut Pass, object: u32, slot: u32, value: Value)
+    requires may { MayOperate heap.now pass.old (Put object slot value) }
+    requires held { 1 ≤ held_by nothing_held pass.old.known.log object }
+    ensures rests { Rests heap.now pass.new }
+    ensures run { HasRun heap.now (put_steps (start_now heap.now pass.old) object slot value)
+        pass.old pass.new (Ok result) }
+    ensures says { Tells pass.old.known pass.new.known
+        (λ ms. PutSays (start_now heap.now pass.old) object slot value ms (Ok result)) }
+    ensures stands { IsRunning pass.new.known }
+{
     let why = alone(Task::Put {
         object,
         slot,
@@ -73,7 +106,6 @@ pub fn put(
     };
     let at = Name::Slot { object, slot };
     heap.log_store(pass, &why, Stage::Calm, at, value_word(&value), entry);
-    Ok(())
 }
 
 /// Logs a Print of the value.

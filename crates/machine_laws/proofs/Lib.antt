@@ -18,3 +18,4 @@ pub mod MadeInTime
 pub mod RunReferences
 pub mod AskedReferences
 pub mod ReachedMade
+pub mod Ended

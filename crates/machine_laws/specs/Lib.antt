@@ -4,3 +4,4 @@ pub mod Reached
 pub mod ReachedMonitor
 pub mod ReachedThread
 pub mod ReachedEntry
+pub mod LogEnds

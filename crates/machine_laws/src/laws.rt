@@ -3,12 +3,14 @@
 ghost use Rattle.std.specs.Prelude.{◌≡◌, ◌⊎◌, ℕ, ◌<◌, ◌≤◌, ◌+◌, ◌^◌, Bool, true, false, not, length, sum, slice_get, ◌==◌, IsSome, is_some, Option, Some, List};
 ghost use Rattle.std.specs.List.{AllByRecursion, list_all};
 ghost use Rattle.plain_monitor.specs.Limits.{most_holds};
+ghost use Rattle.plain_monitor.specs.declared.entry.Ending.{Ending};
 ghost use Rattle.plain_monitor.specs.declared.entry.Entry.{Entry};
 ghost use Rattle.plain_monitor.specs.declared.entry.Entry.TheVariants.{Enter, Hash};
 ghost use Rattle.plain_monitor.specs.declared.entry.Entry.TheVariants as entry;
 ghost use Rattle.plain_monitor.specs.declared.entry.Path.{Path};
 ghost use Rattle.plain_monitor.specs.declared.entry.Value.TheVariants.{Ref};
 ghost use Rattle.plain_monitor.specs.declared.entry.Logged.{Logged};
+ghost use Rattle.plain_monitor.specs.History.{log_of};
 ghost use Rattle.plain_monitor.specs.Made.{is_there, IsMadeInTime};
 ghost use Rattle.object_program.specs.Program.{ProgramText, numbering_of};
 ghost use Rattle.object_program.specs.Valid.{IsProgram};
@@ -18,12 +20,13 @@ ghost use Rattle.plain_machine.specs.declared.call.Asked.TheVariants.{Calls};
 ghost use Rattle.plain_machine.specs.declared.offer.Offer.TheVariants.{Next, NextHash};
 ghost use Rattle.plain_machine.specs.Thread.{ThreadState, local};
 ghost use Rattle.plain_machine.specs.Asking.{ask};
-ghost use Rattle.plain_machine.specs.Machine.{PlainMachine, new_machine, take, monitor_at, slot_at, is_live, is_stuck};
-ghost use Rattle.plain_machine.specs.Legal.{IsLegal};
+ghost use Rattle.plain_machine.specs.Machine.{PlainMachine, new_machine, take, ending_of, monitor_at, slot_at, is_live, is_stuck};
+ghost use Rattle.plain_machine.specs.Legal.{IsLegal, machine_after};
 ghost use Rattle.plain_machine.specs.Offering.{next_made, offered, is_next};
 ghost use Rattle.machine_laws.specs.Work.{work_left};
 ghost use Rattle.plain_machine.specs.Values.{IsValueOf};
 ghost use Rattle.machine_laws.specs.Reached.{IsReached};
+ghost use Rattle.machine_laws.specs.LogEnds.{ending_said, HaveEnded};
 ghost use Rattle.machine_laws.specs.ReachedEntry.{IsEntryOf, IsOfferOf};
 
 /// A machine before its first entry is one that is reached, and so is each one behind an entry of such a machine.
@@ -107,4 +110,18 @@ pub fn a_machine_that_offers_nothing_is_over()
     ensures ended { (m : PlainMachine) (t : ℕ) → list_all (λ s. not (is_live s)) m.threads ≡ true
         → is_next (offered m t) ≡ false }
     ensures apart { (m : PlainMachine) → list_all (λ s. not (is_live s)) m.threads ≡ true → is_stuck m ≡ false }
+{}
+
+/// Under legal logs, a thread that logged an ending has ended so. Where each log ends with its ending entry, every thread of the
+/// machine under them has ended, and it isn't stuck.
+pub fn ended_logs_say_how_threads_ended()
+    ensures each { (p : ProgramText) (fuel : ℕ) (logs : List (List Logged)) (m : PlainMachine) (t k : ℕ) (l : Logged)
+        (e : Ending) → IsLegal p fuel logs → machine_after p fuel logs ≡ Some m
+        → slice_get (log_of logs t) k ≡ Some l → ending_said l.entry ≡ Some e → ending_of m t ≡ Some e }
+    ensures all { (p : ProgramText) (fuel : ℕ) (logs : List (List Logged)) (m : PlainMachine)
+        → IsLegal p fuel logs → machine_after p fuel logs ≡ Some m → length logs ≡ length p.threads → HaveEnded logs
+        → list_all (λ s. not (is_live s)) m.threads ≡ true }
+    ensures stuck { (p : ProgramText) (fuel : ℕ) (logs : List (List Logged)) (m : PlainMachine)
+        → IsLegal p fuel logs → machine_after p fuel logs ≡ Some m → length logs ≡ length p.threads → HaveEnded logs
+        → is_stuck m ≡ false }
 {}

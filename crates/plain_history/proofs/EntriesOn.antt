@@ -9,7 +9,7 @@ use Rattle.plain_monitor.specs.Order.{is_before, insert_ordered, with_threads, o
 use Rattle.plain_monitor.specs.History.{RisesAbove, appended}
 use Rattle.plain_history.specs.Tied.{bound_to, is_same_object, is_tied}
 use Rattle.plain_history.specs.Appending.{MayAppend}
-use Rattle.plain_history.proofs.Ordering.{IsOrdered, ordered_is_ordered}
+use Rattle.plain_monitor.proofs.Ordering.{IsOrdered, ordered_is_ordered}
 use Rattle.plain_history.proofs.Inserting.{order_with, IsFree, IsBehindTied, free_behind, untied}
 use Rattle.plain_monitor.proofs.Orders.{before_asym}
 use Rattle.plain_history.specs.EnterPaths.{entries_on, first_path, EndsStay, ends_bias, needs_bias}

@@ -8,7 +8,7 @@ use Rattle.plain_monitor.specs.History.{RisesAbove, take_all, objects_after, Leg
 use Rattle.plain_monitor.proofs.Appending.{order_appended, rises_appended}
 use Rattle.plain_history.specs.Tied.{is_tied}
 use Rattle.plain_history.specs.Appending.{MayAppend}
-use Rattle.plain_history.proofs.Ordering.{NoneBefore, IsOrdered, not_before, ordered_is_ordered}
+use Rattle.plain_monitor.proofs.Ordering.{NoneBefore, IsOrdered, not_before, ordered_is_ordered}
 use Rattle.plain_history.proofs.Passing.{first_run, PassesLater, run_inserted}
 use Rattle.plain_history.proofs.Swaps.{take_swap}
 

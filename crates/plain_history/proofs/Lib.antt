@@ -1,5 +1,4 @@
 pub mod Swaps
-pub mod Ordering
 pub mod Passing
 pub mod Inserting
 pub mod Bounds

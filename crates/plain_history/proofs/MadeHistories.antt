@@ -13,7 +13,7 @@ use Rattle.plain_monitor.proofs.Orders.{all_insert}
 use Rattle.plain_monitor.proofs.Threads.{thread_kept}
 use Rattle.plain_monitor.proofs.Lists.{all_weaker}
 use Rattle.plain_history.specs.Known.{makes, is_one_of, makes_for, MayFollow, IsMadeBelow, IsKnownAt}
-use Rattle.plain_history.proofs.Ordering.{ordered_is_ordered}
+use Rattle.plain_monitor.proofs.Ordering.{ordered_is_ordered}
 use Rattle.plain_history.proofs.Passing.{PassesLater, first_run, run_inserted}
 use Rattle.plain_history.proofs.Inserting.{untied}
 use Rattle.plain_history.proofs.MadeSteps.{grown, row_same, there_more, all_there, creating, maker_of_new, made_turns}

@@ -7,7 +7,7 @@ use Rattle.plain_monitor.specs.declared.entry.Logged.{Logged}
 use Rattle.plain_monitor.specs.Order.{is_before, insert_ordered}
 use Rattle.plain_monitor.specs.History.{run_all}
 use Rattle.plain_monitor.proofs.Orders.{before_asym}
-use Rattle.plain_history.proofs.Ordering.{IsOrdered, NoneBefore, not_before}
+use Rattle.plain_monitor.proofs.Ordering.{IsOrdered, NoneBefore, not_before}
 
 -- a state that takes several entries takes the first, and then the others
 pub first_run : {S : Type 0} (take : S → ℕ → Entry → Option S) (first : Option S) (xs : List (ℕ × Logged)) (after : S) → option_and_then (λ s. run_all take s xs) first ≡ Some after

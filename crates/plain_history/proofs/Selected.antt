@@ -8,7 +8,7 @@ use Rattle.plain_monitor.specs.Order.{is_before, insert_ordered, ordered, with_t
 use Rattle.plain_monitor.specs.History.{RisesAbove, last_above, last_stamp, log_of}
 use Rattle.plain_monitor.proofs.Orders.{insert_front}
 use Rattle.plain_history.specs.Cuts.{cut_logs, logs_since}
-use Rattle.plain_history.proofs.Ordering.{IsOrdered, NoneBefore, ordered_is_ordered}
+use Rattle.plain_monitor.proofs.Ordering.{IsOrdered, NoneBefore, ordered_is_ordered}
 
 -- those that pass the test
 abbrev pub selected : {A : Type 0} → (A → Bool) → List A → List A

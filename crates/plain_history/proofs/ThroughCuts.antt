@@ -10,7 +10,7 @@ use Rattle.plain_monitor.specs.History.{RisesAbove, run_all, take_all, objects_a
 use Rattle.plain_history.specs.Cuts.{cut_logs, logs_since, IsCutInOrder}
 use Rattle.plain_history.specs.Tied.{bound_to, is_same_object, is_tied}
 use Rattle.plain_history.proofs.InOrder.{Stands, all_both}
-use Rattle.plain_history.proofs.Ordering.{IsOrdered, NoneBefore, ordered_is_ordered}
+use Rattle.plain_monitor.proofs.Ordering.{IsOrdered, NoneBefore, ordered_is_ordered}
 use Rattle.plain_history.proofs.Joined.{first_some}
 use Rattle.plain_history.proofs.Selected.{selected, all_selected, is_within, is_since, last_before, within_cut, since_cut, own_stand}
 use Rattle.plain_history.proofs.Swaps.{take_swap}

@@ -65,6 +65,9 @@ stands_later d o h = grind (arith, nat_tests)
 stands_before : (d : ObjectDef) (o : ℕ) → d.first + d.size ≤ o → has_object d o ≡ false
 stands_before d o h = grind (arith, nat_tests)
 
+begins_by : (d : ObjectDef) (o : ℕ) → has_object d o ≡ true → d.first ≤ o
+begins_by d o h = grind (arith, nat_tests)
+
 -- an object before all declarations has no class of them
 pub class_none : (ds : List ObjectDef) (o : ℕ) (d : ObjectDef) → ((k : ℕ) → k < length ds → o < (get_or ds k d).first) → class_from ds o ≡ 0
 class_none [] o d h = refl
@@ -81,6 +84,25 @@ class_last classes n (x ∷ ds) o (suc k) d h lt le more =
     let behind = begins_behind classes (n + x.size) ds k d h.1 (omega arith) in
     rw (stands_before x o (omega (arith, h.0.1, behind)))
     (class_last classes (n + x.size) ds o k d h.1 (omega arith) le (λ j a b. more (suc j) (omega arith) (omega arith)))
+
+-- the class of an object by a declaration that stands for it
+class_here : (classes n : ℕ) (ds : List ObjectDef) (o k : ℕ) (d : ObjectDef) → AreObjects classes n ds → k < length ds → has_object (get_or ds k d) o ≡ true
+    → class_from ds o ≡ (get_or ds k d).class
+class_here classes n [] o k d h lt has = absurd (omega arith)
+class_here classes n (x ∷ ds) o zero d h lt has = rw has refl
+class_here classes n (x ∷ ds) o (suc k) d h lt has =
+    let behind = begins_behind classes (n + x.size) ds k d h.1 (omega arith) in
+    rw (stands_before x o (omega (arith, h.0.1, behind, begins_by (get_or ds k d) o has)))
+    (class_here classes (n + x.size) ds o k d h.1 (omega arith) has)
+
+-- the same of a declaration of a program that was read
+pub class_own : (inside p : ProgramText) (items : List ObjectDef) (o k : ℕ) (d : ObjectDef) → IsProgram p → items ≡ inside.objects → inside ≡ p → k < length items
+    → d ≡ get_or items k d → true ≡ has_object d o → d.class ≡ class_from p.objects o
+class_own inside p items o k d v e is lt at has =
+    let same : items ≡ p.objects = e ∙ ap (λ (q : ProgramText). q.objects) is in
+    let here : has_object (get_or items k d) o ≡ true = ap (λ (x : ObjectDef). has_object x o) (sym at) ∙ sym has in
+    let found : class_from items o ≡ (get_or items k d).class = class_here (length p.classes) 0 items o k d (rw same v.objects) lt here in
+    ap (λ (x : ObjectDef). x.class) at ∙ sym found ∙ ap (λ ds. class_from ds o) same
 
 -- the class of an object of a program, where the first k of its declarations don't stand behind it, and the others do
 pub class_nowhere : (p : ProgramText) (ds : List ObjectDef) (o k : ℕ) → ds ≡ p.objects → k ≡ 0

@@ -39,9 +39,22 @@ pub fn slots_of(program: &Program, o: u32) -> u32
     }
 }
 
-/// The class of object o; where there is no such object, 0. Declarations stand by rising numbers of their objects, so that it is
-/// found in few steps among many of them.
+/// The class of object o; where there is no such object, 0. Where no array stands before its declaration, this has the object's own
+/// number, and is looked at first.
 fn class_of(program: &Program, o: u32) -> u32
+    ensures { result ≡ class_from program.now.objects o }
+{
+    if let Some(definition) = program.objects.items().get(o as usize) {
+        if stands_for(definition, o) {
+            return definition.class;
+        }
+    }
+    class_found(program, o)
+}
+
+/// The class of object o by a search; where there is no such object, 0. Declarations stand by rising numbers of their objects, so
+/// that it is found in few steps among many of them.
+fn class_found(program: &Program, o: u32) -> u32
     ensures { result ≡ class_from program.now.objects o }
 {
     let definitions = program.objects.items();
@@ -65,8 +78,15 @@ fn begun_by(definitions: &[ObjectDef], o: u32) -> usize
 fn class_by(definition: &ObjectDef, o: u32) -> u32
     ensures { result ≡ (if has_object definition.now o then definition.now.class else 0) }
 {
-    if definition.first <= o && o - definition.first < definition.size {
+    if stands_for(definition, o) {
         return definition.class;
     }
     0
+}
+
+/// The declaration stands for object o.
+fn stands_for(definition: &ObjectDef, o: u32) -> bool
+    ensures { result ≡ has_object definition.now o }
+{
+    definition.first <= o && o - definition.first < definition.size
 }

@@ -1,6 +1,7 @@
 //! The instructions that compute the value of a local.
 
-ghost use Rattle.std.specs.Prelude.{◌≡◌, ◌<◌, ◌+ℤ◌, ◌-ℤ◌, ◌*ℤ◌, nat_abs, slice_get, IfSome, is_some};
+ghost use Rattle.std.specs.Prelude.{◌≡◌, ℤ, ◌<◌, ◌+ℤ◌, ◌-ℤ◌, ◌*ℤ◌, nat_abs, slice_get, IfSome, SomeIff, is_some};
+ghost use Rattle.plain_monitor.specs.Numbers.{IsInRange};
 ghost use Rattle.object_program.specs.Limits.{most_code};
 ghost use Rattle.plain_machine.specs.Thread.{combines, computes, first_of, element, is_element};
 ghost use Rattle.plain_machine.specs.Next.{meant, IsReadyNext};
@@ -46,36 +47,50 @@ pub fn mul<T: Actor>(thread: &T, x: u32, y: Value, z: Value) -> Next
     }
 }
 
-fn sum(y: i64, z: i64) -> i128
-    ensures { result ≡ y +ℤ z }
+/// The sum, where a value may be it.
+fn sum(y: i64, z: i64) -> Option<i64>
+    ensures { SomeIff result (IsInRange (y +ℤ z)) (y +ℤ z) }
 {
-    i128::from(y) + i128::from(z)
+    in_range(y.checked_add(z)?)
 }
 
-fn difference(y: i64, z: i64) -> i128
-    ensures { result ≡ y -ℤ z }
+/// The difference, where a value may be it.
+fn difference(y: i64, z: i64) -> Option<i64>
+    ensures { SomeIff result (IsInRange (y -ℤ z)) (y -ℤ z) }
 {
-    i128::from(y) - i128::from(z)
+    in_range(y.checked_sub(z)?)
 }
 
-fn product(y: i64, z: i64) -> i128
-    ensures { result ≡ y *ℤ z }
+/// The product, where a value may be it.
+fn product(y: i64, z: i64) -> Option<i64>
+    ensures { SomeIff result (IsInRange (y *ℤ z)) (y *ℤ z) }
 {
-    i128::from(y) * i128::from(z)
+    in_range(y.checked_mul(z)?)
+}
+
+/// The number, where a value may be it.
+fn in_range(number: i64) -> Option<i64>
+    ensures { SomeIff result (IsInRange number) number }
+{
+    if number < Value::LEAST || number > Value::GREATEST {
+        return None;
+    }
+    Some(number)
 }
 
 /// x becomes the number, where a value may be it.
-fn compute<T: Actor>(thread: &T, x: u32, z: i128) -> Next
+fn compute<T: Actor>(thread: &T, x: u32, number: Option<i64>) -> Next
     requires { (T.state thread.now).place < most_code }
-    ensures next { computes (T.state thread.now) x z ≡ meant (T.state thread.now) result }
+    ensures next { (z : ℤ) → SomeIff number (IsInRange z) z
+        → computes (T.state thread.now) x z ≡ meant (T.state thread.now) result }
     ensures ready { IsReadyNext (T.state thread.now) result }
 {
-    if z < i128::from(Value::LEAST) || z > i128::from(Value::GREATEST) {
-        return fault(thread, Fault::Overflow);
-    }
-    Next::Sets {
-        local: x,
-        value: Value::Int(z as i64),
+    match number {
+        Some(number) => Next::Sets {
+            local: x,
+            value: Value::Int(number),
+        },
+        None => fault(thread, Fault::Overflow),
     }
 }
 

@@ -1,6 +1,8 @@
 pub mod Lists
 pub mod Waiting
 pub mod Orders
+pub mod Ordering
+pub mod Keeping
 pub mod Merging
 pub mod Threads
 pub mod Appending

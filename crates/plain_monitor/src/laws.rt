@@ -1,9 +1,11 @@
 //! Laws of the order of entries, which hold of all logs.
 
-ghost use Rattle.std.specs.Prelude.{◌≡◌, ◌≢◌, ℕ, ◌<◌, List, [], ◌∷◌, ◌++◌, length, IsTrue, slice_set};
+ghost use Rattle.std.specs.Prelude.{◌≡◌, ◌≢◌, ℕ, ◌<◌, Bool, List, [], ◌∷◌, ◌++◌, length, IsTrue, slice_set};
 ghost use Rattle.std.specs.List.{AllByRecursion};
+ghost use Rattle.plain_monitor.specs.declared.entry.Entry.{Entry};
 ghost use Rattle.plain_monitor.specs.declared.entry.Logged.{Logged};
 ghost use Rattle.plain_monitor.specs.Order.{is_before, order, of_thread};
+ghost use Rattle.plain_monitor.specs.Kept.{kept_logs, kept_entries};
 ghost use Rattle.plain_monitor.specs.History.{RisesAbove, log_of, last_stamp, appended};
 
 /// Where each log's stamps rise, the head of a log that stands before the head of each other log is the first of the order,
@@ -33,4 +35,10 @@ pub fn an_entry_above_all_comes_last()
     ensures rises { (logs : List (List Logged)) (t : ℕ) (l : Logged) → AllByRecursion (RisesAbove 0) logs
         → t < length logs
         → AllByRecursion (λ log. last_stamp log < l.stamp) logs → AllByRecursion (RisesAbove 0) (appended logs t l) }
+{}
+
+/// The entries that pass a test stand in the order of all as they stand in the order of their own.
+pub fn kept_entries_are_ordered_alone()
+    ensures { (keeps : Entry → Bool) (logs : List (List Logged))
+        → kept_entries keeps (order logs) ≡ order (kept_logs keeps logs) }
 {}

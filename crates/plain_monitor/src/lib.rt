@@ -16,7 +16,10 @@ mod waiters;
 
 pub use endings::ending_entry;
 pub use entry::{Ending, Entry, Fault, Logged, Path, Value};
-pub use laws::{an_entry_above_all_comes_last, least_head_comes_first, order_keeps_each_log};
+pub use laws::{
+    an_entry_above_all_comes_last, kept_entries_are_ordered_alone, least_head_comes_first,
+    order_keeps_each_log,
+};
 pub use list::List;
 pub use monitor::Monitor;
 pub use refusal::{BadWord, NoMemory, Refused};

@@ -7,7 +7,7 @@ use Rattle.std.proofs.lemmas.Bool.Decides.{nat_tests}
 use Rattle.std.proofs.lemmas.Option.{same_Some}
 use Rattle.lone_logs.specs.LoneRun.{with_no_path, without_path}
 use Rattle.plain_history.specs.Tied.{bound_to, is_same_object}
-use Rattle.plain_history.proofs.Ordering.{IsOrdered, ordered_is_ordered}
+use Rattle.plain_monitor.proofs.Ordering.{IsOrdered, ordered_is_ordered}
 use Rattle.plain_history.proofs.Joined.{first_some}
 use Rattle.plain_history.proofs.SoundHistories.{hash_kept}
 use Rattle.plain_history.proofs.Swaps.{plain_or_hash, taken_at}

@@ -1,3 +1,4 @@
+pub mod SameCopies
 pub mod Shaped
 pub mod LinesBelow
 pub mod Cut

@@ -1,20 +1,66 @@
 //! Copies of the logs and the shots of a closed heap.
 
-ghost use Rattle.std.specs.Prelude.{◌≡◌, map, IfOk};
+ghost use Rattle.std.specs.Prelude.{◌≡◌, ◌≤◌, ◌<◌, length, slice_get, map, Some, IfOk, IfSome};
 ghost use Rattle.heap_table.specs.Cells.{cells_shown};
 ghost use Rattle.program_run.specs.Left.{cells_left, shot_left, shots_left};
 
 use lock_journal::{Cell, Shot};
 use plain_monitor::{List, Logged};
 use std::alloc::{AllocError, Global};
+use std::thread;
+use std::thread::Threads;
 
-/// The logs.
-pub fn copy_logs(alloc: Global, logs: &[List<Logged>]) -> Result<List<List<Logged>>, AllocError>
+/// The logs, copied by so many threads at most: the pages of long logs are new ones, and to touch them takes longer than to copy.
+pub fn copy_logs<R: Threads + Sync>(
+    rt: &R,
+    alloc: Global,
+    logs: &[List<Logged>],
+    workers: u32,
+) -> Result<List<List<Logged>>, AllocError>
+    requires { 1 ≤ workers }
     ensures { IfOk result (λ copied. copied ≡ logs.now) }
 {
-    let mut copied = Vec::with_capacity(alloc, logs.len())?;
-    for log in logs {
-        copied.push(List::of(Vec::from_slice(alloc, log.items())?))?;
+    let mut copies = places_for(alloc, logs)?;
+    thread::for_each_mut(
+        rt,
+        copies.as_mut_slice(),
+        workers as usize,
+        &|i: usize, copy: &mut Option<List<Logged>>|
+            requires { i < length logs.now }
+            ensures { IfSome copy.exit.now (λ copied. slice_get logs.entry.now i ≡ Some copied) }
+        { *copy = copy_log(alloc, &logs[i]) },
+    );
+    all_of(alloc, copies)
+}
+
+// A place for a copy of each log.
+fn places_for(alloc: Global, logs: &[List<Logged>]) -> Result<Vec<Option<List<Logged>>>, AllocError>
+    ensures { IfOk result (λ places. length places.items ≡ length logs.now) }
+{
+    let mut places = Vec::with_capacity(alloc, logs.len())?;
+    for _ in logs {
+        places.push(None)?;
+    }
+    Ok(places)
+}
+
+// One log, where there is memory for it.
+fn copy_log(alloc: Global, log: &List<Logged>) -> Option<List<Logged>>
+    ensures { IfSome result (λ copied. copied ≡ log.now) }
+{
+    Some(List::of(Vec::from_slice(alloc, log.items()).ok()?))
+}
+
+// The copies, where each was made.
+fn all_of(
+    alloc: Global,
+    copies: Vec<Option<List<Logged>>>,
+) -> Result<List<List<Logged>>, AllocError>
+    ensures { IfOk result (λ copied. copies.items ≡ map Some copied) }
+{
+    let mut copied = Vec::with_capacity(alloc, copies.len())?;
+    for copy in copies {
+        copied.push(copy.ok_or(AllocError)?)?;
     }
     Ok(List::of(copied))
 }

@@ -40,7 +40,7 @@ pub fn run_program<R: Threads + Wait + Sync, C: Clock + Sync, G: Gate + Sync>(
 {
     the_record_tells_the_run();
     let closed = run_closed(rt, alloc, &program, settings, clock, gate)?;
-    let record = record_of(alloc, program, settings, &closed)?;
+    let record = record_of(rt, alloc, program, settings, &closed)?;
     Ok(Ran { record, closed })
 }
 

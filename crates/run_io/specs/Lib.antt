@@ -6,3 +6,5 @@ pub mod SupplyView
 pub mod Store
 pub mod StoreView
 pub mod Stream
+pub mod Buffered
+pub mod BufferedView

@@ -1,6 +1,6 @@
 //! What the sources and sinks count and copy.
 
-ghost use Rattle.std.specs.Prelude.{◌≡◌, ◌+◌, ◌≤◌, length, take, drop, ◌++◌, min, vec_len, vec_capacity};
+ghost use Rattle.std.specs.Prelude.{◌≡◌, ◌+◌, ◌-◌, ◌≤◌, length, take, drop, ◌++◌, min, vec_len, vec_capacity};
 ghost use Rattle.run_io.specs.Faults.{count_on, is_listed};
 
 /// One more, at most the greatest u64.
@@ -36,4 +36,16 @@ pub fn append(bytes: &mut Vec<u8>, piece: &[u8])
 {
     let added = bytes.extend_from_slice(piece);
     prove!(added.is_ok());
+}
+
+/// Removes the first bytes, so many.
+pub fn remove_front(bytes: &mut Vec<u8>, count: usize)
+    requires { count ≤ vec_len bytes.old }
+    ensures items { bytes.new.items ≡ drop count bytes.old.items }
+    ensures len { vec_len bytes.new ≡ vec_len bytes.old - count }
+    ensures capacity { vec_capacity bytes.new ≡ vec_capacity bytes.old }
+{
+    let len = bytes.len();
+    bytes.as_mut_slice().copy_within(count..len, 0);
+    bytes.truncate(len - count);
 }

@@ -1,11 +1,13 @@
 //! The outside of the program, as traits: where bytes come from and go to, what the time is, and what threads
 //! pass at each turn.
 //!
-//! Each trait has a stand-in for tests, and sources and sinks stand over any reader and writer too. A fault of the
+//! Each trait has a stand-in for tests, and sources and sinks stand over any reader and writer too. A sink may gather what is
+//! written to it before another one gets it. A fault of the
 //! outside is `Failed`, which comes only where a count of faults rose: `specs/` says what that is, and what a read and
 //! a write do.
 #![tactic(auto)]
 
+mod buffered_sink;
 mod clock;
 mod counts;
 mod failed;
@@ -16,6 +18,7 @@ mod sink;
 mod source;
 mod streams;
 
+pub use buffered_sink::BufferedSink;
 pub use clock::{Clock, StepClock, moment};
 pub use failed::Failed;
 pub use gate::{FreeGate, Gate};

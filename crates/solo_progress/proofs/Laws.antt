@@ -6,6 +6,7 @@ use Rattle.plain_monitor.specs.declared.entry.Value.{Value}
 use Rattle.plain_monitor.specs.ValueWords.{read_value}
 use Rattle.core_world.specs.declared.answer.Turn.{Turn}
 use Rattle.core_world.specs.declared.answer.Turn.TheVariants.{Done}
+use Rattle.mark_word.specs.Mark.{read_mark}
 use Rattle.mark_word.specs.Wait.{wait_of, read_wait}
 use Rattle.mark_word.specs.declared.wait.WaitForm.{WaitForm}
 use Rattle.mark_word.specs.declared.wait.WaitForm.TheVariants.{Notified}
@@ -38,14 +39,17 @@ use Rattle.core_law.specs.Logic.{Heap}
 use Rattle.core_law.proofs.Lawful.{sound_rests}
 use Rattle.core_steps.proofs.ReachedWorlds.{reached_worlds_valid, reached_worlds_sound}
 use Rattle.solo_progress.specs.Alone.{AnswersAlone, Quiet, word_of_one}
-use Rattle.solo_progress.specs.Answers.{is_other, is_anothers, is_told, is_told_form, is_pending, PendsForOwner, WaitsWhere, LetsGo, RefusedWhere, IsDone, guarded, created, IsOut}
+use Rattle.solo_progress.specs.Answers.{is_other, is_anothers, is_told, is_told_form, is_pending, PendsForOwner, WaitsWhere, LetsGo, RefusedWhere, IsDone, guarded, created, hash_due, out_due, path_by}
 use Rattle.solo_progress.specs.LeftAlone.{IsReady, MayCall, start_in}
 use Rattle.solo_progress.specs.Moves.{GetsThrough}
 use Rattle.solo_progress.proofs.Enters.{enters_through}
 use Rattle.solo_progress.proofs.Exits.{stack_exit_alone, exits_through, gets_through as gets_alone}
+use Rattle.solo_progress.proofs.HashAnswers.{hash_answered}
+use Rattle.solo_progress.specs.StandsStill.{stands_still}
+use Rattle.solo_progress.proofs.Checked.{checks_so}
 use Rattle.solo_progress.proofs.Monitors.{stack_enter_alone}
 use Rattle.solo_progress.proofs.Safe.{requests_done, reaches_done}
-use Rattle.solo_progress.proofs.Operations.{hashes_through, notifies_through, notify_alls_through, waits_go, waits_end, waits_done, polls_through, resumes_through, dumps_through, checks_through, puts_through, creates_through}
+use Rattle.solo_progress.proofs.Operations.{hashes_through, notifies_through, notify_alls_through, waits_go, waits_end, waits_done, polls_through, resumes_through, dumps_through, puts_through, creates_through}
 use Rattle.solo_progress.proofs.Runs.{gets_through}
 use Rattle.solo_progress.proofs.OneRun.{quiet_at, answers_alone, alone_all}
 use Rattle.plain_monitor.specs.declared.entry.Ending.{Ending}
@@ -121,12 +125,14 @@ module _ (heap : Heap) (w : World) (objects : List PlainObject) (t : ℕ) where
 
   -- A HASH
   pub hashes : (o now : ℕ) → IsReady heap w objects t (task.Hash o now)
-      → GetsThrough heap w t (task.Hash o now) (hash_steps w.shape k o now) IsDone
+      → GetsThrough heap w t (task.Hash o now) (hash_steps w.shape k o now)
+      (λ turn. turn ≡ Done (hash_due objects o k))
   unfolding steps_of
   hashes o now ready =
       let job = task.Hash o now in
-      through job ready (hash_steps w.shape k o now) IsDone refl
-      (hashes_through w.shape k o now w.words (low_own job ready) (some_prototype job ready (class_by w.shape w.words o)) (quiet_words job ready))
+      hash_answered heap ready.call.limits w objects t o now (fits job ready) ready.call.within job
+      (through job ready (hash_steps w.shape k o now) IsDone refl
+      (hashes_through w.shape k o now w.words (low_own job ready) (some_prototype job ready (class_by w.shape w.words o)) (quiet_words job ready)))
 
   -- AN ENTER
   pub enters_any : (o now : ℕ) → IsReady heap w objects t (task.Enter o now)
@@ -241,31 +247,34 @@ module _ (heap : Heap) (w : World) (objects : List PlainObject) (t : ℕ) where
       through task.Dump ready (dump_steps w.shape k) (RefusedWhere (k.shots == 4) (λ turn. turn ≡ Done (k.shots + 1))) refl
       (dumps_through w.shape k w.words (low_own task.Dump ready) (quiet_words task.Dump ready))
 
-  pub checks : IsReady heap w objects t task.Check → GetsThrough heap w t task.Check (check_steps w.shape k) IsDone
+  pub checks : IsReady heap w objects t task.Check
+      → GetsThrough heap w t task.Check (check_steps w.shape k) (λ turn. turn ≡ Done (stands_still w.shape w.words))
   unfolding steps_of
   checks ready =
-      through task.Check ready (check_steps w.shape k) IsDone refl
-      (checks_through w.shape k w.words (low_own task.Check ready) (quiet_words task.Check ready))
+      through task.Check ready (check_steps w.shape k) (λ turn. turn ≡ Done (stands_still w.shape w.words)) refl
+      (checks_so w.shape k w.words (low_own task.Check ready) (quiet_words task.Check ready))
 
   -- THE PARTS that are calls by themselves
   pub stack_enters : (o mark : ℕ) → IsReady heap w objects t (task.StackEnter o mark) → w.words (Mark o) ≡ mark
       → GetsThrough heap w t (task.StackEnter o mark)
-      (stack_enter_steps (lone_purpose (task.StackEnter o mark)) (local_of (w.known t)) o mark) IsDone
+      (stack_enter_steps (lone_purpose (task.StackEnter o mark)) (local_of (w.known t)) o mark) (λ turn. turn ≡ Done (path_by (read_mark mark)))
   unfolding steps_of
   stack_enters o mark ready is =
       let job = task.StackEnter o mark in
       let d = stack_enter_steps (lone_purpose job) k.local o mark in
-      through job ready d IsDone refl (answers_alone IsDone w.words d (stack_enter_alone (lone_purpose job) k.local o mark w.words is))
+      through job ready d (λ turn. turn ≡ Done (path_by (read_mark mark))) refl
+      (answers_alone (λ turn. turn ≡ Done (path_by (read_mark mark))) w.words d (stack_enter_alone (lone_purpose job) k.local o mark w.words is))
 
   pub stack_exits : (o : ℕ) → IsReady heap w objects t (task.StackExit o)
-      → GetsThrough heap w t (task.StackExit o) (stack_exit_steps (purpose (task.StackExit o) op.Exit o) (local_of (w.known t)) o) IsOut
+      → GetsThrough heap w t (task.StackExit o) (stack_exit_steps (purpose (task.StackExit o) op.Exit o) (local_of (w.known t)) o)
+      (λ out. out ≡ out_due (local_of (w.known t)) o w.words)
   unfolding steps_of
   stack_exits o ready =
       let job = task.StackExit o in
       let e = purpose job op.Exit o in
       let d = stack_exit_steps e k.local o in
-      through job ready d IsOut refl
-      (answers_alone IsOut w.words d (stack_exit_alone e k.local o (w.words (Mark o)) w.words refl (some_mark job ready o)))
+      through job ready d (λ out. out ≡ out_due k.local o w.words) refl
+      (answers_alone (λ out. out ≡ out_due k.local o w.words) w.words d (stack_exit_alone e k.local o (w.words (Mark o)) w.words refl (some_mark job ready o)))
 
   pub requests : IsReady heap w objects t task.Request
       → GetsThrough heap w t task.Request (request_steps (lone_purpose task.Request) (w.known t).thread) IsDone

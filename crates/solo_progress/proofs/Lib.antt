@@ -7,10 +7,15 @@ pub mod Enters
 pub mod Operations
 pub mod Worlds
 pub mod Runs
+pub mod Checked
 pub mod Laws
 pub mod SmallReady
 pub mod RoomyReady
 pub mod Mids
+pub mod HashAnswers
 pub mod Exact
 pub mod Missing
 pub mod PairReached
+pub mod LoneWorlds
+pub mod LoneReady
+pub mod LoneWaits

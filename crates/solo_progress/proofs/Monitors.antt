@@ -15,17 +15,20 @@ use Rattle.core_world.specs.declared.name.Name.TheVariants.{Mark, Owner}
 use Rattle.core_world.specs.declared.stage.Stage.{Stage}
 use Rattle.core_world.specs.declared.stage.Stage.TheVariants.{Grabs, Ahead}
 use Rattle.core_world.specs.declared.answer.Turn.{Turn}
+use Rattle.core_world.specs.declared.answer.Turn.TheVariants.{Done}
 use Rattle.core_world.specs.Words.Names.{same_name}
 use Rattle.core_world.specs.Words.Shape.{Shape}
 use Rattle.core_world.specs.Threads.Known.{Local, Start}
 use Rattle.core_world.specs.Trees.LockSteps.{hold_steps, stack_enter_at, stack_enter_steps}
 use Rattle.core_world.specs.Trees.MonitorSteps.{inflate_steps, inflate_at, inflate_by, inflate_with, monitor_enter_steps, monitor_enter_at, record_steps}
 use Rattle.core_world.specs.Trees.Operations.{enter_monitor_steps, enter_at}
-use Rattle.core_world.specs.Trees.Plans.{Purpose}
+use Rattle.core_world.specs.Trees.Plans.{Purpose, done_with}
+use Rattle.core_world.specs.Trees.Todo.{◌>>=◌}
+use Rattle.core_world.specs.Words.Forms.{is_entering}
 use Rattle.core_world.proofs.OwnersShown.{with_word_there}
 use Rattle.core_calls.specs.Causes.{is_other_form, names_other}
-use Rattle.solo_progress.specs.Answers.{IsDone, PendsWhere}
-use Rattle.solo_progress.proofs.OneRun.{Alone, QuietAt, alone_either, load_leaves, not_inflating, DoneWith, alone_past}
+use Rattle.solo_progress.specs.Answers.{PendsWhere, path_by}
+use Rattle.solo_progress.proofs.OneRun.{Alone, QuietAt, alone_then, alone_either, load_leaves, not_inflating, DoneWith, alone_past}
 use Rattle.solo_progress.proofs.Safe.{alone_turn}
 
 -- who owns the monitor that an inflation of a mark of this form finds or makes, by the words f before and g after
@@ -104,16 +107,22 @@ module _ (safe : ℕ) (e : Purpose) (o : ℕ) where
       (record { mark = subst (λ n. n ≢ 0) (sym (load_leaves (Mark o) (Mark o) f)) q.mark; safepoint = q.safepoint })
 
 module _ (e : Purpose) (k : Local) (o : ℕ) where
+  -- a hold is stored by the path that it is given
+  hold_alone : (path : Path) (f : Name → ℕ) → Alone (λ g turn. turn ≡ Done path) f (hold_steps e k o path >>= λ path. done_with path)
+  hold_alone path f =
+      alone_then (λ g by. by ≡ path) (λ g turn. turn ≡ Done path) (hold_steps e k o path) (λ path. done_with path) f
+      (alone_either (λ g by. by ≡ path) _ (is_entering k.wait) _ _ (λ _. refl) (λ _. refl)) (λ g by is. ap Done is)
+
   -- an enter by a lock record that is given the object's mark
-  pub stack_enter_alone : (mark : ℕ) (f : Name → ℕ) → f (Mark o) ≡ mark → Alone (λ g turn. IsDone turn) f (stack_enter_steps e k o mark)
+  pub stack_enter_alone : (mark : ℕ) (f : Name → ℕ) → f (Mark o) ≡ mark
+      → Alone (λ g turn. turn ≡ Done (path_by (read_mark mark))) f (stack_enter_steps e k o mark)
   stack_enter_alone mark f is = by_form (read_mark mark)
     where
-      by_form : (form : Option MarkForm) → Alone (λ g turn. IsDone turn) f (stack_enter_at form e k o mark)
+      by_form : (form : Option MarkForm) → Alone (λ g turn. turn ≡ Done (path_by form)) f (stack_enter_at form e k o mark)
       by_form (Some (Neutral hash age)) =
-          alone_either (λ g turn. IsDone turn) _ (f (Mark o) == mark) _ _
-          (λ _. alone_past (λ g turn. IsDone turn) (hold_steps e k o StackFirst) _ _ (λ g path. tt))
+          alone_either (λ g turn. turn ≡ Done StackFirst) _ (f (Mark o) == mark) _ _ (λ _. hold_alone StackFirst _)
           (λ miss. let same = eq-eqb (f (Mark o)) mark is in absurd (cc (miss, same)))
-      by_form (Some (Locked thread place)) = alone_past (λ g turn. IsDone turn) (hold_steps e k o StackAgain) _ _ (λ g path. tt)
+      by_form (Some (Locked thread place)) = hold_alone StackAgain _
       by_form _ = tt
 
   record_alone : (stage : Stage) (by : Path) (f : Name → ℕ) (b : Bool) → b ≡ false

@@ -34,12 +34,12 @@ use Rattle.core_world.specs.Threads.Known.{Local, Start}
 use Rattle.core_world.specs.Trees.BiasSteps.{unbias_swap_steps, bias_drop_steps, bias_drop_by, bias_drop_at}
 use Rattle.core_world.specs.Trees.DeflateSteps.{deflate_steps}
 use Rattle.core_world.specs.Trees.HashSteps.{NextDraw, draw_steps, hash_monitor_steps, hash_inflated, hash_inflate_steps, hash_unless, hash_mark_steps, hash_header_steps}
-use Rattle.core_world.specs.Trees.LookSteps.{take_shot_steps, stands_still_steps}
+use Rattle.core_world.specs.Trees.LookSteps.{take_shot_steps}
 use Rattle.core_world.specs.Trees.MonitorSteps.{inflate_steps, own_steps}
-use Rattle.core_world.specs.Trees.Operations.{and_then, answer, revocation_steps, revoked_steps, unbias_tried, unbias_steps, no_bias, hash_steps, notify_at, notify_going, notify_steps, notify_all_at, notify_all_going, notify_all_steps, wait_beginning, wait_going, wait_steps, put_steps, put_plan, lone_purpose, dump_going, dump_steps, create_steps, check_ending, check_steps}
+use Rattle.core_world.specs.Trees.Operations.{and_then, answer, revocation_steps, revoked_steps, unbias_tried, unbias_steps, no_bias, hash_steps, notify_at, notify_going, notify_steps, notify_all_at, notify_all_going, notify_all_steps, wait_beginning, wait_going, wait_steps, put_steps, put_plan, lone_purpose, dump_going, dump_steps, create_steps}
 use Rattle.core_world.specs.Trees.CreateSteps.{count_made, next_made, make_steps}
 use Rattle.core_world.specs.Trees.Plans.{Purpose, purpose, done_with, next_stamp}
-use Rattle.core_world.specs.Trees.SafepointSteps.{has_requester, released_word, reached_word, safepoint_steps, release_safepoint, halt_steps, poll_steps, resume_steps, resume_swap_steps, unless}
+use Rattle.core_world.specs.Trees.SafepointSteps.{has_requester, released_word, reached_word, safepoint_steps, release_safepoint, poll_steps, resume_steps, resume_swap_steps, unless}
 use Rattle.core_world.specs.Trees.Todo.{Todo, done, ◌>>=◌, ask}
 use Rattle.core_world.specs.Trees.WaitSteps.{monitor_notify_steps, monitor_notify_all_steps, monitor_wait_steps, monitor_resume_steps, resume_at, resume_mark_at, resume_owner_at}
 use Rattle.core_calls.specs.CallsSay.{has_none}
@@ -385,19 +385,6 @@ module _ (s : Shape) (k : Start) (f : Name → ℕ) (low : k.local.thread < 32) 
   dumps_through =
       let e = purpose task.Dump op.Dump 0 in
       refused_or (k.shots == 4) _ (λ turn. turn ≡ Done (k.shots + 1)) (dump_going s e k) f (dump_alone e)
-
-  ending_alone : (still : Bool) (e : Purpose) (g : Name → ℕ) → Alone (λ h turn. IsDone turn) g (check_ending still e u)
-  ending_alone true e g =
-      alone_past (λ h turn. IsDone turn) (halt_steps e u) _ g (λ h x. tt)
-  ending_alone false e g =
-      alone_past (λ h turn. IsDone turn) (release_safepoint e u) _ g (λ h x. tt)
-
-  pub checks_through : AnswersAlone f (check_steps s k) IsDone
-  checks_through =
-      let e : Purpose = record { task = task.Check; unfinished = k.unfinished; check = true } in
-      answers_alone IsDone f (check_steps s k)
-      (safely IsDone e _ (λ g. alone_past (λ g turn. IsDone turn) (stands_still_steps e s) _ g (λ h still.
-      alone_past (λ g turn. IsDone turn) (deflate_steps s e Calm) _ h (λ i x. ending_alone still e i))))
 
 pub puts_through : (k : Start) (o slot : ℕ) (value : Value) (f : Name → ℕ)
     → AnswersAlone f (put_steps k o slot value) (λ a. a ≡ guarded k o tt)

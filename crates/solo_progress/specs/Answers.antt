@@ -1,27 +1,31 @@
 -- What calls that are left alone answer, by the words that they begin with.
-use Rattle.std.specs.Prelude.{◌≡◌, ℕ, ◌==◌, ◌&&◌, not, cond, Bool, true, false, Option, Some, None, Result, Ok, Err}
+use Rattle.std.specs.Prelude.{◌≡◌, ℕ, ◌==◌, ◌&&◌, not, cond, if◌then◌else◌, Bool, true, false, List, Option, Some, None, Result, Ok, Err}
 use Rattle.mark_word.specs.declared.mark.MarkForm.{MarkForm}
-use Rattle.mark_word.specs.declared.mark.MarkForm.TheVariants.{Biased}
+use Rattle.mark_word.specs.declared.mark.MarkForm.TheVariants.{Biased, Neutral, Inflated}
 use Rattle.mark_word.specs.declared.wait.WaitForm.{WaitForm}
 use Rattle.mark_word.specs.declared.wait.WaitForm.TheVariants as wait
 use Rattle.mark_word.specs.Mark.{read_mark}
 use Rattle.mark_word.specs.Wait.{read_wait}
+use Rattle.plain_monitor.specs.Objects.{PlainObject}
+use Rattle.plain_monitor.specs.declared.entry.Path.{Path}
+use Rattle.plain_monitor.specs.declared.entry.Path.TheVariants.{StackFirst, StackAgain}
 use Rattle.core_world.specs.declared.answer.StackOut.{StackOut}
-use Rattle.core_world.specs.declared.answer.StackOut.TheVariants.{Left, Monitor, Not}
+use Rattle.core_world.specs.declared.answer.StackOut.TheVariants.{Left, Monitor}
 use Rattle.core_world.specs.declared.answer.TooMany.{TooMany}
 use Rattle.core_world.specs.declared.answer.Turn.{Turn}
 use Rattle.core_world.specs.declared.answer.Turn.TheVariants.{Done, Pending}
 use Rattle.core_world.specs.declared.answer.Unguarded.{Unguarded}
 use Rattle.core_world.specs.declared.answer.Why.TheVariants.{Owned, NotNotified}
 use Rattle.core_world.specs.declared.name.Name.{Name}
-use Rattle.core_world.specs.declared.name.Name.TheVariants.{Mark, Prototype, Owner}
+use Rattle.core_world.specs.declared.name.Name.TheVariants.{Mark, Prototype, Owner, Displaced}
 use Rattle.core_world.specs.Words.Forms.{epoch_in}
 use Rattle.core_world.specs.Words.Shape.{Shape}
 use Rattle.core_world.specs.Words.Names.{class_by}
-use Rattle.core_world.specs.Locks.{has_epoch, lock_form, holder, hold_count}
+use Rattle.core_world.specs.Locks.{has_epoch, lock_form, holder, hold_count, hash_at}
 use Rattle.core_world.specs.RevocationRules.{holds_in}
-use Rattle.core_world.specs.Threads.Known.{Start}
+use Rattle.core_world.specs.Threads.Known.{Local, Start}
 use Rattle.core_world.specs.Trees.CreateSteps.{next_made}
+use Rattle.core_world.specs.Trees.Plans.{top_place}
 use Rattle.core_calls.specs.CallsSay.{has_none, has_made_all}
 
 -- WHO HAS A LOCK. A thread other than t.
@@ -89,11 +93,19 @@ abbrev pub LetsGo : {A : Type 0} → Turn A → Type 0
 LetsGo (Pending (NotNotified word)) = Unit {0}
 LetsGo _ = ⊥
 
--- an exit from a lock record has left it, or the lock is to be left by this monitor
-abbrev pub IsOut : StackOut → Type 0
-IsOut Left = Unit {0}
-IsOut (Monitor number) = Unit {0}
-IsOut (Not why) = ⊥
+-- What an exit from a lock record by a thread that knows k answers, by these words: a recursive record is left, as is one that the mark names; and
+-- where the mark names a monitor, the lock is to be left by that.
+abbrev pub out_by : Option MarkForm → StackOut
+out_by (Some (Inflated monitor)) = Monitor monitor
+out_by _ = Left
+
+abbrev pub out_due : Local → ℕ → (Name → ℕ) → StackOut
+out_due k o f = if f (Displaced k.thread (top_place o k.holds)) == 0 then Left else out_by (read_mark (f (Mark o)))
+
+-- the path of an enter by a lock record that is given a mark of this form: neutral, or else one that names the thread's own record
+abbrev pub path_by : Option MarkForm → Path
+path_by (Some (Neutral hash age)) = StackFirst
+path_by _ = StackAgain
 
 -- RESULTS. A refusal exactly where it is to be refused, and else a turn of which P holds.
 abbrev pub RefusedWhere : {A E : Type 0} → Bool → (Turn A → Type 0) → Result (Turn A) E → Type 0
@@ -107,3 +119,7 @@ guarded {A} k o answer = cond {A = Result A Unguarded} (has_none k o) (Err recor
 -- of a create by a thread that knows k: refused where it has made as many objects as a thread may, and else its next object
 abbrev pub created : Shape → Start → Result ℕ TooMany
 created s k = cond {A = Result ℕ TooMany} (has_made_all k) (Err record {}) (Ok (next_made s k.local))
+
+-- what a hash of o is to answer a thread that knows k: the hash of the plain object, where it has one, and else the thread's next draw
+abbrev pub hash_due : List PlainObject → ℕ → Start → ℕ
+hash_due objects o k = if hash_at objects o == 0 then k.draw else hash_at objects o

@@ -1,5 +1,6 @@
 pub mod Alone
 pub mod Answers
+pub mod StandsStill
 pub mod LeftAlone
 pub mod Moves
 pub mod Witnesses

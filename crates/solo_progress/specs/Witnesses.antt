@@ -1,7 +1,9 @@
--- The plain objects of small heaps.
-use Rattle.std.specs.Prelude.{Some}
+-- The plain objects of small heaps, and turns.
+use Rattle.std.specs.Prelude.{ℕ, List, [], ◌∷◌, ◌++◌, replicate, Some}
 use Rattle.plain_monitor.specs.Monitor.{free_monitor}
 use Rattle.plain_monitor.specs.Objects.{PlainObject, new_object}
+use Rattle.core_world.specs.declared.task.Task.{Task}
+use Rattle.core_world.specs.declared.task.Task.TheVariants.{Resume, Request, Reached}
 
 abbrev pub unowned : PlainObject
 unowned = new_object 0
@@ -9,3 +11,17 @@ unowned = new_object 0
 -- entered once by thread 0
 abbrev pub owned : PlainObject
 owned = record (new_object 0) { monitor = record free_monitor { owner = Some 0; count = 1 } }
+
+-- an object with a slot: as it is at first, entered once by thread 0, and let go by it to wait
+abbrev pub slotted : PlainObject
+slotted = new_object 1
+
+abbrev pub held : PlainObject
+held = record (new_object 1) { monitor = record free_monitor { owner = Some 0; count = 1 } }
+
+abbrev pub waiting : PlainObject
+waiting = record (new_object 1) { monitor = record free_monitor { waits = (0, 1) ∷ [] } }
+
+-- thread t resumes, asks for a safepoint, and sees that it is reached
+abbrev pub reaches : ℕ → List (ℕ × Task)
+reaches t = replicate 2 (t, Resume) ++ replicate 2 (t, Request) ++ (t, Reached) ∷ []

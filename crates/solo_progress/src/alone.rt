@@ -20,6 +20,7 @@ ghost use Rattle.core_calls.specs.CallsSay.{has_none, is_full};
 ghost use Rattle.solo_progress.specs.Alone.{AnswersAlone, Quiet, word_of_one};
 ghost use Rattle.solo_progress.specs.Answers.{is_anothers, is_others_bias, is_told, is_pending, guarded, created};
 ghost use Rattle.solo_progress.specs.Answers.{IsDone, PendsWhere, PendsForOwner, WaitsWhere, LetsGo, RefusedWhere};
+ghost use Rattle.solo_progress.specs.StandsStill.{stands_still};
 
 /// Without a hold on the object an exit, a get and a put are refused; with 64 holds an enter that doesn't go on is, and with 1,024
 /// objects made a create; these are all that is refused. Else an exit is done, where the mark isn't 0; a get answers what the slot has, a
@@ -75,14 +76,16 @@ pub fn waits_end_where_told()
         (WaitsWhere (is_told (f (Waiting k.local.thread))) (is_anothers s f o k.local.thread))) }
 {}
 
-/// Where the words are quiet, a dump is refused exactly with four shots, and else done with the number of the next; and a check is done.
+/// Where the words are quiet, a dump is refused exactly with four shots, and else done with the number of the next; and a check answers true
+/// exactly where the run stands still by the words: some thread is live, and none can go on.
 /// A poll is pending exactly where the safepoint word has a requester, and a resume where it has one or the halt.
 pub fn calls_at_the_safepoint_word_get_through()
     ensures dump { (s : Shape) (k : Start) (f : Name → ℕ) → k.local.thread < 32
         → Quiet (word_of_one k.requesting k.local.thread) f
         → AnswersAlone f (dump_steps s k) (RefusedWhere (k.shots == 4) (λ turn. turn ≡ Done (k.shots + 1))) }
     ensures check { (s : Shape) (k : Start) (f : Name → ℕ) → k.local.thread < 32
-        → Quiet (word_of_one k.requesting k.local.thread) f → AnswersAlone f (check_steps s k) IsDone }
+        → Quiet (word_of_one k.requesting k.local.thread) f
+        → AnswersAlone f (check_steps s k) (λ turn. turn ≡ Done (stands_still s f)) }
     ensures poll { (e : Purpose) (f : Name → ℕ)
         → AnswersAlone f (poll_steps e) (λ turn. is_pending turn ≡ has_requester (f Safepoint)) }
     ensures resume { (e : Purpose) (k : Local) (f : Name → ℕ)

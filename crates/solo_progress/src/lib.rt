@@ -21,4 +21,7 @@ pub use through::{
     a_thread_left_alone_waits_until_it_is_told, calls_that_need_no_other_thread_get_through,
     worlds_with_one_thread_are_quiet,
 };
-pub use witnesses::{a_thread_can_be_left_alone_before_a_revocation, calls_can_begin};
+pub use witnesses::{
+    a_thread_can_be_left_alone_before_a_revocation, calls_can_begin,
+    owners_requesters_and_waiters_can_go_on,
+};

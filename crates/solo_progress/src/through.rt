@@ -1,6 +1,7 @@
 //! Laws of a thread that is left alone in a world to which a heap in the limits comes. The functions do nothing.
 
 ghost use Rattle.std.specs.Prelude.{◌≡◌, ◌≢◌, ℕ, ◌+◌, ◌==◌, ◌||◌, true, false, List, None, Ok};
+ghost use Rattle.mark_word.specs.Mark.{read_mark};
 ghost use Rattle.plain_monitor.specs.Objects.{PlainObject};
 ghost use Rattle.plain_monitor.specs.ValueWords.{read_value};
 ghost use Rattle.plain_monitor.specs.declared.entry.Value.{Value};
@@ -27,15 +28,17 @@ ghost use Rattle.core_world.specs.World.{World};
 ghost use Rattle.core_law.specs.Logic.{Heap};
 ghost use Rattle.core_calls.specs.CallsSay.{has_none, is_full};
 ghost use Rattle.solo_progress.specs.Alone.{FoundAlone, Quiet, word_of_one, words_left};
-ghost use Rattle.solo_progress.specs.Answers.{is_other, is_told, is_pending, who_in, guarded, created};
-ghost use Rattle.solo_progress.specs.Answers.{IsDone, IsOut, PendsWhere, WaitsWhere, LetsGo, RefusedWhere};
+ghost use Rattle.solo_progress.specs.Answers.{is_other, is_told, is_pending, who_in, guarded, created, hash_due, out_due, path_by};
+ghost use Rattle.solo_progress.specs.Answers.{IsDone, PendsWhere, WaitsWhere, LetsGo, RefusedWhere};
 ghost use Rattle.solo_progress.specs.LeftAlone.{IsLeftAlone, IsReady, MayCall, start_in};
 ghost use Rattle.solo_progress.specs.Moves.{Moves, GetsThrough};
+ghost use Rattle.solo_progress.specs.StandsStill.{stands_still};
 
 /// In each world to which a heap in the limits comes, a thread that is left alone gets through each of these calls that it may begin:
 /// there is a run in which it alone makes the call's steps up to their end, and no more than such a call has. Without a hold on the object
 /// an exit, a get, a put, a notify and a notifyall are refused, and with four shots a dump is; these are all that is refused. Nothing is
-/// pending: a get answers what the slot has, a dump the number of the next shot, and the others are done.
+/// pending: a get answers what the slot has, a dump the number of the next shot, a hash the hash that the object has by the logs, or where
+/// it has none the thread's next draw; a check answers true exactly where the run stands still by the words; and the others are done.
 pub fn a_thread_left_alone_gets_through()
     ensures exit { (heap : Heap) (w : World) (objects : List PlainObject) (t o : ℕ)
         → IsReady heap w objects t (task.Exit o)
@@ -51,7 +54,8 @@ pub fn a_thread_left_alone_gets_through()
         (λ a. a ≡ guarded (start_in w t) o tt) }
     ensures hash { (heap : Heap) (w : World) (objects : List PlainObject) (t o now : ℕ)
         → IsReady heap w objects t (task.Hash o now)
-        → GetsThrough heap w t (task.Hash o now) (hash_steps w.shape (start_in w t) o now) IsDone }
+        → GetsThrough heap w t (task.Hash o now) (hash_steps w.shape (start_in w t) o now)
+        (λ turn. turn ≡ Done (hash_due objects o (start_in w t))) }
     ensures notify { (heap : Heap) (w : World) (objects : List PlainObject) (t o now : ℕ)
         → IsReady heap w objects t (task.Notify o now)
         → GetsThrough heap w t (task.Notify o now) (notify_steps w.shape (start_in w t) o now)
@@ -66,7 +70,8 @@ pub fn a_thread_left_alone_gets_through()
         (RefusedWhere ((start_in w t).shots == 4) (λ turn. turn ≡ Done ((start_in w t).shots + 1))) }
     ensures check { (heap : Heap) (w : World) (objects : List PlainObject) (t : ℕ)
         → IsReady heap w objects t task.Check
-        → GetsThrough heap w t task.Check (check_steps w.shape (start_in w t)) IsDone }
+        → GetsThrough heap w t task.Check (check_steps w.shape (start_in w t))
+        (λ turn. turn ≡ Done (stands_still w.shape w.words)) }
 {}
 
 /// So it is with an enter. It is refused exactly with 64 holds, where it doesn't go on with an enter; else it is pending exactly where by
@@ -126,17 +131,20 @@ pub fn calls_that_need_no_other_thread_get_through()
 {}
 
 /// And so it is with the parts of operations that may be called by themselves: an enter by a lock record that is given the object's mark
-/// is done; an exit from a lock record leaves it, or answers the monitor by which the lock is to be left; a request is done, and so is
-/// the look whether its safepoint is reached. A release needs no other thread (`calls_that_need_no_other_thread_get_through`).
+/// is done, by its first path where the mark is neutral and else by the recursive one; an exit from a lock record leaves it, where it is
+/// recursive or the mark names no monitor, and else answers the monitor by which the lock is to be left; a request is done, and so is the
+/// look whether its safepoint is reached. A release needs no other thread (`calls_that_need_no_other_thread_get_through`).
 pub fn a_thread_left_alone_gets_through_parts()
     ensures stack_enter { (heap : Heap) (w : World) (objects : List PlainObject) (t o mark : ℕ)
         → IsReady heap w objects t (task.StackEnter o mark) → w.words (Mark o) ≡ mark
         → GetsThrough heap w t (task.StackEnter o mark)
-        (stack_enter_steps (lone_purpose (task.StackEnter o mark)) (local_of (w.known t)) o mark) IsDone }
+        (stack_enter_steps (lone_purpose (task.StackEnter o mark)) (local_of (w.known t)) o mark)
+        (λ turn. turn ≡ Done (path_by (read_mark mark))) }
     ensures stack_exit { (heap : Heap) (w : World) (objects : List PlainObject) (t o : ℕ)
         → IsReady heap w objects t (task.StackExit o)
         → GetsThrough heap w t (task.StackExit o)
-        (stack_exit_steps (purpose (task.StackExit o) op.Exit o) (local_of (w.known t)) o) IsOut }
+        (stack_exit_steps (purpose (task.StackExit o) op.Exit o) (local_of (w.known t)) o)
+        (λ out. out ≡ out_due (local_of (w.known t)) o w.words) }
     ensures request { (heap : Heap) (w : World) (objects : List PlainObject) (t : ℕ)
         → IsReady heap w objects t task.Request
         → GetsThrough heap w t task.Request (request_steps (lone_purpose task.Request) (w.known t).thread) IsDone }

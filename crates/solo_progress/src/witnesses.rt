@@ -1,18 +1,20 @@
 //! Worlds to which small heaps come, in which a thread is left alone and may begin calls: so what these laws of `through` ask for comes
-//! about. Of a get, a put, a wait that goes on, and the two parts after a request it isn't shown. The functions do nothing.
+//! about, for each call. The functions do nothing.
 
 ghost use Rattle.std.specs.Prelude.{◌≡◌, ℕ, true, [], ◌∷◌};
 ghost use Rattle.plain_monitor.specs.declared.entry.Ending.{Ending};
 ghost use Rattle.plain_monitor.specs.declared.entry.Value.TheVariants.{Nil};
 ghost use Rattle.core_world.specs.declared.task.Task.TheVariants as task;
 ghost use Rattle.core_world.specs.Opening.{opening};
+ghost use Rattle.core_world.specs.Words.Forms.{waits_on};
 ghost use Rattle.core_law.specs.Reached.{Comes};
 ghost use Rattle.core_steps.specs.SmallWorlds.{small, running, neutral, entered};
+ghost use Rattle.step_history.specs.Examples.{lone, world_of, enters, waits};
 ghost use Rattle.solo_progress.specs.Answers.{is_others_bias};
 ghost use Rattle.solo_progress.specs.LeftAlone.{IsReady, MayCall};
 ghost use Rattle.solo_progress.specs.PairWorlds.{pair, alone};
 ghost use Rattle.solo_progress.specs.RoomyWorlds.{roomy, roomy_running};
-ghost use Rattle.solo_progress.specs.Witnesses.{unowned, owned};
+ghost use Rattle.solo_progress.specs.Witnesses.{unowned, owned, slotted, held, waiting, reaches};
 
 /// In a heap without biases, of one thread and one object: where the thread runs, it may enter the object, by the whole call or by a lock
 /// record alone, ask for its hash, dump, print, finish, poll, stop, and ask for a safepoint. Where it has entered, it may leave, by the
@@ -36,6 +38,18 @@ pub fn calls_can_begin()
     ensures check { IsReady small entered (owned ∷ []) 0 task.Check }
     ensures create { MayCall roomy roomy_running 0 (task.Create 0) }
     ensures resume { MayCall small (opening small.shape small.start small.biasing) 0 task.Resume }
+{}
+
+/// In a heap without biases, of one thread and one object with a slot: where the thread has entered the object, it may read and write the
+/// slot; where it has seen that its safepoint is reached, it may look again, and release it; and where it has let go to wait, it may go on
+/// with its wait.
+pub fn owners_requesters_and_waiters_can_go_on()
+    ensures get { IsReady lone (world_of lone (enters 0)) (held ∷ []) 0 (task.Get 0 0) }
+    ensures put { IsReady lone (world_of lone (enters 0)) (held ∷ []) 0 (task.Put 0 0 Nil) }
+    ensures reached { IsReady lone (world_of lone (reaches 0)) (slotted ∷ []) 0 task.Reached }
+    ensures release { MayCall lone (world_of lone (reaches 0)) 0 task.Release }
+    ensures wait { (now : ℕ) → IsReady lone (world_of lone (waits 0)) (waiting ∷ []) 0 (task.Wait 0 now)
+        × (waits_on ((world_of lone (waits 0)).known 0).wait 0 ≡ true) }
 {}
 
 /// In a heap with biases, of two threads and one object: thread 1 is left alone, and may enter the object, which is validly biased to

@@ -9,21 +9,22 @@ ghost use Rattle.heap_table.specs.Seen.{IsOf};
 ghost use Rattle.stack_lock.specs.Parts.{leave_at, clear_at};
 ghost use Rattle.stack_lock.specs.inner.Parts.{marked_exit};
 
-use crate::places::top_place;
+use crate::places::place_at_depth;
 use core_world::{Name, StackOut, Stage, Why};
 use heap_table::{Heap, Pass, Purpose, mark_of_word};
 use mark_word::MarkForm;
 use plain_monitor::Entry;
 
-/// Raises the object's stamp to that of the thread's next entry, where the thread has one hold on the object. So the
-/// next owner's Enter is stamped above it.
-pub fn raise(heap: &Heap, pass: &mut Pass, why: &Purpose, object: u32)
+/// Raises the object's stamp to that of the thread's next entry, where the thread has one hold on the object, of which
+/// it has `depth`. So the next owner's Enter is stamped above it.
+pub fn raise(heap: &Heap, pass: &mut Pass, why: &Purpose, object: u32, depth: u32)
     requires heap { IsOf heap.now pass.old }
+    requires depth { depth ≡ hold_count object pass.old.known.holds }
     requires due { IsDueOn heap.now pass.old why.now.task (raise_steps why.now (local_of pass.old.known) object) }
     ensures run { HasRun heap.now (raise_steps why.now (local_of pass.old.known) object) pass.old pass.new result }
     ensures kept { local_of pass.new.known ≡ local_of pass.old.known }
 {
-    if pass.held(object) == 1 {
+    if depth == 1 {
         let stamp = pass.last_stamp() + 1;
         heap.raise(pass, why, Name::Stamp { object }, stamp);
         return;
@@ -155,7 +156,8 @@ pub fn stack_exit(heap: &Heap, pass: &mut Pass, why: &Purpose, object: u32) -> S
     requires room { length pass.old.known.log < pass.old.limit }
     ensures { HasRun heap.now (stack_exit_steps why.now (local_of pass.old.known) object) pass.old pass.new result }
 {
-    let place = top_place(pass, object);
-    raise(heap, pass, why, object);
+    let depth = pass.held(object);
+    let place = place_at_depth(pass, object, depth);
+    raise(heap, pass, why, object, depth);
     leave_record(heap, pass, why, object, place)
 }

@@ -23,7 +23,19 @@ pub fn top_place(pass: &Pass, object: u32) -> u32
     ensures place { result ≡ top_place object pass.now.known.holds }
     ensures few { result ≤ most_holds }
 {
-    let depth = pass.held(object);
+    place_at_depth(pass, object, pass.held(object))
+}
+
+/// The place of the thread's newest record of an object, for a caller who has counted: the thread has `depth` holds on it,
+/// at least one, so that the newest has this depth.
+pub fn place_at_depth(pass: &Pass, object: u32, depth: u32) -> u32
+    requires object { object < 2 ^ 15 }
+    requires depth { depth ≡ hold_count object pass.now.known.holds }
+    requires some { 0 < depth }
+    requires few { depth ≤ most_holds }
+    ensures place { result ≡ top_place object pass.now.known.holds }
+    ensures few { result ≤ most_holds }
+{
     let word = encode_hold(&HoldForm::Holds { object, depth });
     pass.place_of(word)
 }

@@ -26,7 +26,7 @@ use Rattle.plain_machine.specs.Machine.{code_of}
 use Rattle.plain_machine.specs.Ready.{waits_on}
 use Rattle.plain_machine.specs.Thread.{ThreadState}
 use Rattle.machine_laws.proofs.ReachedAsked.{asked_of}
-use Rattle.thread_frame.specs.Frames.{FrameSeen, frame_behind, frame_behind_call, next_state, state_in, led_on, locals_of, shown_mode, has_ended, is_in_wait, unspent, rank_of, mode_rank}
+use Rattle.thread_frame.specs.Frames.{FrameSeen, before_call, frame_behind, frame_behind_call, next_state, state_in, led_on, locals_of, shown_mode, has_ended, is_in_wait, unspent, rank_of, mode_rank}
 use Rattle.thread_frame.specs.Sights.{counts_from}
 use Rattle.thread_logs.specs.Followed.{HasValue}
 use Rattle.thread_logs.proofs.Standing.{waits_told}
@@ -39,7 +39,10 @@ use Rattle.thread_calls.proofs.Framed.{IsFramed, holds_with, framed_next, framed
 use Rattle.thread_calls.proofs.May.{thread_is}
 use Rattle.thread_calls.proofs.Shapes.{as_many}
 
--- FRAMES behind a call
+-- FRAMES before and behind a call
+pub stands_before : (f : FrameSeen) (c : Call) → f.mode ≡ Some (Calling c) → f ≡ before_call f c
+stands_before f c at = ap (λ m. record f { mode = m }) at
+
 call_fuel : (f : FrameSeen) (c : Call) (e : Entry) → (frame_behind_call f c e).fuel ≡ f.fuel - 1
 call_fuel f (call.Wait o) e = refl
 call_fuel f c e = refl

@@ -1,6 +1,5 @@
 -- Calls that are given a moment by ticks, or none, leave their pass timed.
-use Rattle.std.proofs.Common.{◌≡◌, ℕ, ◌+◌, ◌-◌, ◌*◌, min, List, [], ◌∷◌, ◌++◌, Some, None, sym, ◌∙◌, subst}
-use Rattle.std.specs.Prelude.{◌^◌}
+use Rattle.std.proofs.Common.{◌≡◌, ℕ, List, [], ◌∷◌, ◌++◌, Some, None, sym, ◌∙◌, subst}
 use Rattle.std.specs.List.{AllByRecursion}
 use Rattle.std.proofs.lemmas.Option.{same_Some}
 use Rattle.core_calls.specs.Moments.{moment_of, IsDecidedBy, IsStepOf, HasCalled}
@@ -33,11 +32,9 @@ module _ (tick : ℕ) (t : Task) (k l : Known) where
             timed.counts);
       }
 
-  -- one that is given the time after so many ticks
-  pub timed_at : (now count : ℕ) → moment_of t ≡ Some now → now ≡ min (1 + tick * count) (2 ^ 64 - 1) → HasCalled t k l → IsTimed tick k
-      → IsTimed tick l
-  timed_at now count given is =
-      timed_on (λ other e. subst (IsMoment tick) (same_Some now other (sym given ∙ e)) (record { count = count; is = is }))
+  -- one that is given such a moment
+  pub timed_at : (now : ℕ) → moment_of t ≡ Some now → IsMoment tick now → HasCalled t k l → IsTimed tick k → IsTimed tick l
+  timed_at now given is = timed_on (λ other e. subst (IsMoment tick) (same_Some now other (sym given ∙ e)) is)
 
   -- one that takes no moment
   pub timed_still : moment_of t ≡ None → HasCalled t k l → IsTimed tick k → IsTimed tick l

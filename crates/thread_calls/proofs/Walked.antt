@@ -5,11 +5,12 @@ use Rattle.core_world.specs.declared.answer.Turn.TheVariants.{Done, Pending}
 use Rattle.heap_table.specs.Seen.{HeapSeen, PassSeen}
 use Rattle.lock_runtime.specs.Standing.{IsRunning}
 use Rattle.object_program.specs.Program.{ProgramText}
+use Rattle.plain_machine.specs.declared.call.Call.{Call}
 use Rattle.plain_machine.specs.declared.call.Mode.{Mode}
 use Rattle.plain_machine.specs.declared.call.Mode.TheVariants.{Calling, Waiting, Unwinding, Ended}
 use Rattle.plain_machine.specs.Asking.{ask}
 use Rattle.plain_machine.specs.Thread.{ThreadState}
-use Rattle.thread_frame.specs.declared.walk.Walked.TheVariants.{Ran, Arrived, Spent}
+use Rattle.thread_frame.specs.declared.walk.Walked.TheVariants.{Ran, Spent}
 use Rattle.thread_frame.specs.Frames.{FrameSeen, next_state, is_ended_mode, is_in_wait, unspent, rank_of, mode_rank}
 use Rattle.thread_frame.specs.Sights.{counts_from, AreOf}
 use Rattle.thread_frame.specs.Walking.{HasWalked, IsBehindLocal}
@@ -123,19 +124,17 @@ module _ (h : HeapSeen) (p : ProgramText) (fuel : ℕ) (k : PassSeen) (f : Frame
           fallen = omega (arith, same, r, y);
         }
 
-    pub arrived : HasWalked f g Arrived → MayAdvance h p fuel k g
-    arrived w =
-        let same = w.0 in
-        record { on = moved (omega (arith, same)); unchecked = may.unchecked; goes = inl runs; live = ap is_ended_mode w.1.1 }
+    -- at a call, by the frame that would stand before it
+    pub arrived : (c : Call) → g.mode ≡ Some (Calling c) → g.fuel ≡ f.fuel → MayAdvance h p fuel k g
+    arrived c at same = record { on = moved (omega (arith, same)); unchecked = may.unchecked; goes = inl runs; live = ap is_ended_mode at }
 
-    pub from_there : (q : PassSeen) (e : FrameSeen) (turn : Turn Bool) → HasWalked f g Arrived → HasAdvanced h p fuel k q g e turn
-        → HasAdvanced h p fuel k q f e turn
-    from_there q e turn w a =
-        let same = w.0 in
+    pub from_there : (q : PassSeen) (e : FrameSeen) (turn : Turn Bool) (c : Call) → g.mode ≡ Some (Calling c) → g.fuel ≡ f.fuel
+        → HasAdvanced h p fuel k q g e turn → HasAdvanced h p fuel k q f e turn
+    from_there q e turn c at same a =
         let v = ap is_in_wait local in
         let r = ap mode_rank local in
-        let x = ap is_in_wait w.1.1 in
-        let y = ap mode_rank w.1.1 in
+        let x = ap is_in_wait at in
+        let y = ap mode_rank at in
         record {
           on = a.on;
           unchecked = a.unchecked;

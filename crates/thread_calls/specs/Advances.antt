@@ -18,6 +18,8 @@ use Rattle.heap_table.specs.Resting.{start_now}
 use Rattle.heap_table.specs.Seen.{HeapSeen, PassSeen}
 use Rattle.lock_runtime.specs.Standing.{StandsBehind}
 use Rattle.object_program.specs.Program.{ProgramText}
+use Rattle.thread_calls.specs.declared.came.Went.{Went}
+use Rattle.thread_calls.specs.declared.came.Went.TheVariants as went
 use Rattle.thread_calls.specs.Between.{IsOn}
 use Rattle.thread_frame.specs.Frames.{FrameSeen, unspent, rank_of, has_ended}
 
@@ -84,6 +86,12 @@ pub record MadeCall (Is : PassSeen → PassSeen → Task → Type 0) (p q : Pass
 abbrev pub MakesCall : HeapSeen → PassSeen → PassSeen → FrameSeen → Turn Bool → Type 0
 MakesCall h p q f (Done b) = ((f.mode ≡ None) × (q ≡ p)) ⊎ MadeCall (DoneIn h) p q
 MakesCall h p q f (Pending why) = MadeCall (PendedIn h why) p q
+
+-- what an instruction or an entry came to, as the answer of a call: the cause of one that is pending was written apart
+abbrev pub turn_of : Went → Why → Turn Bool
+turn_of went.Done why = Done true
+turn_of went.On why = Done false
+turn_of went.Pending why = Pending why
 
 -- HOW FAR IT CAME. Done, it says whether an instruction was done, for which fuel was spent. Pending, the thread hasn't ended.
 abbrev pub HasSpent : FrameSeen → FrameSeen → Turn Bool → Type 0

@@ -1,3 +1,4 @@
 -- What only the private contracts of this crate cite: its own steps, states and invariants.
 pub mod Least
 pub mod Made
+pub mod Reached

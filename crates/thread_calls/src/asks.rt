@@ -1,4 +1,4 @@
-//! The entries that a thread makes while it waits or unwinds.
+//! The entries that a thread makes while it waits or unwinds. They are rare, and stand out of line.
 
 ghost use Rattle.std.specs.Prelude.{◌≡◌, ℕ, length, Some};
 ghost use Rattle.heap_table.specs.Resting.{Rests};
@@ -11,6 +11,7 @@ ghost use Rattle.thread_calls.specs.inner.Least.{lesser, object_in};
 ghost use Rattle.thread_calls.specs.Timed.{StaysTimed};
 ghost use Rattle.thread_frame.specs.Sights.{counts_from};
 
+use crate::timing::time_now;
 use core_world::Turn;
 use heap_table::{Heap, Pass, hold_of_word};
 use lock_runtime as runtime;
@@ -18,7 +19,7 @@ use mark_word::HoldForm;
 use object_program::Program;
 use plain_machine::Asked;
 use plain_monitor::{Ending, Entry, ending_entry};
-use run_io::{Clock, moment};
+use run_io::Clock;
 use thread_frame::Frame;
 
 // The object that the hold word names.
@@ -61,6 +62,7 @@ fn least_held(heap: &Heap, pass: &Pass) -> Option<u32>
 }
 
 /// Goes on with the thread's wait on the object.
+#[inline(never)]
 pub(crate) fn resume<C: Clock>(
     program: &Program,
     heap: &Heap,
@@ -77,7 +79,7 @@ pub(crate) fn resume<C: Clock>(
     ensures advanced { HasAdvanced heap.now program.now fuel pass.old pass.new frame.old frame.new result }
     ensures timed { StaysTimed tick pass.old pass.new }
 {
-    match runtime::wait(heap, pass, object, moment(clock.now(), tick)) {
+    match runtime::wait(heap, pass, object, time_now(clock, tick)) {
         Ok(turn) => match turn {
             Turn::Done(()) => {
                 frame.follow(Asked::Resumes { object }, &Entry::Resume { object });
@@ -90,6 +92,7 @@ pub(crate) fn resume<C: Clock>(
 }
 
 /// Leaves the least object that the thread holds, or ends the thread, which holds none.
+#[inline(never)]
 pub(crate) fn unwind(
     program: &Program,
     heap: &Heap,

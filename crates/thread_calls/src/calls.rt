@@ -1,24 +1,28 @@
-//! The call that a thread stands before.
+//! The call that a thread is at.
 
 ghost use Rattle.std.specs.Prelude.{◌≡◌, Some};
 ghost use Rattle.core_calls.specs.Causes.{of_waits};
 ghost use Rattle.plain_machine.specs.declared.call.Call.TheVariants as call;
 ghost use Rattle.plain_machine.specs.declared.call.Mode.TheVariants.{Calling};
-ghost use Rattle.thread_calls.specs.Advances.{HasAdvanced, MayAdvance};
+ghost use Rattle.thread_calls.specs.Advances.{HasAdvanced, MayAdvance, turn_of};
 ghost use Rattle.thread_calls.specs.Between.{IsHeapOf};
 ghost use Rattle.thread_calls.specs.Timed.{StaysTimed};
+ghost use Rattle.thread_frame.specs.Frames.{before_call, IsAtInstruction};
 
+use crate::came::{Went, tell};
 use crate::makes::make;
+use crate::timing::time_now;
 use core_world::{Turn, Why};
 use heap_table::{Heap, Pass};
 use lock_runtime as runtime;
 use object_program::Program;
 use plain_machine::{Asked, Call};
 use plain_monitor::Entry;
-use run_io::{Clock, moment};
+use run_io::Clock;
 use thread_frame::Frame;
 
-/// Makes the call.
+/// Makes the call that the thread is at. Only where it is pending does the frame stand before it then, and is a cause written.
+#[inline]
 pub(crate) fn call<C: Clock>(
     program: &Program,
     heap: &Heap,
@@ -28,22 +32,29 @@ pub(crate) fn call<C: Clock>(
     pass: &mut Pass,
     frame: &mut Frame,
     call: Call,
-) -> Turn<bool>
+    cause: &mut Why,
+) -> Went
     requires heap { IsHeapOf heap.now program.now }
-    requires may { MayAdvance heap.now program.now fuel pass.old frame.old }
-    requires at { frame.old.mode ≡ Some (Calling call) }
-    ensures advanced { HasAdvanced heap.now program.now fuel pass.old pass.new frame.old frame.new result }
+    requires may { MayAdvance heap.now program.now fuel pass.old (before_call frame.old call) }
+    requires placed { IsAtInstruction frame.old.place frame.old.made (Some (Calling call)) }
+    ensures advanced { HasAdvanced heap.now program.now fuel pass.old pass.new (before_call frame.old call) frame.new
+        (turn_of result cause.new) }
     ensures timed { StaysTimed tick pass.old pass.new }
 {
     if let Call::Wait { object } = call {
-        return begin_wait(program, heap, clock, tick, fuel, pass, frame, object);
+        let turn = begin_wait(program, heap, clock, tick, fuel, pass, frame, object);
+        return tell(turn, cause);
     }
     match make(heap, clock, tick, pass, call) {
         Turn::Done(entry) => {
             frame.follow(Asked::Calls { call }, &entry);
-            Turn::Done(true)
+            Went::Done
         }
-        Turn::Pending(why) => Turn::Pending(why),
+        Turn::Pending(why) => {
+            frame.stand_before(call);
+            *cause = why;
+            Went::Pending
+        }
     }
 }
 
@@ -55,6 +66,7 @@ fn has_let_go(why: Why) -> bool
 }
 
 // Begins to wait on the object, and may go on up to the end of the wait.
+#[inline(never)]
 fn begin_wait<C: Clock>(
     program: &Program,
     heap: &Heap,
@@ -66,16 +78,16 @@ fn begin_wait<C: Clock>(
     object: u32,
 ) -> Turn<bool>
     requires heap { IsHeapOf heap.now program.now }
-    requires may { MayAdvance heap.now program.now fuel pass.old frame.old }
-    requires at { frame.old.mode ≡ Some (Calling (call.Wait object)) }
-    ensures advanced { HasAdvanced heap.now program.now fuel pass.old pass.new frame.old frame.new result }
+    requires may { MayAdvance heap.now program.now fuel pass.old (before_call frame.old (call.Wait object)) }
+    requires placed { IsAtInstruction frame.old.place frame.old.made (Some (Calling (call.Wait object))) }
+    ensures advanced { HasAdvanced heap.now program.now fuel pass.old pass.new
+        (before_call frame.old (call.Wait object)) frame.new result }
     ensures timed { StaysTimed tick pass.old pass.new }
 {
-    let asked = Asked::Calls {
-        call: Call::Wait { object },
-    };
+    let call = Call::Wait { object };
+    let asked = Asked::Calls { call };
     let entry = Entry::Wait { object };
-    match runtime::wait(heap, pass, object, moment(clock.now(), tick)) {
+    match runtime::wait(heap, pass, object, time_now(clock, tick)) {
         Ok(turn) => match turn {
             Turn::Done(()) => {
                 frame.follow(asked, &entry);
@@ -87,6 +99,7 @@ fn begin_wait<C: Clock>(
                     frame.follow(asked, &entry);
                     return Turn::Pending(why);
                 }
+                frame.stand_before(call);
                 Turn::Pending(why)
             }
         },

@@ -7,9 +7,12 @@
 
 mod asks;
 mod calls;
+mod came;
 mod laws;
 mod makes;
 mod next;
+mod timing;
 
+pub use came::Went;
 pub use laws::unused_passes_are_on;
 pub use next::advance;

@@ -1,4 +1,4 @@
-//! The calls that make one entry each, by their passes.
+//! The calls that make one entry each, by their passes. Those that are rare stand out of line, so that the frame of the others has no place for them.
 
 ghost use Rattle.std.specs.Prelude.{◌≡◌, ◌+◌, ◌<◌, ◌≤◌, length, false};
 ghost use Rattle.core_calls.specs.CallsSay.{is_full};
@@ -11,12 +11,13 @@ ghost use Rattle.plain_monitor.specs.Limits.{most_made};
 ghost use Rattle.thread_calls.specs.inner.Made.{HasMade, Holds, MayMake};
 ghost use Rattle.thread_calls.specs.Timed.{StaysTimed};
 
+use crate::timing::time_now;
 use core_world::Turn;
 use heap_table::{Heap, Pass};
 use lock_runtime as runtime;
 use plain_machine::Call;
 use plain_monitor::{Entry, Value};
-use run_io::{Clock, moment};
+use run_io::Clock;
 
 // An enter, which is not refused, since the thread has fewer than 64 holds.
 fn enter(heap: &Heap, pass: &mut Pass, object: u32, now: u64) -> Turn<Entry>
@@ -41,16 +42,14 @@ fn exit(heap: &Heap, pass: &mut Pass, object: u32) -> Turn<Entry>
     ensures made { HasMade heap.now pass.old pass.new (call.Exit object) result }
     ensures called { HasCalled (task.Exit object) pass.old.known pass.new.known }
 {
-    match runtime::exit(heap, pass, object) {
-        Ok(turn) => match turn {
-            Turn::Done(()) => Turn::Done(Entry::Exit { object }),
-            Turn::Pending(why) => Turn::Pending(why),
-        },
-        Err(_) => unreachable!(),
+    match runtime::exit_held(heap, pass, object) {
+        Turn::Done(()) => Turn::Done(Entry::Exit { object }),
+        Turn::Pending(why) => Turn::Pending(why),
     }
 }
 
 // A notify, on an object that the thread holds.
+#[inline(never)]
 fn notify(heap: &Heap, pass: &mut Pass, object: u32, now: u64) -> Turn<Entry>
     requires may { MayOperate heap.now pass.old (task.Notify object now) }
     requires holds { Holds pass.old object }
@@ -67,6 +66,7 @@ fn notify(heap: &Heap, pass: &mut Pass, object: u32, now: u64) -> Turn<Entry>
 }
 
 // A notify of all, on an object that the thread holds.
+#[inline(never)]
 fn notify_all(heap: &Heap, pass: &mut Pass, object: u32, now: u64) -> Turn<Entry>
     requires may { MayOperate heap.now pass.old (task.NotifyAll object now) }
     requires holds { Holds pass.old object }
@@ -89,14 +89,12 @@ fn get(heap: &Heap, pass: &mut Pass, local: u32, object: u32, slot: u32) -> Turn
     ensures made { HasMade heap.now pass.old pass.new (call.Get local object slot) result }
     ensures called { HasCalled (task.Get object slot) pass.old.known pass.new.known }
 {
-    match runtime::get(heap, pass, object, slot) {
-        Ok(value) => Turn::Done(Entry::Get {
-            object,
-            slot,
-            value,
-        }),
-        Err(_) => unreachable!(),
-    }
+    let value = runtime::get_held(heap, pass, object, slot);
+    Turn::Done(Entry::Get {
+        object,
+        slot,
+        value,
+    })
 }
 
 // A put into a slot of an object that the thread holds.
@@ -106,17 +104,16 @@ fn put(heap: &Heap, pass: &mut Pass, object: u32, slot: u32, value: Value) -> Tu
     ensures made { HasMade heap.now pass.old pass.new (call.Put object slot value) result }
     ensures called { HasCalled (task.Put object slot value) pass.old.known pass.new.known }
 {
-    match runtime::put(heap, pass, object, slot, value) {
-        Ok(()) => Turn::Done(Entry::Put {
-            object,
-            slot,
-            value,
-        }),
-        Err(_) => unreachable!(),
-    }
+    runtime::put_held(heap, pass, object, slot, value);
+    Turn::Done(Entry::Put {
+        object,
+        slot,
+        value,
+    })
 }
 
 // A hash, for this local. Whether it was drawn is in the log alone: no frame asks for that.
+#[inline(never)]
 fn hash(heap: &Heap, pass: &mut Pass, local: u32, object: u32, now: u64) -> Turn<Entry>
     requires may { MayOperate heap.now pass.old (task.Hash object now) }
     ensures made { HasMade heap.now pass.old pass.new (call.Hash local object) result }
@@ -133,6 +130,7 @@ fn hash(heap: &Heap, pass: &mut Pass, local: u32, object: u32, now: u64) -> Turn
 }
 
 // A new object, for this local: the thread's next one. It is not refused, since the thread has made fewer than 1,024.
+#[inline(never)]
 fn create(heap: &Heap, pass: &mut Pass, local: u32, class: u32) -> Turn<Entry>
     requires may { MayOperate heap.now pass.old (task.Create class) }
     requires room { length (news pass.old.known.log) < most_made }
@@ -156,6 +154,7 @@ fn print(heap: &Heap, pass: &mut Pass, value: Value) -> Turn<Entry>
 }
 
 // The thread's dump with this number.
+#[inline(never)]
 fn dump(heap: &Heap, pass: &mut Pass, number: u32) -> Turn<Entry>
     requires may { MayOperate heap.now pass.old task.Dump }
     requires number { number ≡ length pass.old.known.shots + 1 }
@@ -185,11 +184,11 @@ pub(crate) fn make<C: Clock>(
     ensures timed { StaysTimed tick pass.old pass.new }
 {
     match call {
-        Call::Enter { object } => enter(heap, pass, object, moment(clock.now(), tick)),
+        Call::Enter { object } => enter(heap, pass, object, time_now(clock, tick)),
         Call::Exit { object } => exit(heap, pass, object),
         Call::Wait { .. } => unreachable!(),
-        Call::Notify { object } => notify(heap, pass, object, moment(clock.now(), tick)),
-        Call::NotifyAll { object } => notify_all(heap, pass, object, moment(clock.now(), tick)),
+        Call::Notify { object } => notify(heap, pass, object, time_now(clock, tick)),
+        Call::NotifyAll { object } => notify_all(heap, pass, object, time_now(clock, tick)),
         Call::Get {
             local,
             object,
@@ -200,9 +199,7 @@ pub(crate) fn make<C: Clock>(
             slot,
             value,
         } => put(heap, pass, object, slot, value),
-        Call::Hash { local, object } => {
-            hash(heap, pass, local, object, moment(clock.now(), tick))
-        }
+        Call::Hash { local, object } => { hash(heap, pass, local, object, time_now(clock, tick)) }
         Call::New { local, class } => create(heap, pass, local, class),
         Call::Print { value } => print(heap, pass, value),
         Call::Dump { number } => dump(heap, pass, number),

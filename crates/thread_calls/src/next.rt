@@ -1,25 +1,29 @@
 //! The next instruction or entry of a thread.
 
-ghost use Rattle.std.specs.Prelude.{◌≡◌, None, Some};
-ghost use Rattle.thread_calls.specs.Advances.{HasAdvanced, MayAdvance};
+ghost use Rattle.std.specs.Prelude.{◌≡◌, None};
+ghost use Rattle.thread_calls.specs.Advances.{HasAdvanced, MayAdvance, turn_of};
 ghost use Rattle.thread_calls.specs.Between.{IsHeapOf};
+ghost use Rattle.thread_calls.specs.inner.Reached.{HasReached};
 ghost use Rattle.thread_calls.specs.Timed.{StaysTimed};
 
 use crate::asks::{resume, unwind};
 use crate::calls::call;
-use core_world::Turn;
+use crate::came::{Went, tell};
+use core_world::Why;
 use heap_table::{Heap, Pass};
 use object_program::Program;
-use plain_machine::Mode;
+use plain_machine::{Call, Mode};
+use plain_monitor::Ending;
 use run_io::Clock;
 use thread_frame::{Frame, Walked};
 
 /// Executes the next instruction of the thread, or makes its next entry where it waits or unwinds.
 ///
-/// `Done(true)` says that an instruction was done, `Done(false)` that the thread went on without one: it ends for want of fuel, it left a
-/// hold as it unwinds, or it has ended. `Pending(why)` is the answer of the call that was made: what it asks stays what the thread asks
-/// next, but for a wait that let go, which then goes on to wait. A `new` makes the thread's next object on the heap, to which its local then
-/// refers; it is never pending. Calls that take a moment get the clock's time now, by `tick`.
+/// `Done` says that an instruction was done, `On` that the thread went on without one: it ends for want of fuel, it left a hold as it
+/// unwinds, or it has ended. `Pending` says that the call that was made is pending, for the cause that is written then, and only then: what
+/// it asks stays what the thread asks next, but for a wait that let go, which then goes on to wait. A `new` makes the thread's next object
+/// on the heap, to which its local then refers; it is never pending. Calls that take a moment get the clock's time now, by `tick`; where
+/// that is 0, the clock is not looked at.
 pub fn advance<C: Clock>(
     program: &Program,
     heap: &Heap,
@@ -28,65 +32,76 @@ pub fn advance<C: Clock>(
     fuel: u32,
     pass: &mut Pass,
     frame: &mut Frame,
-) -> Turn<bool>
+    cause: &mut Why,
+) -> Went
     requires heap { IsHeapOf heap.now program.now }
     requires may { MayAdvance heap.now program.now fuel pass.old frame.old }
-    ensures advanced { HasAdvanced heap.now program.now fuel pass.old pass.new frame.old frame.new result }
+    ensures advanced { HasAdvanced heap.now program.now fuel pass.old pass.new frame.old frame.new
+        (turn_of result cause.new) }
     ensures timed { StaysTimed tick pass.old pass.new }
 {
-    match frame.mode() {
-        None => walk(program, heap, clock, tick, fuel, pass, frame),
-        Some(mode) => go_on(program, heap, clock, tick, fuel, pass, frame, mode),
+    match reach(program, heap, fuel, pass, frame) {
+        Reached::Ran => Went::Done,
+        Reached::Spent => Went::On,
+        Reached::Calls { call: next } => {
+            call(program, heap, clock, tick, fuel, pass, frame, next, cause)
+        }
+        Reached::Waits { object } => {
+            let turn = resume(program, heap, clock, tick, fuel, pass, frame, object);
+            tell(turn, cause)
+        }
+        Reached::Unwinds { ending } => {
+            let turn = unwind(program, heap, fuel, pass, frame, ending);
+            tell(turn, cause)
+        }
     }
 }
 
-// Looks at the instruction, in the middle of local ones.
-fn walk<C: Clock>(
-    program: &Program,
-    heap: &Heap,
-    clock: &C,
-    tick: u32,
-    fuel: u32,
-    pass: &mut Pass,
-    frame: &mut Frame,
-) -> Turn<bool>
+/// What a thread came to without a call, or what it has to make.
+#[derive(Clone, Copy)]
+pub(crate) enum Reached {
+    /// It executed a local instruction.
+    Ran,
+    /// It ends for want of fuel.
+    Spent,
+    /// It is at this call, or has stood before it since it was pending: there is one place in the code that makes a call, so that each
+    /// instruction goes straight to what it calls.
+    Calls { call: Call },
+    /// It goes on with its wait.
+    Waits { object: u32 },
+    /// It leaves what it holds, and then ends so.
+    Unwinds { ending: Ending },
+}
+
+// Looks where the thread stands, and executes its instruction where that is a local one.
+#[inline]
+fn reach(program: &Program, heap: &Heap, fuel: u32, pass: &Pass, frame: &mut Frame) -> Reached
     requires heap { IsHeapOf heap.now program.now }
-    requires may { MayAdvance heap.now program.now fuel pass.old frame.old }
-    requires local { frame.old.mode ≡ None }
-    ensures advanced { HasAdvanced heap.now program.now fuel pass.old pass.new frame.old frame.new result }
-    ensures timed { StaysTimed tick pass.old pass.new }
+    requires may { MayAdvance heap.now program.now fuel pass.now frame.old }
+    ensures { HasReached heap.now program.now fuel pass.now frame.old frame.new result }
 {
-    match frame.walk(program, pass, heap.shape().objects() as u32) {
-        Walked::Ran => Turn::Done(true),
-        Walked::Spent => Turn::Done(false),
-        Walked::Arrived => match frame.mode() {
-            Some(mode) => go_on(program, heap, clock, tick, fuel, pass, frame, mode),
-            None => unreachable!(),
+    match frame.mode() {
+        None => walk(program, heap, fuel, pass, frame),
+        Some(mode) => match mode {
+            Mode::Calling { call } => Reached::Calls { call },
+            Mode::Waiting { object } => Reached::Waits { object },
+            Mode::Unwinding { ending } => Reached::Unwinds { ending },
+            Mode::Ended { .. } => unreachable!(),
         },
     }
 }
 
-// Makes what it stands before.
-fn go_on<C: Clock>(
-    program: &Program,
-    heap: &Heap,
-    clock: &C,
-    tick: u32,
-    fuel: u32,
-    pass: &mut Pass,
-    frame: &mut Frame,
-    mode: Mode,
-) -> Turn<bool>
+// Looks at the instruction, in the middle of local ones.
+#[inline]
+fn walk(program: &Program, heap: &Heap, fuel: u32, pass: &Pass, frame: &mut Frame) -> Reached
     requires heap { IsHeapOf heap.now program.now }
-    requires may { MayAdvance heap.now program.now fuel pass.old frame.old }
-    requires at { frame.old.mode ≡ Some mode }
-    ensures advanced { HasAdvanced heap.now program.now fuel pass.old pass.new frame.old frame.new result }
-    ensures timed { StaysTimed tick pass.old pass.new }
+    requires may { MayAdvance heap.now program.now fuel pass.now frame.old }
+    requires local { frame.old.mode ≡ None }
+    ensures { HasReached heap.now program.now fuel pass.now frame.old frame.new result }
 {
-    match mode {
-        Mode::Calling { call: next } => call(program, heap, clock, tick, fuel, pass, frame, next),
-        Mode::Waiting { object } => resume(program, heap, clock, tick, fuel, pass, frame, object),
-        Mode::Unwinding { ending } => unwind(program, heap, fuel, pass, frame, ending),
-        Mode::Ended { .. } => unreachable!(),
+    match frame.walk(program, pass, heap.shape().objects() as u32) {
+        Walked::Ran => Reached::Ran,
+        Walked::Spent => Reached::Spent,
+        Walked::Arrived { call } => Reached::Calls { call },
     }
 }

@@ -4,3 +4,4 @@ pub mod Starts
 pub mod Moves
 pub mod Seen
 pub mod Walks
+pub mod Few

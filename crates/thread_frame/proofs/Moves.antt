@@ -10,13 +10,13 @@ use Rattle.object_program.specs.Program.{ProgramText}
 use Rattle.plain_machine.specs.declared.call.Call.{Call}
 use Rattle.plain_machine.specs.declared.call.Call.TheVariants as call
 use Rattle.plain_machine.specs.declared.call.Mode.{Mode}
-use Rattle.plain_machine.specs.declared.call.Mode.TheVariants.{Unwinding}
+use Rattle.plain_machine.specs.declared.call.Mode.TheVariants.{Calling, Unwinding}
 use Rattle.plain_machine.specs.declared.call.Asked.{Asked}
 use Rattle.plain_machine.specs.declared.call.Asked.TheVariants.{Calls, Resumes, Leaves, Ends}
 use Rattle.plain_machine.specs.Asking.{answered, behind_call, behind_entry}
 use Rattle.plain_machine.specs.Running.{run_on}
 use Rattle.plain_machine.specs.Thread.{behind, with_local}
-use Rattle.thread_frame.specs.Frames.{FrameSeen, state_in, led_on, frame_answered, frame_behind_call, frame_behind}
+use Rattle.thread_frame.specs.Frames.{FrameSeen, before_call, state_in, led_on, frame_answered, frame_behind_call, frame_behind}
 use Rattle.thread_frame.proofs.Lists.{take_set}
 use Rattle.thread_frame.proofs.Runs.{in_mode, run_same, run_holds}
 
@@ -41,6 +41,13 @@ answered_later f (call.Notify o) e place fuel mode = refl
 answered_later f (call.NotifyAll o) e place fuel mode = refl
 answered_later f (call.Put o k v) e place fuel mode = refl
 answered_later f (call.Print v) e place fuel mode = refl
+
+-- a frame that doesn't stand before the call goes on behind it as one that does
+pub behind_before : (f : FrameSeen) (c : Call) (e : Entry) → frame_behind_call (before_call f c) c e ≡ frame_behind_call f c e
+behind_before f (call.Wait o) e = refl
+behind_before f c e =
+    ap (λ (g : FrameSeen). record g { place = f.place + 1; fuel = f.fuel - 1; mode = None })
+    (answered_later f c e f.place f.fuel (Some (Calling c)))
 
 -- a local that an answer sets
 set_same : (n fuel x : ℕ) (f : FrameSeen) (v : Value) (holds after : List ℕ) → after ≡ holds

@@ -1,5 +1,5 @@
 -- A thread of a program between two of its entries, apart from its holds: its pass knows those.
-use Rattle.std.specs.Prelude.{◌≡◌, ℕ, pos, ◌+◌, ◌-◌, ◌*◌, ◌<◌, Bool, true, false, List, [], length, map, replicate, take, slice_index_or, slice_set, Option, Some, None}
+use Rattle.std.specs.Prelude.{ℕ, pos, ◌+◌, ◌-◌, ◌*◌, ◌<◌, Bool, true, false, List, [], length, map, replicate, take, slice_index_or, slice_set, Option, Some, None}
 use Rattle.plain_monitor.specs.Limits.{most_made}
 use Rattle.plain_monitor.specs.declared.entry.Ending.TheVariants.{Done}
 use Rattle.plain_monitor.specs.declared.entry.Entry.{Entry}
@@ -89,6 +89,10 @@ frame_behind f (Resumes o) e = record f { mode = None }
 frame_behind f (Leaves o) e = f
 frame_behind f (Ends g) e = record f { mode = Some (Ended g) }
 
+-- where it stands before this call
+abbrev pub before_call : FrameSeen → Call → FrameSeen
+before_call f c = record f { mode = Some (Calling c) }
+
 -- HOW FAR IT IS. A wait is an instruction that is paid for when it lets go, and done when it has the monitor again.
 abbrev pub is_in_wait : Option Mode → ℕ
 is_in_wait (Some (Waiting o)) = 1
@@ -126,7 +130,7 @@ abbrev pub IsAtInstruction : ℕ → ℕ → Option Mode → Type 0
 IsAtInstruction place made (Some (Calling c)) = (place < most_code) × MayMakeMore made c
 IsAtInstruction place made mode = Unit {0}
 
--- a thread that is asked for a call stands before it
-abbrev pub StandsBefore : Option Mode → Asked → Type 0
-StandsBefore mode (Calls c) = mode ≡ Some (Calling c)
-StandsBefore mode a = Unit {0}
+-- a thread that is to go on behind a call is at an instruction that makes such a call, whether it stands before it or not
+abbrev pub MayFollow : FrameSeen → Asked → Type 0
+MayFollow f (Calls c) = IsAtInstruction f.place f.made (Some (Calling c))
+MayFollow f a = Unit {0}

@@ -1,9 +1,11 @@
 //! A thread's place, locals and fuel, its dumps, and how many objects it has made.
 
-ghost use Rattle.std.specs.Prelude.{◌≡◌, slice_index_or, slice_set, None};
-ghost use Rattle.plain_machine.specs.declared.call.Asked.TheVariants.{Calls};
+ghost use Rattle.std.specs.Prelude.{◌≡◌, ◌<◌, slice_index_or, slice_set, None, Some};
+ghost use Rattle.object_program.specs.Limits.{most_locals};
+ghost use Rattle.plain_machine.specs.declared.call.Mode.TheVariants.{Calling};
 ghost use Rattle.plain_monitor.specs.declared.entry.Value.TheVariants.{Nil};
-ghost use Rattle.thread_frame.specs.Frames.{first_frame, frame_answered, frame_behind, frame_behind_call, has_ended, IsAtInstruction, MayMakeMore, StandsBefore};
+ghost use Rattle.thread_frame.specs.Frames.{before_call, first_frame, frame_answered, frame_behind, frame_behind_call, has_ended};
+ghost use Rattle.thread_frame.specs.Frames.{IsAtInstruction, MayFollow, MayMakeMore};
 
 use plain_machine::{Asked, Call, Mode};
 use plain_monitor::{Entry, Value};
@@ -52,9 +54,10 @@ impl Frame {
         }
     }
 
-    /// What it stands before, or how it ended; `None` in the middle of its local instructions.
+    /// What it stands before, or how it ended; `None` in the middle of its local instructions. Before a call it is at an instruction.
     pub fn mode(&self) -> Option<Mode>
-        ensures { result ≡ self.now.mode }
+        ensures is { result ≡ self.now.mode }
+        ensures placed { IsAtInstruction self.now.place self.now.made result }
     {
         self.mode
     }
@@ -81,15 +84,13 @@ impl Frame {
         self.place
     }
 
-    /// What the local is; nil where there is no such local.
+    /// What the local is, where a thread may declare so many.
     #[inline]
     pub(crate) fn local(&self, x: u32) -> Value
+        requires { x < most_locals }
         ensures { result ≡ slice_index_or self.now.locals x Nil }
     {
-        match self.locals.get(x as usize) {
-            Some(value) => *value,
-            None => Value::Nil,
-        }
+        self.locals[x as usize]
     }
 
     /// How many dumps it has made.
@@ -108,9 +109,18 @@ impl Frame {
         self.made
     }
 
-    /// Moves on behind an entry that is what it asked.
+    /// Stands before the call that it is at, which is pending.
+    pub fn stand_before(&mut self, call: Call)
+        requires { IsAtInstruction self.old.place self.old.made (Some (Calling call)) }
+        ensures { self.new ≡ before_call self.old call }
+    {
+        self.mode = Some(Mode::Calling { call });
+    }
+
+    /// Moves on behind an entry that is what it asked. A call that was made at once it need not have stood before.
+    #[inline]
     pub fn follow(&mut self, asked: Asked, entry: &Entry)
-        requires { StandsBefore self.old.mode asked }
+        requires { MayFollow self.old asked }
         ensures { self.new ≡ frame_behind self.old asked entry.now }
     {
         match asked {
@@ -122,9 +132,10 @@ impl Frame {
     }
 
     // Moves on behind this call, which is paid for.
+    #[inline]
     #[tactic(auto, using(crate::proofs::Moves::answered_later))]
     fn follow_call(&mut self, call: Call, entry: &Entry)
-        requires { StandsBefore self.old.mode (Calls call) }
+        requires { IsAtInstruction self.old.place self.old.made (Some (Calling call)) }
         ensures { self.new ≡ frame_behind_call self.old call entry.now }
     {
         let place = self.place + 1;
@@ -137,6 +148,7 @@ impl Frame {
     }
 
     // What the call's answer makes of it, behind the call.
+    #[inline]
     fn answer(&mut self, call: Call, entry: &Entry)
         requires behind { self.old.mode ≡ None }
         requires room { MayMakeMore self.old.made call }

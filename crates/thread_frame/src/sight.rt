@@ -1,5 +1,7 @@
 //! What an instruction sees.
 
+ghost use Rattle.std.specs.Prelude.{◌≤◌};
+ghost use Rattle.object_program.specs.Limits.{most_locals};
 ghost use Rattle.thread_frame.specs.Frames.{state_in};
 ghost use Rattle.thread_frame.specs.Sights.{counts_from, AreOf};
 
@@ -8,13 +10,15 @@ use heap_table::Pass;
 use plain_machine::Actor;
 use plain_monitor::Value;
 
-/// A frame of a thread that declares so many locals, and the thread's pass, on a heap of so many objects.
+/// A frame of a thread that declares so many locals, and the thread's pass, on a heap of so many objects. The frame has a place for each local that a
+/// thread may declare, so that a look at one is a look at their number alone.
 #[derive(Clone, Copy)]
 pub(crate) struct Sight<'a> {
     pub frame: &'a Frame,
     pub pass: &'a Pass,
     pub objects: u32,
     pub locals: u32,
+    pub ghost few: { locals ≤ most_locals },
     pub ghost counted: { AreOf objects pass.now.known.holds },
 }
 

@@ -1,20 +1,21 @@
 //! Local instructions.
 
-ghost use Rattle.std.specs.Prelude.{◌≡◌, ◌<◌, length, None};
+ghost use Rattle.std.specs.Prelude.{◌≡◌, ◌<◌, ◌≤◌, length, None};
+ghost use Rattle.object_program.specs.Limits.{most_locals};
 ghost use Rattle.plain_machine.specs.Machine.{code_of};
 ghost use Rattle.plain_machine.specs.Next.{meant};
 ghost use Rattle.plain_machine.specs.Running.{instruction_at};
 ghost use Rattle.plain_machine.specs.Thread.{step_of};
 ghost use Rattle.thread_frame.specs.Frames.{locals_of, next_state, state_in};
 ghost use Rattle.thread_frame.specs.Sights.{counts_from, AreOf};
-ghost use Rattle.thread_frame.specs.Walking.{HasWalked};
+ghost use Rattle.thread_frame.specs.Walking.{HasWalked, walked_to};
 ghost use Rattle.thread_frame.specs.inner.Walking.{frame_moved, IsPlacedFor};
 
 use crate::frame::Frame;
 use crate::sight::Sight;
 use heap_table::Pass;
 use object_program::Program;
-use plain_machine::{Mode, Next, code_of, look};
+use plain_machine::{Call, Mode, Next, code_of, look};
 use plain_monitor::Ending;
 
 /// What a thread in the middle of its local instructions came to.
@@ -22,21 +23,22 @@ use plain_monitor::Ending;
 pub enum Walked {
     /// It executed an instruction, and paid for it: a local one, or one that ends it.
     Ran,
-    /// It stands before a call, which is not yet paid for.
-    Arrived,
+    /// It is at this call, which is not yet paid for, and was left as it was. Made at once, the call is what it follows; pending, it is what
+    /// it then stands before.
+    Arrived { call: Call },
     /// It has no fuel left, and ends.
     Spent,
 }
 
 impl Frame {
     /// Looks at the instruction that the thread is at, and executes it where it is a local one or ends the thread. The pass is the
-    /// thread's, on a heap of so many objects.
+    /// thread's, on a heap of so many objects. A call it tells, and leaves the frame.
     pub fn walk(&mut self, program: &Program, pass: &Pass, objects: u32) -> Walked
         requires thread { pass.now.known.thread < length program.now.threads }
         requires local { self.old.mode ≡ None }
         requires holds { AreOf objects pass.now.known.holds }
         ensures leads { let holds = counts_from 0 objects pass.now.known.holds in
-            next_state program.now pass.now.known.thread holds self.new
+            next_state program.now pass.now.known.thread holds (walked_to self.new result)
             ≡ next_state program.now pass.now.known.thread holds self.old }
         ensures walked { HasWalked self.old self.new result }
     {
@@ -77,7 +79,7 @@ impl Frame {
         requires local { self.old.mode ≡ None }
         requires fuel { 0 < self.old.fuel }
         requires placed { IsPlacedFor self.old next }
-        ensures moved { self.new ≡ frame_moved self.old next }
+        ensures moved { walked_to self.new result ≡ frame_moved self.old next }
         ensures walked { HasWalked self.old self.new result }
     {
         let place = self.place();
@@ -88,10 +90,7 @@ impl Frame {
                 self.stand(place + 1, fuel - 1, None);
             }
             Next::Jumps { place } => self.stand(place, fuel - 1, None),
-            Next::Calls { call } => {
-                self.stand(place, fuel, Some(Mode::Calling { call }));
-                return Walked::Arrived;
-            }
+            Next::Calls { call } => return Walked::Arrived { call },
             Next::Stops { ending } => self.stand(place, fuel - 1, Some(Mode::Unwinding { ending })),
         }
         Walked::Ran
@@ -100,9 +99,11 @@ impl Frame {
 
 /// How many locals thread t declares.
 #[inline]
+#[tactic(auto, using(crate::proofs::Few::few_locals))]
 fn locals_of(program: &Program, t: u32) -> u32
     requires { t < length program.now.threads }
-    ensures { result ≡ locals_of program.now t }
+    ensures count { result ≡ locals_of program.now t }
+    ensures few { result ≤ most_locals }
 {
     program.threads.items()[t as usize].locals.items().len() as u32
 }

@@ -15,7 +15,7 @@ use Rattle.core_world.specs.Trees.Calls.{side_purpose}
 use Rattle.core_world.specs.Trees.Plans.{load, done_with, pending_for}
 use Rattle.core_world.specs.Trees.SafepointSteps.{has_requester, poll_steps}
 use Rattle.core_world.specs.Trees.Todo.{Todo, done, never, step, is_over}
-use Rattle.heap_table.specs.Resting.{start_now}
+use Rattle.heap_table.specs.Resting.{Rests, start_now}
 use Rattle.heap_table.specs.Seen.{HeapSeen, PassSeen}
 use Rattle.thread_calls.specs.Advances.{RanFrom, HasStepped, MadeCall, MakesCall}
 use Rattle.thread_frame.specs.Frames.{FrameSeen}
@@ -56,18 +56,19 @@ module _ (p q r : PassSeen) where
       }
 
   -- a call that was begun behind the later pass was begun behind the earlier one
-  pub called_then : (Is : PassSeen → PassSeen → Task → Type 0) → HasAdded p q → CalledLast Is q r → CalledLast Is p r
-  called_then Is a c =
+  pub called_then : (Is : PassSeen → PassSeen → Task → Type 0) (h : HeapSeen) → HasAdded p q → CalledLast Is h q r → CalledLast Is h p r
+  called_then Is h a c =
       record {
         before = c.before;
+        rests = c.rests;
         call = c.call;
         earlier = c.earlier ++ a.steps;
         begun = c.begun ∙ ap (λ (l : List StepMade). c.earlier ++ l) a.added ∙ sym (append_assoc c.earlier a.steps p.known.steps);
       }
 
 -- the first call, which was the last one
-pub called_once : (Is : PassSeen → PassSeen → Task → Type 0) (p q : PassSeen) → MadeCall Is p q → CalledLast Is p q
-called_once Is p q call = record { before = p; call = call; earlier = []; begun = refl }
+pub called_once : (Is : PassSeen → PassSeen → Task → Type 0) (h : HeapSeen) (p q : PassSeen) → Rests h p → MadeCall Is p q → CalledLast Is h p q
+called_once Is h p q rests call = record { before = p; rests = rests; call = call; earlier = []; begun = refl }
 
 -- the steps of one instruction or entry
 abbrev pub call_added : (h : HeapSeen) (p q : PassSeen) (f : FrameSeen) (turn : Turn Bool) → MakesCall h p q f turn → HasAdded p q

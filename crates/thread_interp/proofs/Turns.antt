@@ -20,7 +20,9 @@ use Rattle.heap_table.specs.Resting.{Rests, MayCall, start_now}
 use Rattle.heap_table.specs.Seen.{HeapSeen, PassSeen}
 use Rattle.lock_runtime.specs.Standing.{IsRunning, IsStopped, IsAsking, HasStopped, StandsBehind, StandsBehindResume, StandsBehindCheck}
 use Rattle.object_program.specs.Program.{ProgramText}
-use Rattle.thread_calls.specs.Advances.{DoneIn, PendedIn, HasStepped, MadeCall, MakesCall, HasSpent, HasFallen, HasAdvanced, MayAdvance}
+use Rattle.thread_calls.specs.Advances.{DoneIn, PendedIn, HasStepped, MadeCall, MakesCall, HasSpent, HasFallen, HasAdvanced, MayAdvance, turn_of}
+use Rattle.thread_calls.specs.declared.came.Went.{Went}
+use Rattle.thread_calls.specs.declared.came.Went.TheVariants as went
 use Rattle.thread_calls.specs.Between.{IsOn}
 use Rattle.thread_frame.specs.Frames.{FrameSeen, unspent, has_ended}
 use Rattle.thread_interp.specs.declared.moved.Moved.{Moved}
@@ -42,6 +44,22 @@ both is not_so = absurd (true≢false (sym is ∙ not_so))
 pub turn_done : (turn : Turn (Unit {0})) → ((why : Why) → turn ≡ Pending why → ⊥) → turn ≡ Done tt
 turn_done (Done x) other = refl
 turn_done (Pending why) other = absurd (other why refl)
+
+-- what a step came to where it isn't pending, and whether an instruction was done
+abbrev pub is_done : Went → Bool
+is_done went.Done = true
+is_done went.On = false
+is_done went.Pending = false
+
+pub went_done : (w : Went) (why : Why) → (w ≡ went.Pending → ⊥) → turn_of w why ≡ Done (is_done w)
+went_done went.Done why other = refl
+went_done went.On why other = refl
+went_done went.Pending why other = absurd (other refl)
+
+pub not_done : (w : Went) → (w ≡ went.Done → ⊥) → is_done w ≡ false
+not_done went.Done other = absurd (other refl)
+not_done went.On other = refl
+not_done went.Pending other = refl
 
 -- SET RUNNING
 module _ (h : HeapSeen) (text : ProgramText) (fuel : ℕ) (p : PassSeen) (f : FrameSeen) (on : IsOn h text fuel p f) (still : p.known.running ≡ false) where
@@ -142,22 +160,22 @@ module _ (h : HeapSeen) (text : ProgramText) (fuel : ℕ) (p q : PassSeen) (f : 
         fallen = tt;
         stepped = poll;
         polls = omega (arith, one_poll);
-        called = called_once (PendedIn h why) p q (record { task = task.Poll; is = run_why.ran; stepped = poll });
+        called = called_once (PendedIn h why) h p q may.on.rests (record { task = task.Poll; is = run_why.ran; stepped = poll });
       }
 
   -- what is done behind the poll is done
   module _ (done : turn ≡ Done tt) (r : PassSeen) (g : FrameSeen) where
     -- the poll was the last call, where a local instruction was done behind it
-    poll_last : r ≡ q → CalledLast (DoneIn h) p r
+    poll_last : r ≡ q → CalledLast (DoneIn h) h p r
     poll_last same =
         let run_done = subst (λ (x : Turn (Unit {0})). HasRun h (poll_steps (side_purpose task.Poll (start_now h p))) p q x) done run in
-        subst (CalledLast (DoneIn h) p) (sym same)
-        (called_once (DoneIn h) p q (record { task = task.Poll; is = run_done.ran; stepped = poll }))
+        subst (CalledLast (DoneIn h) h p) (sym same)
+        (called_once (DoneIn h) h p q may.on.rests (record { task = task.Poll; is = run_done.ran; stepped = poll }))
 
     called_behind : (next : Turn Bool) → MakesCall h q r f next → CalledBy h p r next
     called_behind (Done b) (inl none) = poll_last none.1
-    called_behind (Done b) (inr one) = called_then p q r (DoneIn h) (some_added p q poll) (called_once (DoneIn h) q r one)
-    called_behind (Pending why) one = called_then p q r (PendedIn h why) (some_added p q poll) (called_once (PendedIn h why) q r one)
+    called_behind (Done b) (inr one) = called_then p q r (DoneIn h) h (some_added p q poll) (called_once (DoneIn h) h q r rests one)
+    called_behind (Pending why) one = called_then p q r (PendedIn h why) h (some_added p q poll) (called_once (PendedIn h why) h q r rests one)
 
     falls : (next : Turn Bool) → HasFallen q r f g next → HasFallen p r f g next
     falls (Done b) fell =
@@ -193,8 +211,8 @@ module _ (h : HeapSeen) (text : ProgramText) (fuel : ℕ) (p q : PassSeen) (f g 
 
   called_at_once : (next : Turn Bool) → MakesCall h p q f next → CalledBy h p q next
   called_at_once (Done b) (inl none) = absurd (not_local none.0)
-  called_at_once (Done b) (inr one) = called_once (DoneIn h) p q one
-  called_at_once (Pending why) one = called_once (PendedIn h why) p q one
+  called_at_once (Done b) (inr one) = called_once (DoneIn h) h p q may.on.rests one
+  called_at_once (Pending why) one = called_once (PendedIn h why) h p q may.on.rests one
 
   stepped_at_once : (next : Turn Bool) → MakesCall h p q f next → HasStepped p q
   stepped_at_once (Done b) (inl none) = absurd (not_local none.0)
@@ -243,7 +261,7 @@ module _ (h : HeapSeen) (text : ProgramText) (fuel quantum : ℕ) (p q r : PassS
         spent = omega (arith, going.spent, e);
         stepped = then_stepped p q r going.added did.stepped;
         polls = omega (arith, polls, going.polls);
-        state = (did.spent.1, called_then p q r (PendedIn h why) going.added did.called);
+        state = (did.spent.1, called_then p q r (PendedIn h why) h going.added did.called);
         stands = standing why did.stands;
       }
     where
@@ -275,8 +293,8 @@ module _ (h : HeapSeen) (text : ProgramText) (fuel quantum : ℕ) (p q r : PassS
     polled_enough : now ≤ polls_in stepped.steps + one_if p.known.requesting
     polled_enough = let polls = polls_now did.stepped in omega (arith, polls, going.polls, did.polls, one_more)
 
-    last : CalledLast (DoneIn h) p r
-    last = called_then p q r (DoneIn h) going.added did.called
+    last : CalledLast (DoneIn h) h p r
+    last = called_then p q r (DoneIn h) h going.added did.called
 
     pub gone_ended : has_ended g2 ≡ true → HasGone h text fuel quantum p r f g2 (record { instructions = now; state = Ended })
     gone_ended over =
@@ -371,8 +389,8 @@ module _ (h : HeapSeen) (text : ProgramText) (fuel : ℕ) (p q : PassSeen) (f : 
 
   -- A TURN behind its stop, from the pass before it
   module _ (before ready : PassSeen) (first : HasAdded before ready) where
-    last_call : (Is : PassSeen → PassSeen → Task → Type 0) → CalledLast Is ready p → LastCall Is h before q
-    last_call Is called = record { behind = p; called = called_then before ready p Is first called; still = set_still }
+    last_call : (Is : PassSeen → PassSeen → Task → Type 0) → CalledLast Is h ready p → LastCall Is h before q
+    last_call Is called = record { behind = p; called = called_then before ready p Is h first called; still = set_still }
 
     stopped_state : (quantum count : ℕ) (state : RunState) → IsGoneTo h quantum count ready p f state
         → IsState h quantum count before (runner_of q f fuel) state
@@ -429,8 +447,8 @@ module _ (h : HeapSeen) (text : ProgramText) (fuel : ℕ) (p q : PassSeen) (f : 
 -- A TURN whose resume was pending
 module _ (h : HeapSeen) (text : ProgramText) (fuel quantum : ℕ) (p q : PassSeen) (f : FrameSeen) (live : has_ended f ≡ false)
     (why : Why) (ready : IsReady h text fuel p q f (Pending why)) where
-  pub barred_moved : HasMoved h quantum (runner_of p f fuel) (runner_of q f fuel) (record { instructions = 0; state = Blocked why })
-  barred_moved =
+  pub barred_moved : Rests h p → HasMoved h quantum (runner_of p f fuel) (runner_of q f fuel) (record { instructions = 0; state = Blocked why })
+  barred_moved rests =
       record {
         most = omega arith;
         spent = omega arith;
@@ -445,7 +463,7 @@ module _ (h : HeapSeen) (text : ProgramText) (fuel quantum : ℕ) (p q : PassSee
           let call : MadeCall (PendedIn h why) p q = record { task = task.Resume; is = ready.stands.pended; stepped = ready.stands.stepped } in
           record {
             behind = q;
-            called = called_once (PendedIn h why) p q call;
+            called = called_once (PendedIn h why) h p q rests call;
             still = subst (λ b. IsSetStill b h q q) (sym ready.stands.stopped.runs) refl;
           }
 

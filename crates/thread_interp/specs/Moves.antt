@@ -5,6 +5,7 @@ use Rattle.core_world.specs.declared.task.Task.{Task}
 use Rattle.core_world.specs.declared.task.Task.TheVariants as task
 use Rattle.core_world.specs.Threads.Known.{Known, StepMade}
 use Rattle.core_world.specs.Threads.Stages.{one_if}
+use Rattle.heap_table.specs.Resting.{Rests}
 use Rattle.heap_table.specs.Seen.{HeapSeen, PassSeen}
 use Rattle.lock_runtime.specs.Standing.{IsAsking, IsStopped}
 use Rattle.thread_calls.specs.Advances.{DoneIn, PendedIn, HasStepped, MadeCall}
@@ -24,9 +25,10 @@ abbrev pub IsSetStill : Bool → HeapSeen → PassSeen → PassSeen → Type 0
 IsSetStill true h p q = DoneIn h p q task.Stop
 IsSetStill false h p q = q ≡ p
 
--- From the pass p to q the thread's last call was one of which this holds. It was begun behind all steps that the thread had made at p.
-pub record CalledLast (Is : PassSeen → PassSeen → Task → Type 0) (p q : PassSeen) : Type 0 where
+-- From the pass p to q the thread's last call was one of which this holds. It was begun at rest, behind all steps that the thread had made at p.
+pub record CalledLast (Is : PassSeen → PassSeen → Task → Type 0) (h : HeapSeen) (p q : PassSeen) : Type 0 where
   pub before : PassSeen
+  pub rests : Rests h before
   pub call : MadeCall Is before q
   pub earlier : List StepMade
   pub begun : before.known.steps ≡ earlier ++ p.known.steps
@@ -34,7 +36,7 @@ pub record CalledLast (Is : PassSeen → PassSeen → Task → Type 0) (p q : Pa
 -- a turn's last call, but for a stop behind it
 pub record LastCall (Is : PassSeen → PassSeen → Task → Type 0) (h : HeapSeen) (p q : PassSeen) : Type 0 where
   pub behind : PassSeen
-  pub called : CalledLast Is p behind
+  pub called : CalledLast Is h p behind
   pub still : IsSetStill behind.known.running h behind q
 
 -- A turn that is live did as many instructions as it might; it has ended exactly where the thread has. Its last call was done then, and it is blocked

@@ -47,7 +47,8 @@ impl Runner {
     /// exit of a thread that unwinds, it polls where it runs: as often as it does instructions at least, or once less where its request
     /// stood. The turn ends behind so many instructions, at the thread's end, or where a call that it began is pending, be that a poll or
     /// the resume; behind it the thread is stopped, or its request stands. It makes one step of the heap at least. Each call that takes a
-    /// moment gets the clock's time then, by `tick`: the time after some count of ticks, from 1 on.
+    /// moment gets the clock's time then, by `tick`: the time after some count of ticks, from 1 on. Where `tick` is 0, the clock is not
+    /// looked at.
     pub fn turn<C: Clock, G: Gate>(
         &mut self,
         program: &Program,

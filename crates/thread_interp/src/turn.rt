@@ -1,7 +1,7 @@
 //! Turns of a thread, and its checks.
 
 ghost use Rattle.std.specs.Prelude.{◌≡◌, ◌≤◌, ℕ, false};
-ghost use Rattle.thread_calls.specs.Advances.{MayAdvance};
+ghost use Rattle.thread_calls.specs.Advances.{MayAdvance, turn_of};
 ghost use Rattle.thread_calls.specs.Between.{IsHeapOf, IsOn};
 ghost use Rattle.thread_calls.specs.Timed.{StaysTimed};
 ghost use Rattle.thread_frame.specs.Frames.{has_ended};
@@ -12,12 +12,12 @@ ghost use Rattle.thread_interp.specs.Runners.{IsRunner};
 ghost use Rattle.thread_interp.specs.inner.Runners.{runner_of};
 
 use crate::moved::{Moved, RunState};
-use core_world::Turn;
+use core_world::{Turn, Why};
 use heap_table::{Heap, Pass};
 use lock_runtime::{check_stuck, poll, resume, stop};
 use object_program::Program;
 use run_io::Clock;
-use thread_calls::advance;
+use thread_calls::{Went, advance};
 use thread_frame::Frame;
 
 // Sets the thread running, unless its request for a safepoint stands.
@@ -39,7 +39,7 @@ fn set_running(
     resume(heap, pass)
 }
 
-// Polls where the thread runs, and then goes on by one instruction or entry.
+// Polls where the thread runs, and then goes on by one instruction or entry. The cause is written where that, or the poll, is pending.
 fn step<C: Clock>(
     program: &Program,
     heap: &Heap,
@@ -48,18 +48,21 @@ fn step<C: Clock>(
     fuel: u32,
     pass: &mut Pass,
     frame: &mut Frame,
-) -> Turn<bool>
+    cause: &mut Why,
+) -> Went
     requires heap { IsHeapOf heap.now program.now }
     requires may { MayAdvance heap.now program.now fuel pass.old frame.old }
-    ensures polled { HasPolled heap.now program.now fuel pass.old pass.new frame.old frame.new result }
+    ensures polled { HasPolled heap.now program.now fuel pass.old pass.new frame.old frame.new
+        (turn_of result cause.new) }
     ensures timed { StaysTimed tick pass.old pass.new }
 {
     if pass.running() {
         if let Turn::Pending(why) = poll(heap, pass) {
-            return Turn::Pending(why);
+            *cause = why;
+            return Went::Pending;
         }
     }
-    advance(program, heap, clock, tick, fuel, pass, frame)
+    advance(program, heap, clock, tick, fuel, pass, frame, cause)
 }
 
 // Goes on by at most so many instructions.
@@ -80,17 +83,17 @@ fn go_on<C: Clock>(
     ensures timed { StaysTimed tick pass.old pass.new }
 {
     let mut instructions = 0;
+    // what a call was pending for, once one is: until then it says nothing
+    let mut cause = Why::Halted;
     loop {
-        let done = match step(program, heap, clock, tick, fuel, pass, frame) {
-            Turn::Done(done) => done,
-            Turn::Pending(why) => {
-                return Moved {
-                    instructions,
-                    state: RunState::Blocked(why),
-                };
-            }
-        };
-        if done {
+        let went = step(program, heap, clock, tick, fuel, pass, frame, &mut cause);
+        if let Went::Pending = went {
+            return Moved {
+                instructions,
+                state: RunState::Blocked(cause),
+            };
+        }
+        if let Went::Done = went {
             instructions += 1;
         }
         if frame.has_ended() {

@@ -1,2 +1,6 @@
 pub mod Untouched
 pub mod Notified
+pub mod PlainStands
+pub mod Later
+pub mod Silent
+pub mod SilentThere

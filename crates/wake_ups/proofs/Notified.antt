@@ -13,7 +13,6 @@ use Rattle.mark_word.specs.declared.wait.WaitForm.TheVariants as wait
 use Rattle.core_world.specs.Valid.{IsValid, Valid}
 use Rattle.core_world.proofs.RefusedWorlds.{revoking_logs}
 use Rattle.core_world.proofs.LookWhileRevoking.{forgotten}
-use Rattle.core_law.specs.BiasLaw.{BiasLawHolds}
 use Rattle.core_law.specs.WholeLaw.{LawsHold, WhollyValid}
 use Rattle.core_law.specs.Logic.{Heap}
 use Rattle.core_law.specs.Reached.{Comes}

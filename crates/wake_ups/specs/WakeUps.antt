@@ -1,5 +1,8 @@
 -- What a world tells of those who were notified.
-use Rattle.std.specs.Prelude.{◌≡◌, ◌≢◌, ◌⊎◌, ℕ, true, List, Some}
+use Rattle.std.specs.Prelude.{◌≡◌, ◌≢◌, ◌⊎◌, ℕ, ◌+◌, ◌==◌, if◌then◌else◌, Bool, true, false, List, [], ◌∷◌, Some}
+use Rattle.plain_monitor.specs.declared.entry.Entry.{Entry}
+use Rattle.plain_monitor.specs.declared.entry.Entry.TheVariants as entry
+use Rattle.plain_monitor.specs.declared.entry.Logged.{Logged}
 use Rattle.plain_monitor.specs.Objects.{PlainObject}
 use Rattle.plain_monitor.specs.History.{objects_after}
 use Rattle.core_world.specs.declared.name.Name.TheVariants.{Waiting}
@@ -22,3 +25,12 @@ IsTold w t o =
 -- a thread other than t owns object o
 abbrev pub OwnedByAnother : List PlainObject → ℕ → ℕ → Type 0
 OwnedByAnother objects o t = (u : ℕ) × (u ≢ t) × (owner_at objects o u ≡ true)
+
+-- how often a log has a Resume of object o
+abbrev pub is_resume : ℕ → Entry → Bool
+is_resume o (entry.Resume object) = object == o
+is_resume o _ = false
+
+abbrev pub resumes_of : ℕ → List Logged → ℕ
+resumes_of o [] = 0
+resumes_of o (l ∷ log) = (if is_resume o l.entry then 1 else 0) + resumes_of o log

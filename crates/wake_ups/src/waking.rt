@@ -1,4 +1,4 @@
-//! The law of those who wait and of those who were notified, in each world to which a heap in the limits comes.
+//! The laws of those who wait and of those who were notified, in each world to which a heap in the limits comes.
 
 ghost use Rattle.std.specs.Prelude.{◌≡◌, ◌⊎◌, ℕ, true, List, Some};
 ghost use Rattle.plain_monitor.specs.Objects.{PlainObject};
@@ -9,9 +9,11 @@ ghost use Rattle.core_world.specs.Words.Forms.{waits_on, says_notified, is_halte
 ghost use Rattle.core_world.specs.Words.Shape.{IsInLimits};
 ghost use Rattle.core_world.specs.World.{World};
 ghost use Rattle.core_world.specs.Locks.{waits_at, notified_at};
+ghost use Rattle.core_world.specs.Threads.Known.{StepMade};
 ghost use Rattle.core_law.specs.Logic.{Heap};
 ghost use Rattle.core_law.specs.Reached.{Comes};
-ghost use Rattle.wake_ups.specs.WakeUps.{AreAfterLogs, IsTold, OwnedByAnother};
+ghost use Rattle.step_history.specs.Leads.{Leads};
+ghost use Rattle.wake_ups.specs.WakeUps.{AreAfterLogs, IsTold, OwnedByAnother, resumes_of};
 
 /// Let `objects` be the plain objects after the logs of a world to which a heap in the limits comes. A thread that is notified there, and
 /// hasn't resumed, is told so: its waiting word says Notified; or it has looked already, its waiting word is ready again, and it is at the
@@ -34,4 +36,15 @@ pub fn no_wake_up_is_lost()
     ensures halted { (heap : Heap) (w : World) (objects : List PlainObject) (t o : ℕ) → IsInLimits heap.shape
         → Comes heap w → AreAfterLogs w objects → is_halted (w.words Safepoint) ≡ true
         → is_listed (notified_at objects o) t ≡ true → OwnedByAnother objects o t }
+{}
+
+/// Who is notified stays so until its own Resume. Let a world to which a heap in the limits comes lead on to another one, by any steps of
+/// all threads. A thread that is notified in the first, and has logged no Resume of the object since, is notified in the second: no other
+/// thread's entry, and no entry of its own but that one, puts it back among those who wait or lets it be forgotten.
+pub fn who_is_notified_stays_so_until_its_resume()
+    ensures { (heap : Heap) (w v : World) (xs : List (ℕ × StepMade)) (objects after : List PlainObject) (t o : ℕ)
+        → IsInLimits heap.shape → Comes heap w → Leads w xs v → AreAfterLogs w objects → AreAfterLogs v after
+        → is_listed (notified_at objects o) t ≡ true
+        → resumes_of o (v.known t).log ≡ resumes_of o (w.known t).log
+        → is_listed (notified_at after o) t ≡ true }
 {}

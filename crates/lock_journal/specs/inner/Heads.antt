@@ -1,8 +1,9 @@
 -- Which entry a merge of the logs gives next.
-use Rattle.std.specs.Prelude.{◌≡◌, ◌≢◌, ℕ, ◌-◌, ◌^◌, ◌<◌, ◌≤◌, ◌||◌, ◌&&◌, ◌==◌, nat_lt, nat_le, if◌then◌else◌, IsTrue, List, slice_get, slice_index, Option, Some, None}
+use Rattle.std.specs.Prelude.{◌≡◌, ◌≢◌, ℕ, ◌-◌, ◌^◌, ◌<◌, ◌≤◌, ◌||◌, ◌&&◌, ◌==◌, nat_lt, nat_le, if◌then◌else◌, IsTrue, List, length, slice_get, slice_index, Option, Some, None}
 use Rattle.plain_monitor.specs.Limits.{most_threads}
 use Rattle.plain_monitor.specs.declared.entry.Logged.{Logged}
 use Rattle.plain_monitor.specs.History.{log_of}
+use Rattle.lock_journal.specs.declared.order.Ahead.{Ahead}
 
 -- the first entry that thread t has left
 abbrev pub head_of : List (List Logged) → List ℕ → ℕ → Option Logged
@@ -50,3 +51,18 @@ pub record IsFirstLeast (stamps : List ℕ) (n : ℕ) (x : ℕ × ℕ) : Type 0 
   pub at : x.1 < 2 ^ 64 - 1 → (x.0 < n) × (slice_index stamps x.0 ≡ x.1)
   pub least : (u : ℕ) → u < n → x.1 ≤ slice_index stamps u
   pub first : (u : ℕ) → u < x.0 → x.1 < slice_index stamps u
+
+-- none of the other stamps is below the limit
+pub record IsLimit (stamps : List ℕ) (leader limit : ℕ) : Type 0 where
+  pub within : leader < most_threads
+  pub others : (u : ℕ) → u < most_threads → u ≢ leader → limit ≤ slice_index stamps u
+
+-- what a merge for a loop holds is right for the logs
+pub record IsAhead (logs : List (List Logged)) (ahead : Ahead) : Type 0 where
+  pub held : HasStamps logs ahead.places ahead.stamps
+  pub limit : IsLimit ahead.stamps ahead.leader ahead.limit
+
+-- the least head, with a limit of the other stamps, and none where nothing is left
+abbrev pub IsFirstOf : List (List Logged) → List ℕ → List ℕ → Option ((ℕ × ℕ) × ℕ) → Type 0
+IsFirstOf logs places stamps None = IsLeastOf logs places (length logs) None
+IsFirstOf logs places stamps (Some x) = IsLeastHead logs places (length logs) x.0 × IsLimit stamps x.0.0 x.1

@@ -55,8 +55,8 @@ pub record IsReady (h : HeapSeen) (text : ProgramText) (fuel : ℕ) (p q : PassS
 
 -- A STEP OF A TURN: a poll where the thread runs, and then one instruction or entry. The pass and the frame were p and f, and are q and g.
 abbrev pub CalledBy : HeapSeen → PassSeen → PassSeen → Turn Bool → Type 0
-CalledBy h p q (Done b) = CalledLast (DoneIn h) p q
-CalledBy h p q (Pending why) = CalledLast (PendedIn h why) p q
+CalledBy h p q (Done b) = CalledLast (DoneIn h) h p q
+CalledBy h p q (Pending why) = CalledLast (PendedIn h why) h p q
 
 pub record HasPolled (h : HeapSeen) (text : ProgramText) (fuel : ℕ) (p q : PassSeen) (f g : FrameSeen)
     (turn : Turn Bool) : Type 0 where
@@ -82,9 +82,9 @@ pub record IsGoing (h : HeapSeen) (text : ProgramText) (fuel quantum : ℕ) (p q
 
 -- GONE ON. As `IsState`, and the thread wasn't stopped yet.
 abbrev pub IsGoneTo : HeapSeen → ℕ → ℕ → PassSeen → PassSeen → FrameSeen → RunState → Type 0
-IsGoneTo h quantum count p q g Live = (count ≡ quantum) × (has_ended g ≡ false) × CalledLast (DoneIn h) p q
-IsGoneTo h quantum count p q g (Blocked why) = (has_ended g ≡ false) × CalledLast (PendedIn h why) p q
-IsGoneTo h quantum count p q g Ended = (has_ended g ≡ true) × CalledLast (DoneIn h) p q
+IsGoneTo h quantum count p q g Live = (count ≡ quantum) × (has_ended g ≡ false) × CalledLast (DoneIn h) h p q
+IsGoneTo h quantum count p q g (Blocked why) = (has_ended g ≡ false) × CalledLast (PendedIn h why) h p q
+IsGoneTo h quantum count p q g Ended = (has_ended g ≡ true) × CalledLast (DoneIn h) h p q
 
 -- it runs, unless it is blocked for running threads: then its request stands
 abbrev pub StandsGone : Known → RunState → Type 0

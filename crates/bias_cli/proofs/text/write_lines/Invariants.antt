@@ -1,6 +1,5 @@
 use Rattle.std.proofs.Common.{◌≤◌, length}
-use Rattle.lock_journal.specs.RunText.{lines_of_run}
-use Rattle.lock_journal.specs.LinesLeft.{lines_left}
+use Rattle.bias_cli.specs.inner.Briefly.{left_by, lines_by}
 use Rattle.bias_cli.proofs.Texts.{WroteSoFar}
 use Rattle.bias_cli.proofs.text.write_lines.Given as goal
 
@@ -9,8 +8,8 @@ invariant-loop-lines g l =
     let sink = g.K.Sink in
     record {
       counted : sink.faults l.fn.sink ≤ sink.faults l.sink;
-      wrote : WroteSoFar (sink.held l.fn.sink) (sink.held l.sink) (lines_of_run l.stats l.journal l.run l.machine) (lines_left l.run l.machine l.lines);
+      wrote : WroteSoFar (sink.held l.fn.sink) (sink.held l.sink) (lines_by l.stats l.journal l.run l.machine) (left_by l.run l.machine l.lines);
     }
 
 abbrev pub decreases-loop-lines : goal.decreases-loop-lines
-decreases-loop-lines g l = length (lines_left l.run l.machine l.lines)
+decreases-loop-lines g l = length (left_by l.run l.machine l.lines)

@@ -12,8 +12,8 @@ use Rattle.heap_table.proofs.Ruled.{few_objects}
 use Rattle.bias_lock.specs.inner.Parts.{marked_exit}
 use Rattle.bias_lock.proofs.exits.bias_exit.Goals as goal
 
-pub top_place-place-requires-clause-object : goal.top_place-place-requires-clause-object
-top_place-place-requires-clause-object c =
+pub place_at_depth-place-requires-clause-object : goal.place_at_depth-place-requires-clause-object
+place_at_depth-place-requires-clause-object c =
     let few = few_objects c.args.heap.now c.args.pass.now c.requires.heap in omega (arith, few, c.requires.object)
 
 pub raise-requires-clause-due : goal.raise-requires-clause-due
@@ -40,7 +40,7 @@ leave_marked-requires-clause-due c =
 
 pub leave_marked-requires-clause-place : goal.leave_marked-requires-clause-place
 leave_marked-requires-clause-place c =
-    c.top_place-place.ensures.place ∙ ap (λ (l : Local). top_place c.args.object l.holds) (sym c.raise.ensures.kept)
+    c.place_at_depth-place.ensures.place ∙ ap (λ (l : Local). top_place c.args.object l.holds) (sym c.raise.ensures.kept)
 
 pub returns-clause-run : goal.returns-clause-run
 returns-clause-run c =

@@ -1,4 +1,4 @@
-use Rattle.std.proofs.Common.{◌≡◌, ◌==◌, true, false, Ok, refl, sym, ap, ◌∙◌, subst, eq-eqb, ne_eqb}
+use Rattle.std.proofs.Common.{◌≡◌, ◌==◌, true, false, Ok, refl, sym, ◌∙◌, subst}
 use Rattle.plain_monitor.specs.Limits.{most_holds}
 use Rattle.core_world.specs.declared.task.Task.TheVariants.{Enter}
 use Rattle.core_world.specs.Trees.Calls.{steps_of}
@@ -13,16 +13,16 @@ use Rattle.lock_runtime.proofs.Enters.{refused, placed, entered, first_to_enter}
 use Rattle.lock_runtime.proofs.StandsCalls.{enter_leaves}
 use Rattle.lock_runtime.proofs.entering.enter.Goals as goal
 
-pub returns-then-free_place-eq-HOLDS-clause-run : goal.returns-then-free_place-eq-HOLDS-clause-run
-returns-then-free_place-eq-HOLDS-clause-run c =
-    let full : (free_place c.args.pass.now.known.holds == most_holds) ≡ true = eq-eqb _ _ (sym c.free_place.ensures.place ∙ c.if-free_place-eq-HOLDS.true) in
+pub returns-then-is_full-clause-run : goal.returns-then-is_full-clause-run
+returns-then-is_full-clause-run c =
+    let full : (free_place c.args.pass.now.known.holds == most_holds) ≡ true = sym c.is_full.ensures ∙ c.if-is_full.true in
     refused c.args.heap.now c.args.pass.now c.args.object c.args.now c.requires.call full
 
-pub returns-then-free_place-eq-HOLDS-clause-says : goal.returns-then-free_place-eq-HOLDS-clause-says
-returns-then-free_place-eq-HOLDS-clause-says c =
+pub returns-then-is_full-clause-says : goal.returns-then-is_full-clause-says
+returns-then-is_full-clause-says c =
     let h = c.args.heap.now in
     let p = c.args.pass.now in
-    let full : (free_place p.known.holds == most_holds) ≡ true = eq-eqb _ _ (sym c.free_place.ensures.place ∙ c.if-free_place-eq-HOLDS.true) in
+    let full : (free_place p.known.holds == most_holds) ≡ true = sym c.is_full.ensures ∙ c.if-is_full.true in
     tells (enter_says h.heap.shape (start_now h p) c.args.object c.args.now) (refused h p c.args.object c.args.now c.requires.call full).ran
 
 pub enter_placed-requires-clause-due : goal.enter_placed-requires-clause-due
@@ -30,7 +30,7 @@ enter_placed-requires-clause-due c =
     let a = c.args in
     let h = a.heap.now in
     let p = a.pass.now in
-    let place : (free_place p.known.holds == most_holds) ≡ false = ap (λ n. n == most_holds) (sym c.free_place.ensures.place) ∙ ne_eqb _ _ c.if-free_place-eq-HOLDS.false in
+    let place : (free_place p.known.holds == most_holds) ≡ false = sym c.is_full.ensures ∙ c.if-is_full.false in
     subst (λ (x : Purpose). IsDueOn h p x.task (enter_going h.heap.shape x (start_now h p) (record { object = a.object; rebias = true; now = a.now }))) (sym c.unfinished-why.ensures)
     (placed h p a.object a.now c.requires.call place)
 
@@ -40,7 +40,7 @@ returns-clause-run c =
     let h = a.heap.now in
     let p = a.pass.now in
     let q = c.enter_placed.new.pass in
-    let place : (free_place p.known.holds == most_holds) ≡ false = ap (λ n. n == most_holds) (sym c.free_place.ensures.place) ∙ ne_eqb _ _ c.if-free_place-eq-HOLDS.false in
+    let place : (free_place p.known.holds == most_holds) ≡ false = sym c.is_full.ensures ∙ c.if-is_full.false in
     let run = subst (λ (x : Purpose). HasRun h (enter_going h.heap.shape x (start_now h p) (record { object = a.object; rebias = true; now = a.now })) p q c.enter_placed.result) c.unfinished-why.ensures c.enter_placed.ensures in
     entered h p a.object a.now c.requires.call place q c.enter_placed.result run
 
@@ -51,7 +51,7 @@ returns-clause-rests c =
     let h = a.heap.now in
     let p = a.pass.now in
     let q = c.enter_placed.new.pass in
-    let place : (free_place p.known.holds == most_holds) ≡ false = ap (λ n. n == most_holds) (sym c.free_place.ensures.place) ∙ ne_eqb _ _ c.if-free_place-eq-HOLDS.false in
+    let place : (free_place p.known.holds == most_holds) ≡ false = sym c.is_full.ensures ∙ c.if-is_full.false in
     let run = subst (λ (x : Purpose). HasRun h (enter_going h.heap.shape x (start_now h p) (record { object = a.object; rebias = true; now = a.now })) p q c.enter_placed.result) c.unfinished-why.ensures c.enter_placed.ensures in
     behind h p (Enter a.object a.now) c.requires.call (enter_steps h.heap.shape (start_now h p) a.object a.now) refl (first_to_enter h.heap.shape (start_now h p) a.object a.now) q (Ok c.enter_placed.result)
     (entered h p a.object a.now c.requires.call place q c.enter_placed.result run)
@@ -62,7 +62,7 @@ returns-clause-says c =
     let h = a.heap.now in
     let p = a.pass.now in
     let q = c.enter_placed.new.pass in
-    let place : (free_place p.known.holds == most_holds) ≡ false = ap (λ n. n == most_holds) (sym c.free_place.ensures.place) ∙ ne_eqb _ _ c.if-free_place-eq-HOLDS.false in
+    let place : (free_place p.known.holds == most_holds) ≡ false = sym c.is_full.ensures ∙ c.if-is_full.false in
     let run = subst (λ (x : Purpose). HasRun h (enter_going h.heap.shape x (start_now h p) (record { object = a.object; rebias = true; now = a.now })) p q c.enter_placed.result) c.unfinished-why.ensures c.enter_placed.ensures in
     tells (enter_says h.heap.shape (start_now h p) a.object a.now) (entered h p a.object a.now c.requires.call place q c.enter_placed.result run).ran
 

@@ -1,81 +1,11 @@
-use Rattle.std.proofs.Common.{◌≡◌, ◌==◌, false, Ok, refl, sym, ap, ◌∙◌, subst, ne_eqb}
-use Rattle.core_world.specs.declared.task.Task.TheVariants.{Exit}
-use Rattle.core_world.specs.declared.task.Op.TheVariants as op
-use Rattle.core_world.specs.Locks.{hold_count}
-use Rattle.core_world.specs.Threads.Known.{local_of}
-use Rattle.core_world.specs.Trees.Calls.{steps_of}
-use Rattle.core_world.specs.Trees.Operations.{exit_going, exit_steps}
-use Rattle.core_world.specs.Trees.Plans.{Purpose, purpose}
-use Rattle.core_calls.proofs.EntersSay.{exit_says}
-use Rattle.core_calls.proofs.Runs.{tells}
-use Rattle.heap_table.specs.Parts.{IsDueOn, HasRun}
-use Rattle.heap_table.specs.Resting.{start_now}
-use Rattle.heap_table.proofs.Resting.{whole_due, behind}
-use Rattle.lock_runtime.proofs.Behind.{going_due, going_run, going_first}
-use Rattle.lock_runtime.proofs.LeftNothing.{first_to_exit}
-use Rattle.lock_runtime.proofs.StandsCalls.{exit_leaves}
+use Rattle.std.proofs.Common.{◌==◌, sym, ap, ◌∙◌, ne_eqb}
 use Rattle.lock_runtime.proofs.Refused.{unheld, held}
 use Rattle.lock_runtime.proofs.leaving.exit.Goals as goal
 
-pub leave_held-requires-clause-due : goal.leave_held-requires-clause-due
-unfolding steps_of
-leave_held-requires-clause-due c =
+pub exit_held-requires-clause-held : goal.exit_held-requires-clause-held
+exit_held-requires-clause-held c =
     let a = c.args in
-    let h = a.heap.now in
-    let p = a.pass.now in
-    let e = purpose (Exit a.object) op.Exit a.object in
-    let l = local_of p.known in
-    let no : (hold_count a.object p.known.holds == 0) ≡ false = ap (λ n. n == 0) (sym c.held.ensures.held) ∙ ne_eqb _ _ c.if-held-eq0.false in
-    let due = whole_due h p (Exit a.object) c.requires.call (exit_steps (start_now h p) a.object) refl in
-    subst (λ (x : Purpose). IsDueOn h p x.task (exit_going x l a.object)) (sym c.unfinished-why.ensures)
-    (going_due h p (hold_count a.object p.known.holds == 0) (record {}) (exit_going e l a.object) no (Exit a.object) due)
-
-pub returns-clause-run : goal.returns-clause-run
-returns-clause-run c =
-    let a = c.args in
-    let h = a.heap.now in
-    let p = a.pass.now in
-    let q = c.leave_held.new.pass in
-    let e = purpose (Exit a.object) op.Exit a.object in
-    let l = local_of p.known in
-    let no : (hold_count a.object p.known.holds == 0) ≡ false = ap (λ n. n == 0) (sym c.held.ensures.held) ∙ ne_eqb _ _ c.if-held-eq0.false in
-    let run = subst (λ (x : Purpose). HasRun h (exit_going x l a.object) p q c.leave_held.result) c.unfinished-why.ensures c.leave_held.ensures in
-    going_run h p (hold_count a.object p.known.holds == 0) (record {}) (exit_going e l a.object) no q c.leave_held.result run
-
-pub returns-clause-rests : goal.returns-clause-rests
-unfolding steps_of
-returns-clause-rests c =
-    let a = c.args in
-    let h = a.heap.now in
-    let p = a.pass.now in
-    let q = c.leave_held.new.pass in
-    let e = purpose (Exit a.object) op.Exit a.object in
-    let l = local_of p.known in
-    let none = hold_count a.object p.known.holds == 0 in
-    let no : none ≡ false = ap (λ n. n == 0) (sym c.held.ensures.held) ∙ ne_eqb _ _ c.if-held-eq0.false in
-    let run = subst (λ (x : Purpose). HasRun h (exit_going x l a.object) p q c.leave_held.result) c.unfinished-why.ensures c.leave_held.ensures in
-    behind h p (Exit a.object) c.requires.call (exit_steps (start_now h p) a.object) refl
-    (going_first (Exit a.object) none (record {}) (exit_going e l a.object) (first_to_exit e l a.object)) q (Ok c.leave_held.result)
-    (going_run h p none (record {}) (exit_going e l a.object) no q c.leave_held.result run)
-
-pub returns-clause-says : goal.returns-clause-says
-returns-clause-says c =
-    let a = c.args in
-    let h = a.heap.now in
-    let p = a.pass.now in
-    let q = c.leave_held.new.pass in
-    let e = purpose (Exit a.object) op.Exit a.object in
-    let l = local_of p.known in
-    let none = hold_count a.object p.known.holds == 0 in
-    let no : none ≡ false = ap (λ n. n == 0) (sym c.held.ensures.held) ∙ ne_eqb _ _ c.if-held-eq0.false in
-    let run = subst (λ (x : Purpose). HasRun h (exit_going x l a.object) p q c.leave_held.result) c.unfinished-why.ensures c.leave_held.ensures in
-    tells (exit_says (start_now h p) a.object) (going_run h p none (record {}) (exit_going e l a.object) no q c.leave_held.result run).ran
-
-pub returns-clause-stands : goal.returns-clause-stands
-returns-clause-stands c =
-    let a = c.args in
-    let run = returns-clause-run c in
-    (exit_leaves a.heap.now a.pass.now c.leave_held.new.pass run.heap c.requires.call.rests a.object (Ok c.leave_held.result) c.requires.call.may run.ran).0
+    held a.heap.now a.pass.now c.requires.call.rests a.object (ap (λ n. n == 0) (sym c.held.ensures.held) ∙ ne_eqb _ _ c.if-held-eq0.false)
 
 pub returns-then-held-eq0-clause-owner : goal.returns-then-held-eq0-clause-owner
 returns-then-held-eq0-clause-owner c =

@@ -18,7 +18,7 @@ overflow_add-stamp c =
     let e = a.why.now in
     let k = a.pass.now.known in
     let plan = raise_stamp_plan e a.object (next_stamp (local_of k)) in
-    let one : (hold_count a.object k.holds == 1) ≡ true = eq-eqb _ _ (sym c.held.ensures.held ∙ c.if-held-eq1.true) in
+    let one : (hold_count a.object k.holds == 1) ≡ true = eq-eqb _ _ (sym c.requires.depth ∙ c.if-depth-eq1.true) in
     let due = due_then a.heap.now a.pass.now (hold_count a.object k.holds == 1) (step plan (λ n. done tt)) (done tt) e.task c.requires.due one in
     let room = stamp_room a.heap.now a.pass.now e a.object (next_stamp (local_of k)) (λ n. done tt) c.requires.heap due in
     let is = c.last_stamp-stamp.ensures in
@@ -30,7 +30,7 @@ raise-requires c =
     let e = a.why.now in
     let k = a.pass.now.known in
     let plan = raise_stamp_plan e a.object (next_stamp (local_of k)) in
-    let one : (hold_count a.object k.holds == 1) ≡ true = eq-eqb _ _ (sym c.held.ensures.held ∙ c.if-held-eq1.true) in
+    let one : (hold_count a.object k.holds == 1) ≡ true = eq-eqb _ _ (sym c.requires.depth ∙ c.if-depth-eq1.true) in
     let due = due_then a.heap.now a.pass.now (hold_count a.object k.holds == 1) (step plan (λ n. done tt)) (done tt) e.task c.requires.due one in
     let same = ap (λ w. quiet_plan e (Stamp a.object) (Raise (w + 1))) c.last_stamp-stamp.ensures in
     subst (CanStep a.heap.now a.pass.now) (sym same) (can a.heap.now a.pass.now e.task plan (λ n. done tt) due refl c.requires.heap tt refl)
@@ -41,6 +41,6 @@ returns-clause-run c =
     let a = c.args in
     let k = a.pass.now.known in
     let plan = raise_stamp_plan a.why.now a.object (next_stamp (local_of k)) in
-    let other : (hold_count a.object k.holds == 1) ≡ false = ne_eqb _ _ (λ one. c.if-held-eq1.false (c.held.ensures.held ∙ one)) in
+    let other : (hold_count a.object k.holds == 1) ≡ false = ne_eqb _ _ (λ one. c.if-depth-eq1.false (c.requires.depth ∙ one)) in
     run_else a.heap.now a.pass.now (hold_count a.object k.holds == 1) (step plan (λ n. done tt)) (done tt) a.pass.now tt other
     (ends a.heap.now a.pass.now tt c.requires.heap)

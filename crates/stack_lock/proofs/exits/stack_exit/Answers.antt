@@ -11,8 +11,8 @@ use Rattle.heap_table.proofs.Arms.{after_choice}
 use Rattle.heap_table.proofs.Ruled.{few_objects}
 use Rattle.stack_lock.proofs.exits.stack_exit.Goals as goal
 
-pub top_place-place-requires-clause-object : goal.top_place-place-requires-clause-object
-top_place-place-requires-clause-object c = let few = few_objects c.args.heap.now c.args.pass.now c.requires.heap in omega (arith, few, c.requires.object)
+pub place_at_depth-place-requires-clause-object : goal.place_at_depth-place-requires-clause-object
+place_at_depth-place-requires-clause-object c = let few = few_objects c.args.heap.now c.args.pass.now c.requires.heap in omega (arith, few, c.requires.object)
 
 pub raise-requires-clause-due : goal.raise-requires-clause-due
 raise-requires-clause-due c =
@@ -33,7 +33,7 @@ leave_record-requires-clause-due c =
     subst (λ (l : Local). IsDueOn h q e.task (stack_exit_record e l a.object)) (sym c.raise.ensures.kept) rest
 
 pub leave_record-requires-clause-place : goal.leave_record-requires-clause-place
-leave_record-requires-clause-place c = c.top_place-place.ensures.place ∙ ap (λ (l : Local). top_place c.args.object l.holds) (sym c.raise.ensures.kept)
+leave_record-requires-clause-place c = c.place_at_depth-place.ensures.place ∙ ap (λ (l : Local). top_place c.args.object l.holds) (sym c.raise.ensures.kept)
 
 pub returns : goal.returns
 returns c =

@@ -26,7 +26,7 @@ wait-requires g c =
     let asks = asks_resume a.heap.now a.program.now a.fuel a.pass.now a.frame.now r.heap r.may a.object r.at in
     let s = state_by a.heap.now a.program.now a.pass.now a.frame.now in
     let there = (asked_of a.program.now s (Resumes a.object) (thread_is a.heap.now a.program.now a.fuel a.pass.now a.frame.now r.heap r.may) asks).there in
-    may_wait a.heap.now a.program.now a.fuel a.pass.now a.frame.now r.heap r.may (Resumes a.object) (entry.Resume a.object) a.object c.moment.result asks
+    may_wait a.heap.now a.program.now a.fuel a.pass.now a.frame.now r.heap r.may (Resumes a.object) (entry.Resume a.object) a.object c.time_now.result asks
     (eq-eqb a.object a.object refl) refl refl there
 
 pub unreachable-requires : goal.unreachable-requires
@@ -53,7 +53,7 @@ returns-in-Done-clause-advanced g c =
     let q = c.wait.new.pass in
     let e = c.in-Ok.ensures in
     subst (λ f. HasAdvanced a.heap.now a.program.now a.fuel a.pass.now q a.frame.now f (Done true)) (sym c.follow.ensures)
-    (resume_done a.heap.now a.program.now a.fuel a.pass.now a.frame.now r.heap r.may a.object c.moment.result q (came e.rests e.run) c.in-Ok.turn
+    (resume_done a.heap.now a.program.now a.fuel a.pass.now a.frame.now r.heap r.may a.object c.time_now.result q (came e.rests e.run) c.in-Ok.turn
     e.says e.stands e.run.ran c.in-Done.field-0 r.at c.in-Done.is)
 
 pub returns-in-Pending-clause-advanced : goal.returns-in-Pending-clause-advanced
@@ -62,7 +62,7 @@ returns-in-Pending-clause-advanced g c =
     let r = c.requires in
     let q = c.wait.new.pass in
     let e = c.in-Ok.ensures in
-    resume_left a.heap.now a.program.now a.fuel a.pass.now a.frame.now r.heap r.may a.object c.moment.result q (came e.rests e.run) c.in-Ok.turn
+    resume_left a.heap.now a.program.now a.fuel a.pass.now a.frame.now r.heap r.may a.object c.time_now.result q (came e.rests e.run) c.in-Ok.turn
     e.says e.stands e.run.ran c.in-Pending.why r.at c.in-Pending.is
 
 pub returns-in-Done-clause-timed : goal.returns-in-Done-clause-timed
@@ -71,8 +71,8 @@ returns-in-Done-clause-timed g c =
     let h = a.heap.now in
     let k = a.pass.now in
     let q = c.wait.new.pass in
-    let now = c.moment.result in
-    timed_at a.tick (task.Wait a.object now) k.known q.known now c.now.result refl c.moment.ensures
+    let now = c.time_now.result in
+    timed_at a.tick (task.Wait a.object now) k.known q.known now refl c.time_now.ensures
     (called (wait_named h.heap.shape (start_now h k) a.object now) c.in-Ok.ensures.run.ran)
 
 pub returns-in-Pending-clause-timed : goal.returns-in-Pending-clause-timed
@@ -81,6 +81,6 @@ returns-in-Pending-clause-timed g c =
     let h = a.heap.now in
     let k = a.pass.now in
     let q = c.wait.new.pass in
-    let now = c.moment.result in
-    timed_at a.tick (task.Wait a.object now) k.known q.known now c.now.result refl c.moment.ensures
+    let now = c.time_now.result in
+    timed_at a.tick (task.Wait a.object now) k.known q.known now refl c.time_now.ensures
     (called (wait_named h.heap.shape (start_now h k) a.object now) c.in-Ok.ensures.run.ran)

@@ -1,4 +1,4 @@
-use Rattle.std.proofs.Common.{◌≡◌, eq-eqb, Ok, refl, subst, arith}
+use Rattle.std.proofs.Common.{◌≡◌, eq-eqb, Ok, refl, subst}
 use Rattle.core_world.specs.declared.answer.Turn.TheVariants.{Done, Pending}
 use Rattle.core_world.specs.declared.task.Op.TheVariants as op
 use Rattle.core_world.specs.declared.task.Task.TheVariants as task
@@ -13,23 +13,20 @@ use Rattle.core_calls.proofs.Called.{called}
 use Rattle.core_calls.proofs.NamedCalls.{exit_named}
 use Rattle.thread_calls.proofs.makes.exit.Goals as goal
 
-pub unreachable-requires : goal.unreachable-requires
-unreachable-requires c = let none = c.in-Err.ensures.owner in let one = c.requires.holds in absurd (omega (arith, none, one))
-
 pub returns-in-Done-clause-made : goal.returns-in-Done-clause-made
 returns-in-Done-clause-made c =
     let a = c.args in
     let h = a.heap.now in
     let k = a.pass.now in
-    let q = c.exit.new.pass in
-    let e = c.in-Ok.ensures in
+    let q = c.exit_held.new.pass in
+    let e = c.exit_held.ensures in
     let x = c.in-Done.field-0 in
     let entry = entry.Exit a.object in
-    let is : c.in-Ok.turn ≡ Done x = c.in-Done.is in
+    let is : c.exit_held.result ≡ Done x = c.in-Done.is in
     let ran = subst (λ z. RanFrom h (exit_steps (start_now h k) a.object) k q (Ok z)) is e.run.ran in
     record {
       logged = entry;
-      is = turn_done h k q (came e.rests e.run) (λ ms z. ExitSays (start_now h k) a.object ms (Ok z)) c.in-Ok.turn
+      is = turn_done h k q (came e.rests e.run) (λ ms z. ExitSays (start_now h k) a.object ms (Ok z)) c.exit_held.result
           e.says e.stands x entry is (λ ms z. z.1) (task.Exit a.object) ran;
       of = record { is = eq-eqb _ _ refl; value = tt };
       same = λ f. refl;
@@ -40,12 +37,12 @@ returns-in-Pending-clause-made c =
     let a = c.args in
     let h = a.heap.now in
     let k = a.pass.now in
-    let q = c.exit.new.pass in
-    let e = c.in-Ok.ensures in
+    let q = c.exit_held.new.pass in
+    let e = c.exit_held.ensures in
     let why = c.in-Pending.why in
-    let is : c.in-Ok.turn ≡ Pending why = c.in-Pending.is in
+    let is : c.exit_held.result ≡ Pending why = c.in-Pending.is in
     let ran = subst (λ z. RanFrom h (exit_steps (start_now h k) a.object) k q (Ok (z))) is e.run.ran in (
-      turn_left h k q (came e.rests e.run) (λ ms z. ExitSays (start_now h k) a.object ms (Ok z)) c.in-Ok.turn
+      turn_left h k q (came e.rests e.run) (λ ms z. ExitSays (start_now h k) a.object ms (Ok z)) c.exit_held.result
           e.says e.stands (unfinished_on op.Exit a.object) why is (λ ms z. z.1.0)
           (λ ms z. cause_some k.known.thread a.object why ms z.1.1.cause) (task.Exit a.object) ran,
       refl,
@@ -56,11 +53,11 @@ returns-in-Done-clause-called c =
     let a = c.args in
     let h = a.heap.now in
     let k = a.pass.now in
-    called (exit_named (start_now h k) a.object) c.in-Ok.ensures.run.ran
+    called (exit_named (start_now h k) a.object) c.exit_held.ensures.run.ran
 
 pub returns-in-Pending-clause-called : goal.returns-in-Pending-clause-called
 returns-in-Pending-clause-called c =
     let a = c.args in
     let h = a.heap.now in
     let k = a.pass.now in
-    called (exit_named (start_now h k) a.object) c.in-Ok.ensures.run.ran
+    called (exit_named (start_now h k) a.object) c.exit_held.ensures.run.ran

@@ -5,39 +5,39 @@ use Rattle.thread_calls.proofs.OnTime.{timed_at, timed_still}
 use Rattle.thread_calls.proofs.makes.make.Goals as goal
 
 pub enter-requires-clause-may : goal.enter-requires-clause-may
-enter-requires-clause-may g c = (subst (MayMake c.args.heap.now c.args.pass.now) c.in-Enter.is c.requires).0 c.moment.result
+enter-requires-clause-may g c = (subst (MayMake c.args.heap.now c.args.pass.now) c.in-Enter.is c.requires).0 c.time_now.result
 
 pub notify-requires-clause-may : goal.notify-requires-clause-may
-notify-requires-clause-may g c = (subst (MayMake c.args.heap.now c.args.pass.now) c.in-Notify.is c.requires).0 c.moment-in-Notify.result
+notify-requires-clause-may g c = (subst (MayMake c.args.heap.now c.args.pass.now) c.in-Notify.is c.requires).0 c.time_now-in-Notify.result
 
 pub notify_all-requires-clause-may : goal.notify_all-requires-clause-may
-notify_all-requires-clause-may g c = (subst (MayMake c.args.heap.now c.args.pass.now) c.in-NotifyAll.is c.requires).0 c.moment-in-NotifyAll.result
+notify_all-requires-clause-may g c = (subst (MayMake c.args.heap.now c.args.pass.now) c.in-NotifyAll.is c.requires).0 c.time_now-in-NotifyAll.result
 
 pub hash-requires : goal.hash-requires
-hash-requires g c = record { may = subst (MayMake c.args.heap.now c.args.pass.now) c.in-Hash.is c.requires c.moment-in-Hash.result }
+hash-requires g c = record { may = subst (MayMake c.args.heap.now c.args.pass.now) c.in-Hash.is c.requires c.time_now-in-Hash.result }
 
 pub returns-in-Enter-clause-timed : goal.returns-in-Enter-clause-timed
 returns-in-Enter-clause-timed g c =
-    let now = c.moment.result in
-    timed_at c.args.tick (task.Enter c.in-Enter.object now) c.args.pass.now.known c.enter.new.pass.known now c.now.result refl c.moment.ensures
+    let now = c.time_now.result in
+    timed_at c.args.tick (task.Enter c.in-Enter.object now) c.args.pass.now.known c.enter.new.pass.known now refl c.time_now.ensures
     c.enter.ensures.called
 
 pub returns-in-Notify-clause-timed : goal.returns-in-Notify-clause-timed
 returns-in-Notify-clause-timed g c =
-    let now = c.moment-in-Notify.result in
-    timed_at c.args.tick (task.Notify c.in-Notify.object now) c.args.pass.now.known c.notify.new.pass.known now c.now-in-Notify.result refl c.moment-in-Notify.ensures
+    let now = c.time_now-in-Notify.result in
+    timed_at c.args.tick (task.Notify c.in-Notify.object now) c.args.pass.now.known c.notify.new.pass.known now refl c.time_now-in-Notify.ensures
     c.notify.ensures.called
 
 pub returns-in-NotifyAll-clause-timed : goal.returns-in-NotifyAll-clause-timed
 returns-in-NotifyAll-clause-timed g c =
-    let now = c.moment-in-NotifyAll.result in
-    timed_at c.args.tick (task.NotifyAll c.in-NotifyAll.object now) c.args.pass.now.known c.notify_all.new.pass.known now c.now-in-NotifyAll.result refl c.moment-in-NotifyAll.ensures
+    let now = c.time_now-in-NotifyAll.result in
+    timed_at c.args.tick (task.NotifyAll c.in-NotifyAll.object now) c.args.pass.now.known c.notify_all.new.pass.known now refl c.time_now-in-NotifyAll.ensures
     c.notify_all.ensures.called
 
 pub returns-in-Hash-clause-timed : goal.returns-in-Hash-clause-timed
 returns-in-Hash-clause-timed g c =
-    let now = c.moment-in-Hash.result in
-    timed_at c.args.tick (task.Hash c.in-Hash.object now) c.args.pass.now.known c.hash.new.pass.known now c.now-in-Hash.result refl c.moment-in-Hash.ensures
+    let now = c.time_now-in-Hash.result in
+    timed_at c.args.tick (task.Hash c.in-Hash.object now) c.args.pass.now.known c.hash.new.pass.known now refl c.time_now-in-Hash.ensures
     c.hash.ensures.called
 
 pub returns-in-Exit-clause-timed : goal.returns-in-Exit-clause-timed

@@ -1,4 +1,4 @@
-use Rattle.std.proofs.Common.{eq-eqb, refl, arith}
+use Rattle.std.proofs.Common.{eq-eqb, refl}
 use Rattle.std.proofs.lemmas.Bool.{and_from}
 use Rattle.core_world.specs.declared.task.Task.TheVariants as task
 use Rattle.plain_monitor.specs.declared.entry.Entry.TheVariants as entry
@@ -9,16 +9,13 @@ use Rattle.core_calls.proofs.Called.{called}
 use Rattle.core_calls.proofs.NamedCalls.{put_named}
 use Rattle.thread_calls.proofs.makes.put.Goals as goal
 
-pub unreachable-requires : goal.unreachable-requires
-unreachable-requires c = let none = c.in-Err.ensures.owner in let one = c.requires.holds in absurd (omega (arith, none, one))
-
 pub returns-clause-made : goal.returns-clause-made
 returns-clause-made c =
     let a = c.args in
     let h = a.heap.now in
     let k = a.pass.now in
-    let q = c.put.new.pass in
-    let e = c.in-Ok.ensures in
+    let q = c.put_held.new.pass in
+    let e = c.put_held.ensures in
     let entry = entry.Put a.object a.slot a.value in
     record {
       logged = entry;
@@ -33,4 +30,4 @@ returns-clause-called c =
     let a = c.args in
     let h = a.heap.now in
     let k = a.pass.now in
-    called (put_named (start_now h k) a.object a.slot a.value) c.in-Ok.ensures.run.ran
+    called (put_named (start_now h k) a.object a.slot a.value) c.put_held.ensures.run.ran

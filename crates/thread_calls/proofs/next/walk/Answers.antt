@@ -1,12 +1,12 @@
-use Rattle.std.proofs.Common.{◌≡◌, length, sym, ap, ◌∙◌, subst}
+use Rattle.std.proofs.Common.{◌≡◌, length, refl, sym, ap, ◌∙◌, subst}
 use Rattle.core_world.specs.Words.Shape.{Shape}
-use Rattle.thread_frame.specs.Frames.{next_state}
+use Rattle.thread_frame.specs.Frames.{FrameSeen, before_call, next_state}
 use Rattle.thread_frame.specs.Sights.{AreOf, counts_from}
 use Rattle.thread_calls.proofs.Walked.{are_of, is_within, ran, spent, arrived, from_there}
 use Rattle.thread_calls.proofs.next.walk.Goals as goal
 
 pub walk-requires : goal.walk-requires
-walk-requires g c =
+walk-requires c =
     let a = c.args in
     let r = c.requires in
     let many = c.objects.ensures ∙ ap (λ (s : Shape). length s.objects) c.shape.ensures in
@@ -16,43 +16,37 @@ walk-requires g c =
       holds = subst (λ n. AreOf n a.pass.now.known.holds) (sym many) (are_of a.heap.now a.program.now a.fuel a.pass.now a.frame.now r.heap r.may);
     }
 
-pub returns-in-Ran-clause-advanced : goal.returns-in-Ran-clause-advanced
-returns-in-Ran-clause-advanced g c =
+pub returns-in-Ran : goal.returns-in-Ran
+returns-in-Ran c =
     let a = c.args in
     let r = c.requires in
-    let f = c.walk.new.self in
     let many = c.objects.ensures ∙ ap (λ (s : Shape). length s.objects) c.shape.ensures in
-    let leads = subst (λ n. next_state a.program.now a.pass.now.known.thread (counts_from 0 n a.pass.now.known.holds) f
-    ≡ next_state a.program.now a.pass.now.known.thread (counts_from 0 n a.pass.now.known.holds) a.frame.now) many c.walk.ensures.leads in
+    let f = c.walk.new.self in
+    let leads = subst (λ n. next_state a.program.now a.pass.now.known.thread (counts_from 0 n a.pass.now.known.holds) (f)
+    ≡ next_state a.program.now a.pass.now.known.thread (counts_from 0 n a.pass.now.known.holds) a.frame.now) many c.in-Ran.ensures.leads in
     ran a.heap.now a.program.now a.fuel a.pass.now a.frame.now r.heap r.may r.local f leads c.in-Ran.ensures.walked
 
-pub returns-in-Spent-clause-advanced : goal.returns-in-Spent-clause-advanced
-returns-in-Spent-clause-advanced g c =
+pub returns-in-Spent : goal.returns-in-Spent
+returns-in-Spent c =
     let a = c.args in
     let r = c.requires in
-    let f = c.walk.new.self in
     let many = c.objects.ensures ∙ ap (λ (s : Shape). length s.objects) c.shape.ensures in
-    let leads = subst (λ n. next_state a.program.now a.pass.now.known.thread (counts_from 0 n a.pass.now.known.holds) f
-    ≡ next_state a.program.now a.pass.now.known.thread (counts_from 0 n a.pass.now.known.holds) a.frame.now) many c.walk.ensures.leads in
+    let f = c.walk.new.self in
+    let leads = subst (λ n. next_state a.program.now a.pass.now.known.thread (counts_from 0 n a.pass.now.known.holds) (f)
+    ≡ next_state a.program.now a.pass.now.known.thread (counts_from 0 n a.pass.now.known.holds) a.frame.now) many c.in-Spent.ensures.leads in
     spent a.heap.now a.program.now a.fuel a.pass.now a.frame.now r.heap r.may r.local f leads c.in-Spent.ensures.walked
 
-pub go_on-requires-clause-may : goal.go_on-requires-clause-may
-go_on-requires-clause-may g c =
+pub returns-in-Arrived : goal.returns-in-Arrived
+returns-in-Arrived c =
     let a = c.args in
     let r = c.requires in
-    let f = c.walk.new.self in
     let many = c.objects.ensures ∙ ap (λ (s : Shape). length s.objects) c.shape.ensures in
+    let f = before_call c.walk.new.self c.in-Arrived.call in
+    let same = ap (λ (x : FrameSeen). x.fuel) c.in-Arrived.ensures.walked.0 in
     let leads = subst (λ n. next_state a.program.now a.pass.now.known.thread (counts_from 0 n a.pass.now.known.holds) f
-    ≡ next_state a.program.now a.pass.now.known.thread (counts_from 0 n a.pass.now.known.holds) a.frame.now) many c.walk.ensures.leads in
-    arrived a.heap.now a.program.now a.fuel a.pass.now a.frame.now r.heap r.may r.local f leads c.in-Arrived.ensures.walked
-
-pub returns-in-Some-clause-advanced : goal.returns-in-Some-clause-advanced
-returns-in-Some-clause-advanced g c =
-    let a = c.args in
-    let r = c.requires in
-    let f = c.walk.new.self in
-    let many = c.objects.ensures ∙ ap (λ (s : Shape). length s.objects) c.shape.ensures in
-    let leads = subst (λ n. next_state a.program.now a.pass.now.known.thread (counts_from 0 n a.pass.now.known.holds) f
-    ≡ next_state a.program.now a.pass.now.known.thread (counts_from 0 n a.pass.now.known.holds) a.frame.now) many c.walk.ensures.leads in
-    from_there a.heap.now a.program.now a.fuel a.pass.now a.frame.now r.heap r.may r.local f leads c.go_on.new.pass c.go_on.new.frame c.go_on.result
-    c.in-Arrived.ensures.walked c.go_on.ensures.advanced
+    ≡ next_state a.program.now a.pass.now.known.thread (counts_from 0 n a.pass.now.known.holds) a.frame.now) many c.in-Arrived.ensures.leads in
+    record {
+      may = arrived a.heap.now a.program.now a.fuel a.pass.now a.frame.now r.heap r.may r.local f leads c.in-Arrived.call refl same;
+      placed = c.in-Arrived.ensures.walked.1;
+      from = λ q e turn. from_there a.heap.now a.program.now a.fuel a.pass.now a.frame.now r.heap r.may r.local f leads q e turn c.in-Arrived.call refl same;
+    }

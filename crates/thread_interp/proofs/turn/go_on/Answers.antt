@@ -1,11 +1,12 @@
-use Rattle.std.proofs.Common.{refl, sym, arith, inl, inr}
+use Rattle.std.proofs.Common.{refl, sym, ap, subst, arith, inl, inr}
+use Rattle.thread_interp.specs.inner.Running.{HasPolled}
 use Rattle.thread_interp.proofs.Added.{none_added}
-use Rattle.thread_interp.proofs.Turns.{gone_blocked, gone_ended, gone_live, goes_on}
-use Rattle.thread_interp.proofs.turn.go_on.Goals.{then-done, else-done}
+use Rattle.thread_interp.proofs.Turns.{gone_blocked, gone_ended, gone_live, goes_on, is_done, not_done, went_done}
+use Rattle.thread_interp.proofs.turn.go_on.Goals.{in-Done, in_default-went}
 use Rattle.thread_interp.proofs.turn.go_on.Goals as goal
 
-pub loop-done-init : goal.loop-done-init
-loop-done-init g c = (
+pub loop-cause-init : goal.loop-cause-init
+loop-cause-init g c = (
   record {
     may = c.requires.may;
     thread = refl;
@@ -17,62 +18,76 @@ loop-done-init g c = (
   λ timed. timed,
 )
 
-pub step-requires-clause-may : goal.step-requires-clause-may
-step-requires-clause-may g c = c.loop-done.invariant.0.may
+pub step-went-requires-clause-may : goal.step-went-requires-clause-may
+step-went-requires-clause-may g c = c.loop-cause.invariant.0.may
 
 pub returns-in-Pending-clause-gone : goal.returns-in-Pending-clause-gone
 returns-in-Pending-clause-gone g c =
     let a = c.args in
-    let l = c.loop-done in
-    gone_blocked a.heap.now a.program.now a.fuel a.quantum a.pass.now l.pass c.step.new.pass a.frame.now l.frame c.step.new.frame
-    l.instructions l.invariant.0 c.in-Pending.why c.in-Pending.ensures.polled
+    let l = c.loop-cause in
+    gone_blocked a.heap.now a.program.now a.fuel a.quantum a.pass.now l.pass c.step-went.new.pass a.frame.now l.frame c.step-went.new.frame
+    l.instructions l.invariant.0 c.step-went.new.cause c.in-Pending.ensures.polled
 
 pub returns-then-has_ended-clause-gone : goal.returns-then-has_ended-clause-gone
 returns-then-has_ended-clause-gone g c =
     let a = c.args in
-    let l = c.loop-done in
-    gone_ended a.heap.now a.program.now a.fuel a.quantum a.pass.now l.pass c.step.new.pass a.frame.now l.frame c.step.new.frame
-    l.instructions l.invariant.0 c.in-Done.done c.in-Done.ensures.polled c.if-done.instructions
-    (elim c.if-done.branch [
-      | then-done w ↦ inl (w.if-done.true, w.instructions-is)
-      | else-done w ↦ inr (w.if-done.false, w.instructions-is)
+    let l = c.loop-cause in
+    let w = c.step-went.result in
+    let did = subst (HasPolled a.heap.now a.program.now a.fuel l.pass c.step-went.new.pass l.frame c.step-went.new.frame)
+    (went_done w c.step-went.new.cause (λ is. c.in_default.not-Pending is)) c.step-went.ensures.polled in
+    gone_ended a.heap.now a.program.now a.fuel a.quantum a.pass.now l.pass c.step-went.new.pass a.frame.now l.frame c.step-went.new.frame
+    l.instructions l.invariant.0 (is_done w) did c.match-went-2.instructions
+    (elim c.match-went-2.branch [
+      | in-Done x ↦ inl (ap is_done x.in-Done.is, x.instructions-is)
+      | in_default-went x ↦ inr (not_done w (λ is. x.in_default-went.not-Done is), x.instructions-is)
     ])
     (sym c.if-has_ended.ensures)
 
 pub returns-then-instructions-quantum-clause-gone : goal.returns-then-instructions-quantum-clause-gone
 returns-then-instructions-quantum-clause-gone g c =
     let a = c.args in
-    let l = c.loop-done in
-    gone_live a.heap.now a.program.now a.fuel a.quantum a.pass.now l.pass c.step.new.pass a.frame.now l.frame c.step.new.frame
-    l.instructions l.invariant.0 c.in-Done.done c.in-Done.ensures.polled c.if-done.instructions
-    (elim c.if-done.branch [
-      | then-done w ↦ inl (w.if-done.true, w.instructions-is)
-      | else-done w ↦ inr (w.if-done.false, w.instructions-is)
+    let l = c.loop-cause in
+    let w = c.step-went.result in
+    let did = subst (HasPolled a.heap.now a.program.now a.fuel l.pass c.step-went.new.pass l.frame c.step-went.new.frame)
+    (went_done w c.step-went.new.cause (λ is. c.in_default.not-Pending is)) c.step-went.ensures.polled in
+    gone_live a.heap.now a.program.now a.fuel a.quantum a.pass.now l.pass c.step-went.new.pass a.frame.now l.frame c.step-went.new.frame
+    l.instructions l.invariant.0 (is_done w) did c.match-went-2.instructions
+    (elim c.match-went-2.branch [
+      | in-Done x ↦ inl (ap is_done x.in-Done.is, x.instructions-is)
+      | in_default-went x ↦ inr (not_done w (λ is. x.in_default-went.not-Done is), x.instructions-is)
     ])
     (sym c.if-has_ended.ensures) c.if-instructions-quantum.true
 
-pub loop-done-preserved : goal.loop-done-preserved
-loop-done-preserved g c =
+pub loop-cause-preserved : goal.loop-cause-preserved
+loop-cause-preserved g c =
     let a = c.args in
-    let l = c.loop-done in (
-      goes_on a.heap.now a.program.now a.fuel a.quantum a.pass.now l.pass c.step.new.pass a.frame.now l.frame c.step.new.frame
-          l.instructions l.invariant.0 c.in-Done.done c.in-Done.ensures.polled c.if-done.instructions
-          (elim c.if-done.branch [
-            | then-done w ↦ inl (w.if-done.true, w.instructions-is)
-            | else-done w ↦ inr (w.if-done.false, w.instructions-is)
-          ])
-          (sym c.if-has_ended.ensures) c.if-instructions-quantum.false,
-      λ timed. c.step.ensures.timed (l.invariant.1 timed),
-    )
+    let l = c.loop-cause in
+    let w = c.step-went.result in
+    let did = subst (HasPolled a.heap.now a.program.now a.fuel l.pass c.step-went.new.pass l.frame c.step-went.new.frame)
+    (went_done w c.step-went.new.cause (λ is. c.in_default.not-Pending is)) c.step-went.ensures.polled in
+    let goes = goes_on a.heap.now a.program.now a.fuel a.quantum a.pass.now l.pass c.step-went.new.pass a.frame.now l.frame c.step-went.new.frame
+    l.instructions l.invariant.0 (is_done w) did c.match-went-2.instructions
+    (elim c.match-went-2.branch [
+      | in-Done x ↦ inl (ap is_done x.in-Done.is, x.instructions-is)
+      | in_default-went x ↦ inr (not_done w (λ is. x.in_default-went.not-Done is), x.instructions-is)
+    ])
+    (sym c.if-has_ended.ensures) c.if-instructions-quantum.false in
+    (goes, λ timed. c.step-went.ensures.timed (l.invariant.1 timed))
 
-pub loop-done-smaller : goal.loop-done-smaller
-loop-done-smaller g c = c.in-Done.ensures.polled.fallen
+pub loop-cause-smaller : goal.loop-cause-smaller
+loop-cause-smaller g c =
+    let a = c.args in
+    let l = c.loop-cause in
+    let w = c.step-went.result in
+    let did = subst (HasPolled a.heap.now a.program.now a.fuel l.pass c.step-went.new.pass l.frame c.step-went.new.frame)
+    (went_done w c.step-went.new.cause (λ is. c.in_default.not-Pending is)) c.step-went.ensures.polled in
+    did.fallen
 
 pub returns-in-Pending-clause-timed : goal.returns-in-Pending-clause-timed
-returns-in-Pending-clause-timed g c = λ timed. c.step.ensures.timed (c.loop-done.invariant.1 timed)
+returns-in-Pending-clause-timed g c = λ timed. c.step-went.ensures.timed (c.loop-cause.invariant.1 timed)
 
 pub returns-then-has_ended-clause-timed : goal.returns-then-has_ended-clause-timed
-returns-then-has_ended-clause-timed g c = λ timed. c.step.ensures.timed (c.loop-done.invariant.1 timed)
+returns-then-has_ended-clause-timed g c = λ timed. c.step-went.ensures.timed (c.loop-cause.invariant.1 timed)
 
 pub returns-then-instructions-quantum-clause-timed : goal.returns-then-instructions-quantum-clause-timed
-returns-then-instructions-quantum-clause-timed g c = λ timed. c.step.ensures.timed (c.loop-done.invariant.1 timed)
+returns-then-instructions-quantum-clause-timed g c = λ timed. c.step-went.ensures.timed (c.loop-cause.invariant.1 timed)

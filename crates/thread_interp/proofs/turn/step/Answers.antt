@@ -1,6 +1,6 @@
 use Rattle.std.proofs.Common.{sym, ◌∙◌, subst}
 use Rattle.heap_table.specs.Seen.{PassSeen}
-use Rattle.thread_calls.specs.Advances.{MayAdvance, HasAdvanced}
+use Rattle.thread_calls.specs.Advances.{MayAdvance, HasAdvanced, turn_of}
 use Rattle.thread_calls.specs.Timed.{StaysTimed}
 use Rattle.thread_interp.proofs.CallsTimed.{poll_timed}
 use Rattle.thread_interp.proofs.Turns.{turn_done, may_advance, poll_pended, advanced, went_on}
@@ -40,11 +40,11 @@ returns-clause-polled g c =
       | then-running+in_default w ↦
           let e = w.poll.ensures in
           advanced a.heap.now a.program.now a.fuel a.pass.now w.poll.new.pass a.frame.now c.requires.may e.rests
-          w.poll.result e.run e.says e.stands (turn_done w.poll.result w.in_default.not-Pending) q f c.advance.result
-          (subst (λ (x : PassSeen). HasAdvanced a.heap.now a.program.now a.fuel x q a.frame.now f c.advance.result) w.pass-is did)
+          w.poll.result e.run e.says e.stands (turn_done w.poll.result w.in_default.not-Pending) q f (turn_of c.advance.result c.advance.new.cause)
+          (subst (λ (x : PassSeen). HasAdvanced a.heap.now a.program.now a.fuel x q a.frame.now f (turn_of c.advance.result c.advance.new.cause)) w.pass-is did)
       | else-running w ↦
-          went_on a.heap.now a.program.now a.fuel a.pass.now q a.frame.now f c.requires.may (sym c.running.ensures ∙ w.if-running.false) c.advance.result
-          (subst (λ (x : PassSeen). HasAdvanced a.heap.now a.program.now a.fuel x q a.frame.now f c.advance.result) w.pass-is did)
+          went_on a.heap.now a.program.now a.fuel a.pass.now q a.frame.now f c.requires.may (sym c.running.ensures ∙ w.if-running.false) (turn_of c.advance.result c.advance.new.cause)
+          (subst (λ (x : PassSeen). HasAdvanced a.heap.now a.program.now a.fuel x q a.frame.now f (turn_of c.advance.result c.advance.new.cause)) w.pass-is did)
     ]
 
 pub returns-in-Pending-clause-timed : goal.returns-in-Pending-clause-timed

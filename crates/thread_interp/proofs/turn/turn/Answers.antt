@@ -29,6 +29,7 @@ pub returns-in-Pending-clause-moved : goal.returns-in-Pending-clause-moved
 returns-in-Pending-clause-moved g c =
     let a = c.args in
     barred_moved a.heap.now a.program.now a.fuel a.quantum a.pass.now c.set_running.new.pass a.frame.now c.requires.live c.in-Pending.why c.in-Pending.ensures.ready
+    c.requires.runner.on.rests
 
 pub returns-clause-runner : goal.returns-clause-runner
 returns-clause-runner g c =

@@ -1,0 +1,368 @@
+-- A turn of a thread that is left alone is blocked by the plain monitors, or the halt.
+use Rattle.std.proofs.Common.{◌≡◌, ℕ, ◌≤◌, ◌&&◌, ◌||◌, not, Bool, true, false, nat_le, ◌+◌, ◌==◌, List, [], ◌++◌, length, Some, Ok, refl, sym, ap, ◌∙◌, subst, append_assoc, true≢false}
+use Rattle.std.proofs.lemmas.List.{append_cancel_right}
+use Rattle.plain_monitor.specs.History.{objects_after}
+use Rattle.plain_monitor.specs.Objects.{PlainObject}
+use Rattle.core_world.specs.declared.answer.Turn.TheVariants.{Done, Pending}
+use Rattle.core_world.specs.declared.answer.Why.{Why}
+use Rattle.core_world.specs.declared.name.Name.TheVariants.{Safepoint, Waiting}
+use Rattle.core_world.specs.declared.task.Op.TheVariants as op
+use Rattle.core_world.specs.declared.task.Task.{Task}
+use Rattle.core_world.specs.declared.task.Task.TheVariants as task
+use Rattle.core_world.specs.Locks.{monitor_of}
+use Rattle.core_world.specs.Steps.{is_idle}
+use Rattle.core_world.specs.Clauses.Lengths.{log_limit}
+use Rattle.core_world.specs.Threads.Known.{Known, Start, StepMade, start_of}
+use Rattle.core_world.specs.Threads.References.{has_reference}
+use Rattle.core_world.specs.Trees.Calls.{steps_of, side_purpose, may_operate, most_logged, end}
+use Rattle.core_world.specs.Trees.Operations.{goes_on_with, enter_steps, exit_steps, wait_steps, notify_steps, notify_all_steps, hash_steps, dump_steps}
+use Rattle.core_world.specs.Trees.SafepointSteps.{poll_steps, resume_steps, stop_steps, has_requester}
+use Rattle.core_world.specs.Trees.Todo.{Todo, ◌>>=◌}
+use Rattle.core_world.specs.Words.Forms.{waits_on, is_halted}
+use Rattle.core_world.specs.Words.Shape.{Shape, IsInLimits}
+use Rattle.core_world.specs.World.{World, logs}
+use Rattle.core_world.proofs.LookWhileRevoking.{forgotten}
+use Rattle.core_calls.specs.CallsSay.{has_none, is_full}
+use Rattle.core_calls.specs.Paths.{IsPath, Follows}
+use Rattle.core_calls.proofs.Runs.{knows}
+use Rattle.core_law.specs.Logic.{heap_of}
+use Rattle.core_law.specs.Reached.{Comes}
+use Rattle.core_law.specs.WholeLaw.{LawsHold}
+use Rattle.core_law.proofs.Lawful.{sound_rests}
+use Rattle.core_steps.proofs.ReachedWorlds.{reached_worlds_sound, reached_worlds_valid}
+use Rattle.heap_table.specs.Resting.{start_now}
+use Rattle.heap_table.specs.Ruled.{known_behind}
+use Rattle.heap_table.specs.Seen.{HeapSeen, PassSeen}
+use Rattle.thread_calls.specs.Advances.{RanFrom, PendedIn}
+use Rattle.thread_interp.specs.declared.moved.Moved.{Moved}
+use Rattle.thread_interp.specs.declared.moved.RunState.TheVariants.{Blocked}
+use Rattle.thread_interp.specs.Moves.{IsState, IsSetStill, LastCall}
+use Rattle.thread_interp.specs.Runners.{RunnerSeen}
+use Rattle.solo_progress.specs.Answers.{is_other, is_told, is_pending, hash_due, IsDone, PendsWhere, WaitsWhere, LetsGo, RefusedWhere}
+use Rattle.solo_progress.specs.LeftAlone.{start_in}
+use Rattle.solo_progress.specs.Moves.{Moves, GetsThrough}
+use Rattle.solo_progress.proofs.Exact.{enters_exactly}
+use Rattle.solo_progress.proofs.Laws.{exits, hashes, notifies, notify_alls, waits_first, waits_again, dumps, polls_itself, resumes_itself}
+use Rattle.solo_progress.proofs.Mids.{moved_comes}
+use Rattle.turn_progress.specs.Barred.{Bars, WaitBars, IsBarred}
+use Rattle.turn_progress.specs.Turns.{OthersStand, TurnAlone}
+use Rattle.turn_progress.proofs.Calls.{second, first_of_two, might_begin, others_on, left_alone, operates, unasked_fits, no_requester, CallAlone, says_so, ReadyAlone, ready_alone}
+use Rattle.turn_progress.proofs.Steps.{same_heap, along_thread, known_by_steps, moved_steps, IsCut, cut_at}
+
+-- THE TREES of the calls that may be pending
+module _ (s : Shape) (k : Start) where
+  enter_is : (o now : ℕ) → steps_of s (task.Enter o now) k ≡ (enter_steps s k o now >>= end)
+  unfolding steps_of
+  enter_is o now = refl
+
+  exit_is : (o : ℕ) → steps_of s (task.Exit o) k ≡ (exit_steps k o >>= end)
+  unfolding steps_of
+  exit_is o = refl
+
+  wait_is : (o now : ℕ) → steps_of s (task.Wait o now) k ≡ (wait_steps s k o now >>= end)
+  unfolding steps_of
+  wait_is o now = refl
+
+  notify_is : (o now : ℕ) → steps_of s (task.Notify o now) k ≡ (notify_steps s k o now >>= end)
+  unfolding steps_of
+  notify_is o now = refl
+
+  notify_all_is : (o now : ℕ) → steps_of s (task.NotifyAll o now) k ≡ (notify_all_steps s k o now >>= end)
+  unfolding steps_of
+  notify_all_is o now = refl
+
+  hash_is : (o now : ℕ) → steps_of s (task.Hash o now) k ≡ (hash_steps s k o now >>= end)
+  unfolding steps_of
+  hash_is o now = refl
+
+  dump_is : steps_of s task.Dump k ≡ (dump_steps s k >>= end)
+  unfolding steps_of
+  dump_is = refl
+
+  poll_is : steps_of s task.Poll k ≡ (poll_steps (side_purpose task.Poll k) >>= end)
+  unfolding steps_of
+  poll_is = refl
+
+  resume_is : steps_of s task.Resume k ≡ (resume_steps (side_purpose task.Resume k) k.local >>= end)
+  unfolding steps_of
+  resume_is = refl
+
+-- ONE PASS BEHIND ANOTHER
+record IsBehind (p q : PassSeen) : Type 0 where
+  steps : List StepMade
+  added : q.known.steps ≡ steps ++ p.known.steps
+  thread : q.known.thread ≡ p.known.thread
+
+ran_behind : {A : Type 0} (h : HeapSeen) (d : Todo A) (p q : PassSeen) (a : A) → RanFrom h d p q a → IsBehind p q
+ran_behind h d p q a ran =
+    let f = knows ran in
+    record {
+      steps = f.steps;
+      added = f.added;
+      thread = ap (λ (k : Known). k.thread) f.known ∙ along_thread h.heap.shape h.heap.start f.steps p.known;
+    }
+
+stop_behind : (h : HeapSeen) (b : Bool) (p q : PassSeen) → IsSetStill b h p q → IsBehind p q
+stop_behind h true p q ran = ran_behind h (stop_steps (side_purpose task.Stop (start_now h p)) (start_now h p).local) p q tt ran
+stop_behind h false p q same = record { steps = []; added = ap (λ (x : PassSeen). x.known.steps) same; thread = ap (λ (x : PassSeen). x.known.thread) same }
+
+-- THE TURN, which was blocked
+module _ (h : HeapSeen) (quantum t : ℕ) (w v : World) (r q : RunnerSeen) (m : Moved) (why : Why) (limits : IsInLimits h.heap.shape) (c : Comes h.heap w)
+    (o : OthersStand w t) (turn : TurnAlone h quantum t w r v q m) (blocked : m.state ≡ Blocked why) where
+  last : LastCall (PendedIn h why) h r.pass q.pass
+  last = (subst (IsState h quantum m.instructions r.pass q) blocked turn.moved.state).1
+
+  abbrev before : PassSeen
+  before = last.called.before
+
+  abbrev behind : PassSeen
+  behind = last.behind
+
+  stop : IsBehind behind q.pass
+  stop = stop_behind h behind.known.running behind q.pass last.still
+
+  comes_after : Comes h.heap v
+  comes_after = moved_comes h.heap w t turn.steps v o.within c turn.moves
+
+  numbered : q.pass.known.thread ≡ t
+  numbered =
+      ap (λ (k : Known). k.thread) (sym turn.knows ∙ known_by_steps h.heap v t comes_after)
+      ∙ along_thread h.heap.shape h.heap.start (v.known t).steps _
+
+  -- its last call, in the world in which that began
+  record Begun {A : Type 0} (job : Task) (d : Shape → Start → Todo A) (a : A) : Type 0 where
+    steps : List StepMade
+    world : World
+    moves : Moves w t steps world
+    alone : CallAlone h.heap world t job (d world.shape (start_in world t)) a
+
+  module _ {A : Type 0} (job : Task) (d : Shape → Start → Todo A) (a : A) (is : (s : Shape) (k : Start) → steps_of s job k ≡ (d s k >>= end))
+      (ran : RanFrom h (d h.heap.shape (start_now h before)) before behind a) where
+    f : Follows h.heap.shape h.heap.start (d h.heap.shape (start_now h before)) before.known behind.known a
+    f = knows ran
+
+    thread_is : before.known.thread ≡ t
+    thread_is =
+        let b = ran_behind h (d h.heap.shape (start_now h before)) before behind a ran in
+        sym b.thread ∙ sym stop.thread ∙ numbered
+
+    some : 1 ≤ length f.steps
+    some =
+        let s = last.called.call.stepped in
+        subst (λ (l : List StepMade). 1 ≤ length l) (append_cancel_right s.steps f.steps before.known.steps (sym s.added ∙ f.added)) s.some
+
+    -- the turn's steps are those of the stop, of the call, and those before it
+    abbrev earlier : List StepMade
+    earlier = last.called.earlier
+
+    abbrev own : List StepMade
+    own = r.pass.known.steps
+
+    in_order : turn.steps ≡ stop.steps ++ (f.steps ++ earlier)
+    in_order =
+        append_cancel_right turn.steps (stop.steps ++ (f.steps ++ earlier)) own
+        (ap (λ (k : Known). turn.steps ++ k.steps) (sym turn.knew)
+        ∙ sym (moved_steps w t turn.steps v turn.moves)
+        ∙ ap (λ (k : Known). k.steps) turn.knows
+        ∙ stop.added
+        ∙ ap (λ (l : List StepMade). stop.steps ++ l) (f.added ∙ ap (λ (l : List StepMade). f.steps ++ l) last.called.begun
+        ∙ sym (append_assoc f.steps earlier own))
+        ∙ sym (append_assoc stop.steps (f.steps ++ earlier) own))
+
+    whole : IsCut w t stop.steps (f.steps ++ earlier) v
+    whole = cut_at w t stop.steps (f.steps ++ earlier) turn.steps v in_order turn.moves
+
+    call_cut : IsCut w t f.steps earlier whole.mid
+    call_cut = cut_at w t f.steps earlier (f.steps ++ earlier) whole.mid refl whole.first
+
+    abbrev x : World
+    x = call_cut.mid
+
+    comes_x : Comes h.heap x
+    comes_x = moved_comes h.heap w t earlier x o.within c call_cut.first
+
+    is_x : heap_of x ≡ h.heap
+    is_x = same_heap h.heap x comes_x
+
+    knew_x : x.known t ≡ before.known
+    knew_x =
+        let same : (x.known t).steps ≡ before.known.steps =
+        moved_steps w t earlier x call_cut.first ∙ ap (λ (k : Known). earlier ++ k.steps) turn.knew ∙ sym last.called.begun in
+        known_by_steps h.heap x t comes_x
+        ∙ (λ i. known_behind h.heap (sym thread_is i) (same i))
+        ∙ sym last.called.rests.is_of.real.is
+
+    path_x : IsPath (d x.shape (start_in x t)) [] f.steps a
+    path_x =
+        subst (λ (z : Shape × Start). IsPath (d z.0 z.1) [] f.steps a)
+        (λ i. ((sym is_x i).shape, start_of (sym is_x i).start (sym knew_x i))) f.path
+
+    idle_x : is_idle x.shape (x.known t) ≡ true
+    idle_x = (λ i. is_idle (is_x i).shape (knew_x i)) ∙ last.called.rests.over
+
+    others_x : OthersStand x t
+    others_x = others_on w t earlier x call_cut.first o
+
+    begun : Begun job d a
+    begun =
+        record {
+          steps = earlier;
+          world = x;
+          moves = call_cut.first;
+          alone = record {
+            call = record {
+              limits = limits;
+              reached = comes_x;
+              within = others_x.within;
+              idle = idle_x;
+              may =
+                  might_begin x t job (d x.shape (start_in x t)) f.steps whole.mid a idle_x (is x.shape (start_in x t)) path_x
+                  call_cut.rest some;
+            };
+            others = others_x;
+            rest = sound_rests x t (reached_worlds_sound h.heap x limits comes_x) others_x.within idle_x;
+            made = f.steps;
+            last = whole.mid;
+            moved = call_cut.rest;
+            path = path_x;
+          };
+        }
+
+  -- where its thread runs or asks it is ready; and what its law says, it answered
+  module _ {A : Type 0} {job : Task} {d : Shape → Start → Todo A} {a : A} (b : Begun job d a) where
+    ready : ((b.world.known t).running || (b.world.known t).requesting) ≡ true → ReadyAlone h.heap b.world t job
+    ready goes = ready_alone h.heap b.world t job b.alone.call (left_alone b.world t b.alone.others b.alone.rest goes)
+
+    says : (P : A → Type 0) → GetsThrough h.heap b.world t job (d b.world.shape (start_in b.world t)) P → P a
+    says P g = says_so h.heap b.world t job (d b.world.shape (start_in b.world t)) a P b.alone g
+
+    told : (objects : List PlainObject) → objects_after b.world.shape.objects (logs b.world) ≡ Some objects → Bars b.world objects t job why
+        → IsBarred w t why
+    told objects history bars =
+        record { steps = b.steps; world = b.world; moves = b.moves; objects = objects; history = history; task = job; bars = bars }
+
+  -- THE CASES. An operation on o begins where its thread runs or asks.
+  goes_on : (x : World) (o : ℕ) (going : Bool) → (has_reference x.shape (x.known t) o && may_operate (x.known t) going) ≡ true
+      → ((x.known t).running || (x.known t).requesting) ≡ true
+  goes_on x o going may = operates (x.known t) going (second (has_reference x.shape (x.known t) o) (may_operate (x.known t) going) may)
+
+  enter_barred : (o now : ℕ) → Begun (task.Enter o now) (λ s k. enter_steps s k o now) (Ok (Pending why)) → IsBarred w t why
+  enter_barred o now b =
+      let y = ready b (goes_on b.world o (goes_on_with op.Enter o (b.world.known t).unfinished) b.alone.call.may) in
+      told b y.objects y.ready.history
+      (says b (RefusedWhere (is_full (start_in b.world t) o) (PendsWhere (is_other (monitor_of y.objects o).owner t)))
+      (enters_exactly h.heap b.world y.objects t o now y.ready)).1
+
+  exit_barred : (o : ℕ) → Begun (task.Exit o) (λ s k. exit_steps k o) (Ok (Pending why)) → IsBarred w t why
+  exit_barred o b =
+      let y = ready b (goes_on b.world o (goes_on_with op.Exit o (b.world.known t).unfinished) b.alone.call.may) in
+      absurd (says b (RefusedWhere (has_none (start_in b.world t) o) IsDone) (exits h.heap b.world y.objects t o y.ready)).1
+
+  notify_barred : (o now : ℕ) → Begun (task.Notify o now) (λ s k. notify_steps s k o now) (Ok (Pending why)) → IsBarred w t why
+  notify_barred o now b =
+      let y = ready b (goes_on b.world o (goes_on_with op.Notify o (b.world.known t).unfinished) b.alone.call.may) in
+      absurd (says b (RefusedWhere (has_none (start_in b.world t) o) IsDone) (notifies h.heap b.world y.objects t o now y.ready)).1
+
+  notify_all_barred : (o now : ℕ) → Begun (task.NotifyAll o now) (λ s k. notify_all_steps s k o now) (Ok (Pending why)) → IsBarred w t why
+  notify_all_barred o now b =
+      let y = ready b (goes_on b.world o (goes_on_with op.NotifyAll o (b.world.known t).unfinished) b.alone.call.may) in
+      absurd (says b (RefusedWhere (has_none (start_in b.world t) o) IsDone) (notify_alls h.heap b.world y.objects t o now y.ready)).1
+
+  hash_barred : (o now : ℕ) → Begun (task.Hash o now) (λ s k. hash_steps s k o now) (Pending why) → IsBarred w t why
+  hash_barred o now b =
+      let y = ready b (goes_on b.world o (goes_on_with op.Hash o (b.world.known t).unfinished) b.alone.call.may) in
+      let none = says b (λ turn. turn ≡ Done (hash_due y.objects o (start_in b.world t))) (hashes h.heap b.world y.objects t o now y.ready) in
+      absurd (cc none)
+
+  dump_barred : Begun task.Dump (λ s k. dump_steps s k) (Ok (Pending why)) → IsBarred w t why
+  dump_barred b =
+      let y = ready b (operates (b.world.known t) (goes_on_with op.Dump 0 (b.world.known t).unfinished) b.alone.call.may) in
+      let none = (says b (RefusedWhere ((start_in b.world t).shots == 4) (λ turn. turn ≡ Done ((start_in b.world t).shots + 1)))
+      (dumps h.heap b.world y.objects t y.ready)).1 in
+      absurd (cc none)
+
+  -- a wait that begins, or goes on
+  wait_barred : (o now : ℕ) → Begun (task.Wait o now) (λ s k. wait_steps s k o now) (Ok (Pending why)) → IsBarred w t why
+  wait_barred o now b = told b y.objects y.ready.history (by_word (waits_on (b.world.known t).wait o) refl)
+    where
+      k : Known
+      k = b.world.known t
+
+      y : ReadyAlone h.heap b.world t (task.Wait o now)
+      y =
+          ready b (operates k (goes_on_with op.Wait o k.unfinished)
+          (second (has_reference b.world.shape k o) (may_operate k (goes_on_with op.Wait o k.unfinished))
+          (first_of_two (has_reference b.world.shape k o && may_operate k (goes_on_with op.Wait o k.unfinished))
+          (nat_le (length k.log + most_logged k (task.Wait o now)) log_limit) b.alone.call.may)))
+
+      told_so : Bool
+      told_so = is_told (b.world.words (Waiting t))
+
+      owned : Bool
+      owned = is_other (monitor_of y.objects o).owner t
+
+      by_word : (waits : Bool) → waits_on (b.world.known t).wait o ≡ waits → WaitBars (waits_on (b.world.known t).wait o) told_so owned why
+      by_word false is =
+          subst (λ z. WaitBars z told_so owned why) (sym is)
+          (says b (RefusedWhere (has_none (start_in b.world t) o) LetsGo) (waits_first h.heap b.world y.objects t o now y.ready is)).1
+      by_word true is =
+          subst (λ z. WaitBars z told_so owned why) (sym is)
+          (says b (RefusedWhere (has_none (start_in b.world t) o) (WaitsWhere told_so owned))
+          (waits_again h.heap b.world y.objects t o now y.ready is)).1
+
+  -- a poll finds no requester, since nobody asks
+  poll_barred : Begun task.Poll (λ s k. poll_steps (side_purpose task.Poll k)) (Pending why) → IsBarred w t why
+  poll_barred b =
+      let runs : (b.world.known t).running ≡ true = b.alone.call.may in
+      let free = unless_runs (b.world.known t).requesting runs b.alone.rest.stopped in
+      let valid = reached_worlds_valid h.heap b.world limits b.alone.call.reached in
+      let none = no_requester b.world valid.objects t b.alone.others free
+      (unasked_fits b.world valid.objects t b.alone.others free (forgotten LawsHold b.world valid.objects valid.is)) in
+      let asked = says b (λ turn. is_pending turn ≡ has_requester (b.world.words Safepoint)) (polls_itself h.heap b.world t b.alone.call) in
+      absurd (true≢false (asked ∙ none))
+    where
+      unless_runs : (asks : Bool) → (b.world.known t).running ≡ true → (asks ≡ true → (b.world.known t).running ≡ false) → asks ≡ false
+      unless_runs true runs stopped = absurd (true≢false (sym runs ∙ stopped refl))
+      unless_runs false runs stopped = refl
+
+  -- nor does a resume
+  resume_barred : Begun task.Resume (λ s k. resume_steps (side_purpose task.Resume k) k.local) (Pending why) → IsBarred w t why
+  resume_barred b =
+      let free = not_false (b.world.known t).requesting
+      (second (not (b.world.known t).running) (not (b.world.known t).requesting) b.alone.call.may) in
+      let valid = reached_worlds_valid h.heap b.world limits b.alone.call.reached in
+      let fits = unasked_fits b.world valid.objects t b.alone.others free (forgotten LawsHold b.world valid.objects valid.is) in
+      let none = no_requester b.world valid.objects t b.alone.others free fits in
+      let barred = says b (λ turn. is_pending turn ≡ (is_halted (b.world.words Safepoint) || has_requester (b.world.words Safepoint)))
+      (resumes_itself h.heap b.world t b.alone.call) in
+      told b valid.objects fits.taken (the_first (is_halted (b.world.words Safepoint)) (has_requester (b.world.words Safepoint)) (sym barred) none)
+    where
+      not_false : (asks : Bool) → not asks ≡ true → asks ≡ false
+      not_false true h = absurd (cc h)
+      not_false false h = refl
+
+      the_first : (halted asked : Bool) → (halted || asked) ≡ true → asked ≡ false → halted ≡ true
+      the_first true asked either none = refl
+      the_first false asked either none = absurd (true≢false (sym either ∙ none))
+
+  barred : (job : Task) → PendedIn h why before behind job → IsBarred w t why
+  barred (task.Enter o now) ran =
+      enter_barred o now (begun (task.Enter o now) (λ s k. enter_steps s k o now) (Ok (Pending why)) (λ s k. enter_is s k o now) ran)
+  barred (task.Exit o) ran = exit_barred o (begun (task.Exit o) (λ s k. exit_steps k o) (Ok (Pending why)) (λ s k. exit_is s k o) ran)
+  barred (task.Wait o now) ran =
+      wait_barred o now (begun (task.Wait o now) (λ s k. wait_steps s k o now) (Ok (Pending why)) (λ s k. wait_is s k o now) ran)
+  barred (task.Notify o now) ran =
+      notify_barred o now (begun (task.Notify o now) (λ s k. notify_steps s k o now) (Ok (Pending why)) (λ s k. notify_is s k o now) ran)
+  barred (task.NotifyAll o now) ran =
+      notify_all_barred o now
+      (begun (task.NotifyAll o now) (λ s k. notify_all_steps s k o now) (Ok (Pending why)) (λ s k. notify_all_is s k o now) ran)
+  barred (task.Hash o now) ran =
+      hash_barred o now (begun (task.Hash o now) (λ s k. hash_steps s k o now) (Pending why) (λ s k. hash_is s k o now) ran)
+  barred task.Dump ran = dump_barred (begun task.Dump (λ s k. dump_steps s k) (Ok (Pending why)) dump_is ran)
+  barred task.Poll ran = poll_barred (begun task.Poll (λ s k. poll_steps (side_purpose task.Poll k)) (Pending why) poll_is ran)
+  barred task.Resume ran =
+      resume_barred (begun task.Resume (λ s k. resume_steps (side_purpose task.Resume k) k.local) (Pending why) resume_is ran)
+  barred job ran = absurd ran
+
+  pub blocked_barred : IsBarred w t why
+  blocked_barred = barred last.called.call.task last.called.call.is

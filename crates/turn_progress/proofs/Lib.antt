@@ -1,0 +1,5 @@
+pub mod Steps
+pub mod Calls
+pub mod Barred
+pub mod Turned
+pub mod Lone
