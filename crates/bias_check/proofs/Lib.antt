@@ -3,7 +3,9 @@ pub mod Standing
 pub mod Lengths
 pub mod Options
 pub mod Spellings
+pub mod Guesses
 pub mod Numerals
+pub mod PrintedNumbers
 pub mod ThreadsRead
 pub mod ObjectsRead
 pub mod Dots

@@ -32,7 +32,7 @@ use Rattle.bias_check.specs.declared.spelled.Verb.{Verb}
 use Rattle.bias_check.specs.declared.spelled.Verb.TheVariants as verb
 use Rattle.bias_check.specs.Lines.{numbers_total, HasNumber, IsEntryIn, Tells}
 use Rattle.bias_check.specs.inner.Words.{words_of}
-use Rattle.bias_check.proofs.Spellings.{verb_text}
+use Rattle.bias_check.specs.inner.Spelled.{verb_text}
 use Rattle.bias_check.proofs.ThreadsRead.{thread_name, class_at_name}
 use Rattle.bias_check.proofs.ObjectsRead.{stands, array_text, single_text, object_is_name}
 use Rattle.bias_check.proofs.MadeRead.{made_by}

@@ -1,5 +1,5 @@
 -- What words are spelled as.
-use Rattle.std.proofs.Common.{◌≡◌, ℕ, Bool, true, false, if◌then◌else◌, List, [], ◌∷◌, refl, subst, codes, Option, Some, bytes_eq}
+use Rattle.std.proofs.Common.{◌≡◌, ℕ, Bool, true, false, if◌then◌else◌, List, [], ◌∷◌, refl, subst, Option, Some, bytes_eq}
 use Rattle.std.specs.List.{AllByRecursion}
 use Rattle.std.proofs.lemmas.Option.{same_Some}
 use Rattle.std.proofs.lemmas.Slice.Eq.{bytes_eq-Decides}
@@ -11,24 +11,7 @@ use Rattle.lock_journal.specs.Words.{path_text, fault_text}
 use Rattle.bias_check.specs.declared.spelled.Verb.{Verb}
 use Rattle.bias_check.specs.declared.spelled.Verb.TheVariants as verb
 use Rattle.program_syntax.specs.Line.{spelled_among}
-use Rattle.bias_check.specs.inner.Spelled.{verbs, paths, faults}
-
-abbrev pub verb_text : Verb → List ℕ
-verb_text verb.Enter = codes "enter"
-verb_text verb.Exit = codes "exit"
-verb_text verb.Wait = codes "wait"
-verb_text verb.Resume = codes "resume"
-verb_text verb.Get = codes "get"
-verb_text verb.Put = codes "put"
-verb_text verb.Notify = codes "notify"
-verb_text verb.NotifyAll = codes "notifyall"
-verb_text verb.Hash = codes "hash"
-verb_text verb.New = codes "new"
-verb_text verb.Print = codes "print"
-verb_text verb.Dump = codes "dump"
-verb_text verb.Fault = codes "fault"
-verb_text verb.Spent = codes "spent"
-verb_text verb.Done = codes "done"
+use Rattle.bias_check.specs.inner.Spelled.{verbs, paths, faults, verb_text}
 
 -- the word is this text
 pub same_word : (a b : List ℕ) → bytes_eq a b ≡ true → a ≡ b
@@ -76,6 +59,10 @@ verb_read verb.Dump = refl
 verb_read verb.Fault = refl
 verb_read verb.Spent = refl
 verb_read verb.Done = refl
+
+-- a word that is the text of a verb is found as that verb
+pub verb_spelled : (v : Verb) (w : List ℕ) → bytes_eq (verb_text v) w ≡ true → spelled_among verbs w ≡ Some v
+verb_spelled v w h = subst (λ (w : List ℕ). spelled_among verbs w ≡ Some v) (same_word (verb_text v) w h) (verb_read v)
 
 pub path_read : (v : Path) → spelled_among paths (path_text v) ≡ Some v
 path_read BiasOwn = refl

@@ -18,13 +18,13 @@ use Rattle.bias_check.specs.declared.entries.WokenRead.{WokenRead}
 use Rattle.bias_check.specs.declared.entries.EntryRead.{EntryRead}
 use Rattle.bias_check.specs.declared.entries.LineRead.{LineRead}
 use Rattle.program_syntax.specs.Line.{spelled_among}
-use Rattle.bias_check.specs.inner.Spelled.{verbs, paths, faults}
+use Rattle.bias_check.specs.inner.Spelled.{verb_text, verbs, paths, faults}
 use Rattle.bias_check.specs.inner.Words.{unended, words_of}
 use Rattle.bias_check.specs.Lines.{IsEntryIn, Tells}
 use Rattle.bias_check.specs.inner.Table.{names_of, thread_in, class_in, object_in, count_in, stamp_in, value_in, woken_in, sure, print_read, notify_read, get_read, put_read, none_told, one_told, two_told, slot_told, three_told, four_told, told, read_words, read_line}
 use Rattle.bias_check.proofs.Options.{and_then, mapped}
 use Rattle.bias_check.proofs.Cuts.{last_byte}
-use Rattle.bias_check.proofs.Spellings.{same_word, verb_text, verb_is, path_is, fault_is, verb_read, path_read, fault_read}
+use Rattle.bias_check.proofs.Spellings.{same_word, verb_is, path_is, fault_is, verb_read, path_read, fault_read}
 use Rattle.bias_check.proofs.Numerals.{IsCount, count_is, count_read, IsStamp, stamp_is, stamp_read}
 use Rattle.bias_check.proofs.ThreadsRead.{IsThreadWord, thread_is, thread_read, class_is, class_read}
 use Rattle.bias_check.proofs.ObjectsRead.{last_is}

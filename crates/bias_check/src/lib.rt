@@ -9,6 +9,7 @@
 mod answer;
 mod check;
 mod entries;
+mod finder;
 mod hashes;
 mod laws;
 mod lines;

@@ -1,10 +1,14 @@
 //! The names of a program, and the words that stand for numbers and names.
 
 ghost use Rattle.std.specs.Prelude.{◌≡◌, ◌<◌, ◌==◌, map, length, position, IfOk, IfSome, MatchOption, Some, None};
+ghost use Rattle.std.specs.Fmt.{signed_decimal};
+ghost use Rattle.std.specs.Str.{bytes_eq};
 ghost use Rattle.plain_monitor.specs.Limits.{most_threads};
+ghost use Rattle.program_syntax.specs.Number.{number_of};
 ghost use Rattle.bias_check.specs.inner.Table.{names_of, place_in, thread_in, class_in, declared_in, element_in, undotted_in, made_in, object_in, int_in, count_below, count_in, stamp_in, unbracketed};
+ghost use Rattle.bias_check.specs.inner.Printed.{is_printed};
 
-use itoa::Buffer;
+use crate::finder::Finder;
 use object_program::{Name, ObjectDef, Program};
 use plain_monitor::NoMemory;
 use plain_monitor::limits::{CLASSES, MADE, THREADS};
@@ -21,9 +25,9 @@ const MOST_CLASSES: usize = CLASSES as usize;
 /// The names of a program's threads and classes, its declarations of objects, and how many objects these stand for.
 #[derive(Drop)]
 pub(crate) struct Names {
-    pub(crate) threads: Directory<Name>,
-    pub(crate) objects: Directory<ObjectDef>,
-    pub(crate) classes: Directory<Name>,
+    pub(crate) threads: Finder<Name>,
+    pub(crate) objects: Finder<ObjectDef>,
+    pub(crate) classes: Finder<Name>,
     pub(crate) total: u32,
 }
 
@@ -32,9 +36,9 @@ impl Names {
     pub(crate) fn new(alloc: Global, program: &Program) -> Result<Names, NoMemory>
         ensures { IfOk result (λ names. names ≡ names_of program.now) }
     {
-        let threads = thread_names(alloc, program)?;
-        let objects = object_names(alloc, program)?;
-        let classes = class_names(alloc, program)?;
+        let threads = Finder::new(alloc, thread_names(alloc, program)?)?;
+        let objects = Finder::new(alloc, object_names(alloc, program)?)?;
+        let classes = Finder::new(alloc, class_names(alloc, program)?)?;
         Ok(Names {
             threads,
             objects,
@@ -193,12 +197,32 @@ pub(crate) fn int_in(word: &[u8], low: i64, high: i64) -> Option<i64>
     ensures { result ≡ int_in low high word.now }
 {
     let number = number_within(word, low, high)?;
-    let mut buffer = Buffer::new();
-    if buffer.format(number).as_bytes() == word {
+    if is_as_printed(word, number) {
         Some(number)
     } else {
         None
     }
+}
+
+/// Whether the word, which is this number, is written as numbers are printed.
+fn is_as_printed(word: &[u8], number: i64) -> bool
+    requires { number_of word.now ≡ Some number }
+    ensures { result ≡ bytes_eq (signed_decimal number) word.now }
+{
+    is_printed(word)
+}
+
+/// Whether no zero leads in a word that is a number, and `0` has no sign.
+fn is_printed(word: &[u8]) -> bool
+    ensures { result ≡ is_printed word.now }
+{
+    let Some((first, rest)) = word.split_first() else {
+        return true;
+    };
+    let Some((second, _)) = rest.split_first() else {
+        return true;
+    };
+    *first != b'0' && (*first != b'-' || *second != b'0')
 }
 
 /// The number below the limit that the word is.

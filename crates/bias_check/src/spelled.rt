@@ -3,7 +3,7 @@
 ghost use Rattle.std.specs.Prelude.{◌≡◌};
 ghost use Rattle.std.specs.Str.{bytes_eq};
 ghost use Rattle.program_syntax.specs.Line.{spelled_among};
-ghost use Rattle.bias_check.specs.inner.Spelled.{verbs, acts, faults, paths};
+ghost use Rattle.bias_check.specs.inner.Spelled.{verbs, acts, faults, paths, verb_text};
 
 use plain_monitor::{Fault, Path};
 
@@ -34,8 +34,66 @@ pub(crate) fn is_word(spelling: &[u8], word: &[u8]) -> bool
     spelling == word
 }
 
-/// The verb that is spelled so.
+/// The verb that is spelled so. The one that the word's first byte and its length point to is compared first.
+#[tactic(auto, using(crate::proofs::Spellings::verb_spelled))]
 pub(crate) fn verb_of(word: &[u8]) -> Option<Verb>
+    ensures { result ≡ spelled_among verbs word.now }
+{
+    let verb = likely_verb(word);
+    if is_word(spelling_of(verb), word) {
+        return Some(verb);
+    }
+    verb_among(word)
+}
+
+/// The verb that a word with this first byte and this length is, if it is one of those that journals mostly have.
+fn likely_verb(word: &[u8]) -> Verb {
+    let Some(first) = word.first() else {
+        return Verb::Done;
+    };
+    match (*first, word.len()) {
+        (b'e', 5) => Verb::Enter,
+        (b'e', _) => Verb::Exit,
+        (b'w', _) => Verb::Wait,
+        (b'r', _) => Verb::Resume,
+        (b'g', _) => Verb::Get,
+        (b'p', 3) => Verb::Put,
+        (b'p', _) => Verb::Print,
+        (b'n', 3) => Verb::New,
+        (b'n', 6) => Verb::Notify,
+        (b'n', _) => Verb::NotifyAll,
+        (b'h', _) => Verb::Hash,
+        (b'f', _) => Verb::Fault,
+        (b's', _) => Verb::Spent,
+        _ => Verb::Done,
+    }
+}
+
+/// How the verb is spelled.
+fn spelling_of(verb: Verb) -> &'static [u8]
+    ensures { result.now ≡ verb_text verb }
+{
+    match verb {
+        Verb::Enter => b"enter",
+        Verb::Exit => b"exit",
+        Verb::Wait => b"wait",
+        Verb::Resume => b"resume",
+        Verb::Get => b"get",
+        Verb::Put => b"put",
+        Verb::Notify => b"notify",
+        Verb::NotifyAll => b"notifyall",
+        Verb::Hash => b"hash",
+        Verb::New => b"new",
+        Verb::Print => b"print",
+        Verb::Dump => b"dump",
+        Verb::Fault => b"fault",
+        Verb::Spent => b"spent",
+        Verb::Done => b"done",
+    }
+}
+
+/// The same, by comparing one verb after the other.
+fn verb_among(word: &[u8]) -> Option<Verb>
     ensures { result ≡ spelled_among verbs word.now }
 {
     if is_word(b"enter", word) {

@@ -30,3 +30,21 @@ faults =
     (codes "IllegalMonitorState", IllegalMonitorState) ∷ (codes "Unguarded", Unguarded) ∷ (codes "NotRef", NotRef)
     ∷ (codes "NotInt", NotInt) ∷ (codes "Range", Range) ∷ (codes "Overflow", Overflow) ∷ (codes "TooDeep", TooDeep)
     ∷ (codes "TooManyDumps", TooManyDumps) ∷ (codes "TooMany", TooMany) ∷ []
+
+-- how a verb is spelled
+abbrev pub verb_text : Verb → List ℕ
+verb_text verb.Enter = codes "enter"
+verb_text verb.Exit = codes "exit"
+verb_text verb.Wait = codes "wait"
+verb_text verb.Resume = codes "resume"
+verb_text verb.Get = codes "get"
+verb_text verb.Put = codes "put"
+verb_text verb.Notify = codes "notify"
+verb_text verb.NotifyAll = codes "notifyall"
+verb_text verb.Hash = codes "hash"
+verb_text verb.New = codes "new"
+verb_text verb.Print = codes "print"
+verb_text verb.Dump = codes "dump"
+verb_text verb.Fault = codes "fault"
+verb_text verb.Spent = codes "spent"
+verb_text verb.Done = codes "done"
