@@ -1,3 +1,10 @@
+pub mod WalkedParts
+pub mod Loaded
+pub mod Walking
+pub mod Loops
+pub mod Writing
+pub mod ReadParts
+pub mod Placing
 pub mod ReadWords
 pub mod ReadModes
 pub mod ReadThreads

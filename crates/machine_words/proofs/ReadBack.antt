@@ -2,6 +2,7 @@
 use Rattle.std.proofs.Common.{◌≡◌, ℕ, suc, ◌+◌, List, [], ◌∷◌, ◌++◌, length, map, slice_get, Some, refl, sym, ap, ◌∙◌, subst, arith}
 use Rattle.std.specs.List.{AllByRecursion}
 use Rattle.plain_monitor.specs.Objects.{PlainObject}
+use Rattle.plain_monitor.specs.ValueWords.{IsSpellable}
 use Rattle.object_program.specs.Program.{ProgramText, objects_total, slots_of}
 use Rattle.object_program.specs.Valid.{IsProgram}
 use Rattle.plain_machine.specs.Thread.{ThreadState}
@@ -33,6 +34,24 @@ objects_readable p k (x ∷ xs) valid each =
       first.count,
       all_spelled p x.slots valid first.values,
       objects_readable p (k + 1) xs valid (λ j z at.
+          let moved : k + suc j ≡ k + 1 + j = omega arith in subst (λ (o : ℕ). HasSlots p o z) moved (each (suc j) z at)),
+    )
+
+-- each local of each thread has a word, and each slot of each object
+pub threads_spelled : (p : ProgramText) (ss : List ThreadState) → IsProgram p → AllByRecursion (IsThreadOf p) ss
+    → AllByRecursion (λ (s : ThreadState). AllByRecursion IsSpellable s.locals) ss
+threads_spelled p [] valid all = tt
+threads_spelled p (s ∷ ss) valid all = (all_spelled p s.locals valid all.0.state.locals, threads_spelled p ss valid all.1)
+
+pub objects_spelled : (p : ProgramText) (k : ℕ) (xs : List PlainObject) → IsProgram p
+    → ((j : ℕ) (x : PlainObject) → slice_get xs j ≡ Some x → HasSlots p (k + j) x)
+    → AllByRecursion (λ (x : PlainObject). AllByRecursion IsSpellable x.slots) xs
+objects_spelled p k [] valid each = tt
+objects_spelled p k (x ∷ xs) valid each =
+    let here : k + 0 ≡ k = omega arith in
+    let first : HasSlots p k x = subst (λ (o : ℕ). HasSlots p o x) here (each 0 x refl) in (
+      all_spelled p x.slots valid first.values,
+      objects_spelled p (k + 1) xs valid (λ j z at.
           let moved : k + suc j ≡ k + 1 + j = omega arith in subst (λ (o : ℕ). HasSlots p o z) moved (each (suc j) z at)),
     )
 

@@ -1,15 +1,15 @@
 -- What is read from words is what they were made of.
-use Rattle.std.proofs.Common.{◌≡◌, ℕ, ◌+◌, ◌-◌, ◌≤◌, ◌^◌, ◌==◌, Bool, true, false, List, [], ◌∷◌, ◌++◌, length, map, Option, Some, None, refl, ap, arith}
+use Rattle.std.proofs.Common.{◌≡◌, ℕ, ◌+◌, ◌-◌, ◌≤◌, ◌^◌, ◌==◌, Bool, true, false, List, [], ◌∷◌, ◌++◌, length, map, Option, Some, None, refl, sym, ap, ◌∙◌, arith}
 use Rattle.std.specs.List.{AllByRecursion}
 use Rattle.std.proofs.lemmas.Bool.Decides.{nat_tests}
 use Rattle.plain_monitor.specs.declared.entry.Value.{Value}
 use Rattle.plain_monitor.specs.declared.entry.Value.TheVariants.{Nil, Int, Ref}
-use Rattle.plain_monitor.specs.ValueWords.{IsSpellable, word_of}
-use Rattle.plain_monitor.proofs.ValuesRead.{read_value-word_of}
+use Rattle.plain_monitor.specs.ValueWords.{IsSpellable, SpellsValue, word_of, read_value}
+use Rattle.plain_monitor.proofs.ValuesRead.{word_of-only, read_value-word_of}
 use Rattle.object_program.specs.Program.{ProgramText, has_new, objects_total}
 use Rattle.object_program.specs.Valid.{IsProgram}
 use Rattle.plain_machine.specs.Values.{IsValueOf}
-use Rattle.machine_words.specs.Readers.{option_word, word_option, pair_words, read_pairs, value_or_nil, read_values}
+use Rattle.machine_words.specs.Readers.{option_word, word_option, pair_words, read_pairs, value_or_nil, value_at, read_values}
 
 pub option_back : (o : Option ℕ) → word_option (option_word o) ≡ o
 option_back None = refl
@@ -26,6 +26,10 @@ pub values_back : (vs : List Value) (ws : List ℕ) → AllByRecursion IsSpellab
 values_back [] ws all = refl
 values_back (v ∷ vs) ws all =
     λ i. (value_or_nil (read_value-word_of v all.0 i) ∷ (values_back vs ws all.1 i).0, (values_back vs ws all.1 i).1)
+
+-- the value that a word spells
+pub value_read : (word : ℕ) (v : Value) → SpellsValue v word → v ≡ value_at word
+value_read word v h = sym (ap value_or_nil (ap read_value (word_of-only v word h) ∙ read_value-word_of v h.0))
 
 -- a value that stands beside the objects of a program has a word
 numbers_few : (p : ProgramText) → IsProgram p → objects_total p ≤ 2 ^ 15

@@ -4,3 +4,4 @@ pub mod ThreadWords
 pub mod MadeWords
 pub mod ObjectWords
 pub mod MachineWords
+pub mod inner

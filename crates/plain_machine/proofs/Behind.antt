@@ -21,10 +21,10 @@ use Rattle.plain_machine.specs.declared.call.Mode.{Mode}
 use Rattle.plain_machine.specs.declared.call.Mode.TheVariants.{Calling, Waiting, Unwinding, Ended}
 use Rattle.plain_machine.specs.Thread.{ThreadState, holds_of}
 use Rattle.plain_machine.specs.Asking.{ask, ask_in, unwinds, held_from, fits, is_call, is_exit, is_resume, is_ending}
-use Rattle.plain_machine.specs.Ready.{waits_on}
-use Rattle.plain_machine.specs.inner.Kept.{IsReady, IsReadyToAsk, holds_behind, waits_behind, unrun}
-use Rattle.plain_machine.specs.inner.Takable.{monitor_in, IsTakable}
-use Rattle.plain_machine.specs.inner.Sound.{thread_in, while_waiting, waiting_on, AreKept, IsKept, IsBeside, IsSound}
+use Rattle.plain_machine.specs.Ready.{IsReadyToAsk, waits_on}
+use Rattle.plain_machine.specs.inner.Kept.{holds_behind, waits_behind}
+use Rattle.plain_machine.specs.inner.Takable.{IsTakable}
+use Rattle.plain_machine.specs.Sound.{thread_in, while_waiting, waiting_on, AreKept, IsKept, IsBeside, IsSound, IsReady, monitor_in, unrun}
 use Rattle.plain_machine.specs.Machine.{PlainMachine}
 use Rattle.plain_machine.proofs.Counted.{counted_owner, count_low}
 use Rattle.plain_machine.proofs.Listed.{length-without}

@@ -8,8 +8,7 @@ use Rattle.std.proofs.lemmas.Option.{same_Some, cond_some, none-some}
 use Rattle.plain_monitor.specs.Limits.{most_holds}
 use Rattle.plain_monitor.specs.Monitor.{PlainMonitor, is_thread, owns, enter, exit, wait, resumed, calls, notify, notify_all}
 use Rattle.plain_machine.specs.Thread.{ThreadState, holds_of}
-use Rattle.plain_machine.specs.inner.Kept.{unrun}
-use Rattle.plain_machine.specs.inner.Sound.{thread_in, owner_holds, IsCounted, AreKept}
+use Rattle.plain_machine.specs.Sound.{thread_in, owner_holds, IsCounted, AreKept, unrun}
 
 -- nobody but t owns the monitor, and the count is at most h
 pub record IsOwnedBy (m : PlainMonitor) (t h : ℕ) : Type 0 where

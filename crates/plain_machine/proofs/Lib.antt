@@ -10,3 +10,5 @@ pub mod Codes
 pub mod Declared
 pub mod Starts
 pub mod NeededObjects
+pub mod Places
+pub mod Refuelled

@@ -9,9 +9,7 @@ use Rattle.object_program.specs.declared.program.ObjectDef.{ObjectDef}
 use Rattle.object_program.specs.declared.program.ClassDef.{ClassDef}
 use Rattle.object_program.specs.Program.{shape_from, total_of, slots_of_class}
 use Rattle.plain_machine.specs.Thread.{ThreadState}
-use Rattle.plain_machine.specs.inner.Kept.{IsReady}
-use Rattle.plain_machine.specs.inner.Takable.{monitor_in}
-use Rattle.plain_machine.specs.inner.Sound.{IsBeside, IsKept}
+use Rattle.plain_machine.specs.Sound.{IsBeside, IsKept, IsReady, monitor_in}
 
 -- a thread that ran from its start holds nothing
 pub kept_start : (n : ℕ) (s : ThreadState) → s.holds ≡ replicate n 0 → IsReady s → IsKept n s

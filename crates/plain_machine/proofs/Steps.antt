@@ -7,9 +7,8 @@ use Rattle.std.proofs.lemmas.Option.{none-some}
 use Rattle.plain_monitor.specs.Monitor.{PlainMonitor, count_of, enter, exit, wait, resume, resumed, notify, notify_all}
 use Rattle.plain_machine.specs.Thread.{ThreadState, holds_of}
 use Rattle.plain_machine.specs.Ready.{waits_on}
-use Rattle.plain_machine.specs.inner.Kept.{unrun}
 use Rattle.plain_monitor.specs.Listed.{times_in}
-use Rattle.plain_machine.specs.inner.Sound.{thread_in, while_waiting, waiting_on, IsListed, AreListed, AreWaiting, IsBeside}
+use Rattle.plain_machine.specs.Sound.{thread_in, while_waiting, waiting_on, IsListed, AreListed, AreWaiting, IsBeside, unrun}
 use Rattle.plain_machine.proofs.Counted.{IsOwnedBy, owned_enter, owned_exit, owned_wait, owned_resumed, owned_notify, owned_notify_all, wait_owner, counted_same, counted_owned}
 use Rattle.plain_machine.proofs.Listed.{IsFewer, HasSomeMoved, fewer_same, length_same, lists_enter, lists_exit, lists_wait, fewer_wait, once_more, length_wait, fewer_moved, length_moved, moved_notify, moved_notify_all, lists_resumed, fewer_out, gone_out, length_out, found}
 

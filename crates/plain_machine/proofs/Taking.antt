@@ -9,8 +9,7 @@ use Rattle.plain_machine.specs.declared.call.Asked.{Asked}
 use Rattle.plain_machine.specs.Thread.{ThreadState}
 use Rattle.plain_machine.specs.Asking.{ask, fits, behind_entry, thread_after}
 use Rattle.plain_machine.specs.Machine.{PlainMachine, code_of, made_behind, take, moved}
-use Rattle.plain_machine.specs.inner.Kept.{unrun}
-use Rattle.plain_machine.specs.inner.Sound.{thread_in}
+use Rattle.plain_machine.specs.Sound.{thread_in, unrun}
 
 -- objects of which one takes the entry and stays as it is
 pub taken_same : (objects : List PlainObject) (o t : ℕ) (e : Entry) (x : PlainObject) → o < length objects → x ≡ get_or objects o x → take_at x t e ≡ Some x

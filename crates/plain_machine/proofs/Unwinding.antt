@@ -3,8 +3,8 @@ use Rattle.std.proofs.Common.{◌≡◌, ℕ, false, refl}
 use Rattle.plain_machine.specs.declared.call.Mode.{Mode}
 use Rattle.plain_machine.specs.declared.call.Mode.TheVariants.{Calling, Waiting, Unwinding, Ended}
 use Rattle.plain_machine.specs.Thread.{ThreadState}
-use Rattle.plain_machine.specs.Ready.{waits_on}
-use Rattle.plain_machine.specs.inner.Kept.{IsReadyIn, IsUnwinding}
+use Rattle.plain_machine.specs.Ready.{IsUnwinding, waits_on}
+use Rattle.plain_machine.specs.Sound.{IsReadyIn}
 
 pub ready_unwinding : (s : ThreadState) (m : Mode) → IsUnwinding m → IsReadyIn s m
 ready_unwinding s (Unwinding e) h = tt

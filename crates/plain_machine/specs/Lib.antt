@@ -13,4 +13,5 @@ pub mod Registered
 pub mod RegisterView
 pub mod RowView
 pub mod MachineView
+pub mod Sound
 pub mod inner

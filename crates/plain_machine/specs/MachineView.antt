@@ -3,7 +3,7 @@ use Rattle.std.specs.Prelude.{◌≡◌}
 use Rattle.object_program.specs.Program.{numbering_of}
 use Rattle.plain_machine.specs.declared.machine.Machine.TheInside.{Inside}
 use Rattle.plain_machine.specs.Machine.{PlainMachine}
-use Rattle.plain_machine.specs.inner.Sound.{IsSound}
+use Rattle.plain_machine.specs.Sound.{IsSound}
 
 abbrev pub plain_machine : Inside → PlainMachine
 plain_machine a = record {

@@ -1,11 +1,13 @@
--- When a thread may stand before a call, and when it waits on an object.
+-- When a thread may stand before a call or ask for something, and when it waits on an object.
 use Rattle.std.specs.Prelude.{ℕ, ◌<◌, Bool, false, ◌==◌, sum}
 use Rattle.object_program.specs.Limits.{most_code}
 use Rattle.plain_monitor.specs.Limits.{most_holds, most_made}
 use Rattle.plain_machine.specs.declared.call.Call.{Call}
 use Rattle.plain_machine.specs.declared.call.Call.TheVariants as call
 use Rattle.plain_machine.specs.declared.call.Mode.{Mode}
-use Rattle.plain_machine.specs.declared.call.Mode.TheVariants.{Waiting}
+use Rattle.plain_machine.specs.declared.call.Mode.TheVariants.{Waiting, Unwinding}
+use Rattle.plain_machine.specs.declared.call.Asked.{Asked}
+use Rattle.plain_machine.specs.declared.call.Asked.TheVariants.{Calls, Leaves}
 use Rattle.plain_machine.specs.Thread.{ThreadState}
 
 -- a thread that enters has room for one more hold, and one that makes an object for one more object
@@ -17,6 +19,17 @@ HasRoomFor s c = Unit {0}
 -- a call that a thread may stand before, which is then at an instruction
 abbrev pub IsReadyToCall : ThreadState → Call → Type 0
 IsReadyToCall s c = (s.place < most_code) × HasRoomFor s c
+
+-- on the way to its end
+abbrev pub IsUnwinding : Mode → Type 0
+IsUnwinding (Unwinding e) = Unit {0}
+IsUnwinding m = ⊥
+
+-- what a ready thread asks
+abbrev pub IsReadyToAsk : ThreadState → Asked → Type 0
+IsReadyToAsk s (Calls c) = IsReadyToCall s c
+IsReadyToAsk s (Leaves o) = IsUnwinding s.mode
+IsReadyToAsk s a = Unit {0}
 
 -- a thread in this mode waits on object o, or was notified and hasn't its monitor again
 abbrev pub waits_on : Mode → ℕ → Bool

@@ -1,5 +1,4 @@
 -- What only the private contracts of this crate cite: its own steps and invariants.
-pub mod Sound
 pub mod Takable
 pub mod Kept
 pub mod OwnerCalls

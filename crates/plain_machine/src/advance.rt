@@ -4,8 +4,9 @@ ghost use Rattle.std.specs.Prelude.{◌≡◌, ◌≤◌, ℕ, length};
 ghost use Rattle.object_program.specs.Limits.{most_code};
 ghost use Rattle.plain_machine.specs.declared.call.Asked.TheVariants.{Calls};
 ghost use Rattle.plain_machine.specs.Asking.{answered, behind_call, behind_entry};
-ghost use Rattle.plain_machine.specs.Ready.{IsReadyToCall, waits_on};
-ghost use Rattle.plain_machine.specs.inner.Kept.{IsReady, IsReadyToAsk, holds_behind, waits_behind};
+ghost use Rattle.plain_machine.specs.Ready.{IsReadyToAsk, IsReadyToCall, waits_on};
+ghost use Rattle.plain_machine.specs.Sound.{IsReady};
+ghost use Rattle.plain_machine.specs.inner.Kept.{holds_behind, waits_behind};
 
 use crate::call::{Asked, Call, Mode};
 use crate::run::run;

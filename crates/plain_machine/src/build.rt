@@ -6,7 +6,7 @@ ghost use Rattle.object_program.specs.Program.{shape_from, shape_of, declared_to
 ghost use Rattle.plain_monitor.specs.Limits.{most_threads};
 ghost use Rattle.plain_monitor.specs.Objects.{new_object, new_objects};
 ghost use Rattle.plain_machine.specs.Running.{first_state};
-ghost use Rattle.plain_machine.specs.inner.Sound.{IsKept, AreKept};
+ghost use Rattle.plain_machine.specs.Sound.{IsKept, AreKept};
 
 use crate::code::slots_of_class;
 use crate::object::Object;

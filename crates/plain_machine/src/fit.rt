@@ -5,7 +5,8 @@ ghost use Rattle.plain_monitor.specs.Objects.{same_value};
 ghost use Rattle.plain_machine.specs.declared.call.Call.TheVariants as call;
 ghost use Rattle.plain_monitor.specs.declared.entry.Ending.TheVariants as ending;
 ghost use Rattle.plain_machine.specs.Asking.{ask, fits, is_call, is_exit, is_resume, is_ending, fault_number};
-ghost use Rattle.plain_machine.specs.inner.Kept.{IsReady, IsReadyToAsk};
+ghost use Rattle.plain_machine.specs.Sound.{IsReady};
+ghost use Rattle.plain_machine.specs.Ready.{IsReadyToAsk};
 
 use crate::call::{Asked, Call};
 use crate::thread::Thread;

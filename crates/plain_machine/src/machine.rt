@@ -7,6 +7,8 @@ ghost use Rattle.plain_machine.specs.Offering.{offered, call_offer, resume_offer
 ghost use Rattle.plain_monitor.specs.Monitor.{is_thread, is_listed};
 ghost use Rattle.std.specs.List.{list_any};
 
+mod parts;
+
 use crate::advance::advance;
 use crate::build::{new_objects, new_threads};
 use crate::call::{Asked, Call, Mode};
@@ -18,6 +20,7 @@ use crate::offer::Offer;
 use crate::register::Register;
 use crate::thread::Thread;
 use object_program::Program;
+pub use parts::Parts;
 use plain_monitor::{Ending, Entry, NoMemory, Path, Refused, Value, ending_entry};
 use std::alloc::Global;
 use std::marker::Model;

@@ -6,6 +6,8 @@ ghost use Rattle.plain_monitor.specs.Monitor.{enter, exit, wait, resume, notify,
 ghost use Rattle.plain_monitor.specs.Objects.{new_object, with_monitor, with_hash, has_value, hashed};
 ghost use Rattle.plain_monitor.specs.declared.entry.Value.TheVariants.{Nil};
 
+mod parts;
+
 use crate::fit::same_value;
 use plain_monitor::limits::THREADS;
 use plain_monitor::{Monitor, NoMemory, Refused, Value};

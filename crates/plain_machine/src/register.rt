@@ -7,6 +7,8 @@ ghost use Rattle.plain_monitor.specs.Objects.{named};
 ghost use Rattle.plain_monitor.specs.Made.{made_by, made_number, class_of, is_there, needs, one_or_none, refers, hands_on, may_create, take_made, nothing_made};
 ghost use Rattle.object_program.specs.Program.{classes_from, numbering_of};
 
+mod parts;
+
 use object_program::{ObjectDef, Program};
 use plain_monitor::limits::MADE;
 use plain_monitor::{Entry, NoMemory, Value};

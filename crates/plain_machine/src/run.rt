@@ -4,7 +4,7 @@ ghost use Rattle.std.specs.Prelude.{◌≡◌, ◌≤◌, ℕ, false, length};
 ghost use Rattle.object_program.specs.Limits.{most_code};
 ghost use Rattle.plain_machine.specs.Running.{run_on};
 ghost use Rattle.plain_machine.specs.Ready.{waits_on};
-ghost use Rattle.plain_machine.specs.inner.Kept.{IsReady};
+ghost use Rattle.plain_machine.specs.Sound.{IsReady};
 
 use crate::call::Mode;
 use crate::step::{Next, look};

@@ -5,7 +5,10 @@ ghost use Rattle.object_program.specs.Limits.{most_code};
 ghost use Rattle.plain_monitor.specs.Limits.{most_holds, most_made};
 ghost use Rattle.plain_machine.specs.Thread.{ThreadState, local, with_local, behind, holds_of};
 ghost use Rattle.plain_machine.specs.Asking.{holds_more, holds_less, ask, held_from, unwinds};
-ghost use Rattle.plain_machine.specs.inner.Kept.{unrun, IsReady, IsReadyToAsk, IsUnwinding};
+ghost use Rattle.plain_machine.specs.Sound.{IsReady, unrun};
+ghost use Rattle.plain_machine.specs.Ready.{IsReadyToAsk, IsUnwinding};
+
+mod parts;
 
 use crate::actor::Actor;
 use crate::call::{Asked, Mode};

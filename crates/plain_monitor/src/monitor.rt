@@ -3,6 +3,8 @@
 ghost use Rattle.std.specs.Prelude.{◌≡◌, ℕ, ◌+◌, ◌<◌, ◌≤◌, OnOk, OnErr, IfOk, Some, None, Option, length, slice_get, option_map};
 ghost use Rattle.plain_monitor.specs.Monitor.{free_monitor, enter, exit, wait, resume, notify, notify_all, is_listed};
 
+mod parts;
+
 use crate::refusal::{NoMemory, Refused};
 use crate::waiters;
 use std::alloc::Global;

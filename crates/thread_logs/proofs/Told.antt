@@ -21,8 +21,7 @@ use Rattle.plain_machine.specs.Thread.{ThreadState, behind, holds_of}
 use Rattle.plain_machine.specs.Running.{run_on}
 use Rattle.plain_machine.specs.Asking.{ask_in, unwinds, held_from, is_call, is_exit, is_resume, is_ending, fits, holds_more, holds_less, answered, behind_call, behind_entry, thread_after}
 use Rattle.plain_machine.specs.Machine.{is_live}
-use Rattle.plain_machine.specs.Ready.{waits_on}
-use Rattle.plain_machine.specs.inner.Kept.{IsUnwinding}
+use Rattle.plain_machine.specs.Ready.{IsUnwinding, waits_on}
 use Rattle.plain_machine.proofs.Unwinding.{unwinding_waits}
 use Rattle.thread_logs.specs.Followed.{is_end, dumps_with}
 use Rattle.thread_logs.proofs.Running.{DumpsNext, HasRun, has_run}

@@ -1,14 +1,11 @@
 -- When the objects can take an entry or refuse it: no count passes its number, and there is room for who waits.
-use Rattle.std.specs.Prelude.{ℕ, ◌+◌, ◌<◌, ◌≤◌, List, length, slice_index_or}
+use Rattle.std.specs.Prelude.{ℕ, ◌+◌, ◌<◌, ◌≤◌, List, length}
 use Rattle.plain_monitor.specs.Limits.{most_threads, most_holds}
 use Rattle.plain_monitor.specs.declared.entry.Entry.{Entry}
 use Rattle.plain_monitor.specs.declared.entry.Entry.TheVariants.{Enter, Wait, Resume}
-use Rattle.plain_monitor.specs.Monitor.{PlainMonitor, without}
-use Rattle.plain_monitor.specs.Objects.{PlainObject, new_object}
-
--- the monitor of object o
-abbrev pub monitor_in : List PlainObject → ℕ → PlainMonitor
-monitor_in objects o = (slice_index_or objects o (new_object 0)).monitor
+use Rattle.plain_monitor.specs.Monitor.{without}
+use Rattle.plain_monitor.specs.Objects.{PlainObject}
+use Rattle.plain_machine.specs.Sound.{monitor_in}
 
 abbrev pub IsTakable : List PlainObject → ℕ → Entry → Type 0
 IsTakable objects t (Enter o path) = (monitor_in objects o).count ≤ most_holds

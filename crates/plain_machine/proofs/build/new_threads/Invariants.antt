@@ -1,6 +1,6 @@
 use Rattle.std.proofs.Common.{◌≡◌, take, map}
 use Rattle.plain_machine.specs.Running.{first_state}
-use Rattle.plain_machine.specs.inner.Sound.{AreKept}
+use Rattle.plain_machine.specs.Sound.{AreKept}
 use Rattle.plain_machine.proofs.build.new_threads.Given as goal
 
 abbrev pub invariant-loop-definition : goal.invariant-loop-definition

@@ -1,7 +1,7 @@
 use Rattle.std.proofs.Common.{ℕ, length, ap, subst, sym, ◌∙◌}
 use Rattle.std.proofs.lemmas.List.{length-map}
 use Rattle.object_program.specs.Valid.{IsProgram}
-use Rattle.plain_machine.specs.inner.Sound.{AreKept}
+use Rattle.plain_machine.specs.Sound.{AreKept}
 use Rattle.plain_machine.proofs.Starts.{beside_start}
 use Rattle.plain_machine.proofs.machine.Machine.new.Goals as goal
 

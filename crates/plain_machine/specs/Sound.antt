@@ -1,16 +1,43 @@
 -- What is kept true of a machine, so that no count and no room of a monitor gives out.
-use Rattle.std.specs.Prelude.{◌≡◌, ℕ, ◌+◌, ◌≤◌, if◌then◌else◌, List, length, sum, slice_index_or, Option, Some, None}
+use Rattle.std.specs.Prelude.{◌≡◌, ℕ, ◌+◌, ◌≤◌, if◌then◌else◌, List, length, replicate, sum, slice_index_or, Option, Some, None}
 use Rattle.std.specs.List.{All, sum_by}
 use Rattle.plain_monitor.specs.Limits.{most_threads, most_holds}
+use Rattle.plain_monitor.specs.declared.entry.Value.TheVariants.{Nil}
+use Rattle.plain_monitor.specs.declared.entry.Ending.TheVariants.{Done}
 use Rattle.plain_monitor.specs.Monitor.{PlainMonitor}
+use Rattle.plain_monitor.specs.Objects.{PlainObject, new_object}
 use Rattle.object_program.specs.Program.{objects_total}
 use Rattle.object_program.specs.Valid.{IsProgram}
+use Rattle.plain_machine.specs.declared.call.Mode.{Mode}
+use Rattle.plain_machine.specs.declared.call.Mode.TheVariants.{Calling, Unwinding}
 use Rattle.plain_machine.specs.Thread.{ThreadState, holds_of}
 use Rattle.plain_machine.specs.Machine.{PlainMachine}
 use Rattle.plain_monitor.specs.Listed.{times_in, counts_in}
-use Rattle.plain_machine.specs.Ready.{waits_on}
-use Rattle.plain_machine.specs.inner.Kept.{unrun, IsReady}
-use Rattle.plain_machine.specs.inner.Takable.{monitor_in}
+use Rattle.plain_machine.specs.Ready.{IsReadyToCall, waits_on}
+
+-- a thread that has not run: its locals are nil, and it holds nothing
+abbrev pub unrun : ℕ → ℕ → ℕ → ThreadState
+unrun locals objects fuel =
+    record {
+      place = 0;
+      locals = replicate locals Nil;
+      fuel = fuel;
+      holds = replicate objects 0;
+      dumps = 0;
+      made = 0;
+      mode = Unwinding Done;
+    }
+
+abbrev pub IsReadyIn : ThreadState → Mode → Type 0
+IsReadyIn s (Calling c) = IsReadyToCall s c
+IsReadyIn s m = Unit {0}
+
+abbrev pub IsReady : ThreadState → Type 0
+IsReady s = IsReadyIn s s.mode
+
+-- the monitor of object o
+abbrev pub monitor_in : List PlainObject → ℕ → PlainMonitor
+monitor_in objects o = (slice_index_or objects o (new_object 0)).monitor
 
 abbrev pub thread_in : List ThreadState → ℕ → ThreadState
 thread_in threads t = slice_index_or threads t (unrun 0 0 0)

@@ -1,0 +1,50 @@
+use Rattle.std.proofs.Common.{◌≡◌, ℕ, suc, ◌+◌, ◌-◌, List, ◌∷◌, drop, refl, sym, ap, ◌∙◌, arith}
+use Rattle.plain_monitor.specs.Objects.{PlainObject}
+use Rattle.machine_words.specs.Readers.{read_pairs}
+use Rattle.machine_words.proofs.Loops.{reads_none, reads_more, reads_all, filled_more}
+use Rattle.machine_words.proofs.read_object.read_waiting.Goals as goal
+
+pub loop-init : goal.loop-init
+loop-init c =
+    let whole : c.args.count - 0 ≡ c.args.count = omega arith in
+    record {
+      same = refl;
+      reads = reads_none read_pairs c.args.object.now.monitor.waits c.args.count (drop c.args.at.now c.args.words.now) (c.args.count - 0) whole;
+    }
+
+pub loop-preserved : goal.loop-preserved
+loop-preserved c =
+    let inv = c.loop.invariant in
+    let ws = c.args.words.now in
+    let less : ℕ = c.args.count - (c.loop.counter + 1) in
+    let behind : List ℕ = drop c.take_number-in-loop.new.at ws in
+    let left : c.args.count - c.loop.counter ≡ suc less = omega arith in
+    let here : drop c.loop.at ws ≡ c.in_ok-thread.thread ∷ c.in_ok-holds.holds ∷ behind =
+    c.in_ok-thread.ensures ∙ ap (λ xs. c.in_ok-thread.thread ∷ xs) c.in_ok-holds.ensures in
+    let filled =
+    filled_more (λ (x : PlainObject). x.monitor.waits) (λ (x : PlainObject) (ps : List (ℕ × ℕ)). record x { monitor = record x.monitor { waits = ps } })
+    c.args.object.now c.loop.object c.add_waiting.new.self (c.in_ok-thread.thread, c.in_ok-holds.holds) (λ s xs. refl) (λ s xs ys. refl) inv.same
+    c.in_ok-add_waiting.ensures in
+    record {
+      same = filled.0;
+      reads = reads_more read_pairs c.args.object.now.monitor.waits c.args.count (drop c.args.at.now ws) c.loop.object.monitor.waits (c.args.count - c.loop.counter)
+          (drop c.loop.at ws) (c.in_ok-thread.thread, c.in_ok-holds.holds) less behind c.add_waiting.new.self.monitor.waits filled.1 left (ap (read_pairs (suc less)) here) inv.reads;
+    }
+
+pub returns-clause-object : goal.returns-clause-object
+returns-clause-object c =
+    let inv = c.loop.invariant in
+    let first = c.args.object.now in
+    let none : c.args.count - c.loop.counter ≡ 0 = omega arith in
+    let all =
+    reads_all read_pairs first.monitor.waits c.args.count (drop c.args.at.now c.args.words.now) c.loop.object.monitor.waits (c.args.count - c.loop.counter)
+    (drop c.loop.at c.args.words.now) none refl inv.reads in
+    inv.same ∙ ap (λ (ps : List (ℕ × ℕ)). record first { monitor = record first.monitor { waits = ps } }) (sym all.0)
+
+pub returns-clause-rest : goal.returns-clause-rest
+returns-clause-rest c =
+    let none : c.args.count - c.loop.counter ≡ 0 = omega arith in
+    let all =
+    reads_all read_pairs c.args.object.now.monitor.waits c.args.count (drop c.args.at.now c.args.words.now) c.loop.object.monitor.waits (c.args.count - c.loop.counter)
+    (drop c.loop.at c.args.words.now) none refl c.loop.invariant.reads in
+    sym all.1

@@ -1,0 +1,52 @@
+use Rattle.std.proofs.Common.{ℕ, ◌+◌, ◌<◌, ◌≤◌, List, [], length, drop, refl, sym, ap, ◌∙◌, subst, arith}
+use Rattle.machine_words.specs.MadeWords.{read_row}
+use Rattle.machine_words.specs.inner.Reading.{Walks, row_step}
+use Rattle.machine_words.proofs.Walking.{walks_none, walks_more, walks_all}
+use Rattle.machine_words.proofs.WalkedParts.{rows_walked}
+use Rattle.machine_words.proofs.read_thread.read_made.Goals as goal
+
+pub loop-t-init : goal.loop-t-init
+loop-t-init c =
+    record {
+      numbering = refl;
+      end = c.threads-t-end.ensures;
+      walks = walks_none row_step c.args.register.now.made (drop c.args.at.now c.args.words.now);
+    }
+
+pub read_row-requires : goal.read_row-requires
+read_row-requires c = omega (arith, c.loop-t.invariant.walks.count, c.loop-t.invariant.end)
+
+pub loop-t-preserved : goal.loop-t-preserved
+loop-t-preserved c =
+    let inv = c.loop-t.invariant in
+    let first = c.args.register.now.made in
+    let ws = c.args.words.now in
+    let rest : List ℕ = drop c.loop-t.at ws in
+    let after : List ℕ = drop c.read_row.new.at ws in
+    let within : c.loop-t.t < length c.loop-t.register.made = omega (arith, inv.walks.count, inv.end) in
+    let more =
+    walks_more row_step first (drop c.args.at.now ws) c.loop-t.t c.loop-t.register.made rest (read_row rest).0 [] after within refl
+    c.in_ok-read_row.ensures.rest inv.walks in
+    record {
+      numbering = c.in_ok-read_row.ensures.numbering ∙ inv.numbering;
+      end = inv.end;
+      walks = subst (λ (m : List (List ℕ)). Walks row_step first (drop c.args.at.now ws) (c.loop-t.t + 1) m after) (sym c.in_ok-read_row.ensures.made) more;
+    }
+
+pub returns-clause-made : goal.returns-clause-made
+returns-clause-made c =
+    let inv = c.loop-t.invariant in
+    let first = c.args.register.now.made in
+    let words : List ℕ = drop c.args.at.now c.args.words.now in
+    let past : length c.loop-t.register.made ≤ c.loop-t.t = omega (arith, inv.walks.count, inv.end) in
+    let all = walks_all row_step first words c.loop-t.t c.loop-t.register.made (drop c.loop-t.at c.args.words.now) past inv.walks in
+    sym all.0 ∙ ap (λ (r : List (List ℕ) × List ℕ). r.0) (rows_walked 0 first words)
+
+pub returns-clause-rest : goal.returns-clause-rest
+returns-clause-rest c =
+    let inv = c.loop-t.invariant in
+    let first = c.args.register.now.made in
+    let words : List ℕ = drop c.args.at.now c.args.words.now in
+    let past : length c.loop-t.register.made ≤ c.loop-t.t = omega (arith, inv.walks.count, inv.end) in
+    let all = walks_all row_step first words c.loop-t.t c.loop-t.register.made (drop c.loop-t.at c.args.words.now) past inv.walks in
+    sym all.1 ∙ ap (λ (r : List (List ℕ) × List ℕ). r.1) (rows_walked 0 first words)

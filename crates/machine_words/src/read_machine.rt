@@ -1,0 +1,77 @@
+//! A machine by its words.
+
+ghost use Rattle.std.specs.Prelude.{◌≡◌, length, IfOk, OnOk};
+ghost use Rattle.machine_laws.specs.Reached.{IsReached};
+ghost use Rattle.plain_machine.specs.Sound.{IsSound};
+ghost use Rattle.machine_words.specs.MachineWords.{machine_of};
+
+use crate::place_thread::place_threads;
+use crate::read_object::read_objects;
+use crate::read_thread::{read_made, read_threads};
+use crate::unread::Unread;
+use object_program::Program;
+use plain_machine::{Machine, Object, Parts, Register, Thread};
+
+/// The machine of these words, whose threads have this much fuel each. It is made of a machine of the same program, and takes memory only
+/// where that has no room. Where memory is wanting, `NoMemory`, and where the words are no machine's, `NoMachine`: the machine is gone then.
+pub fn load(machine: Machine, words: &[u64], fuel: u32) -> Result<Machine, Unread>
+    requires room { IsReached machine }
+    requires sound { IsSound (machine_of machine.program fuel words.now) }
+    ensures { IfOk result (λ m. m ≡ machine_of machine.program fuel words.now) }
+{
+    let Parts {
+        program,
+        mut objects,
+        mut register,
+        mut threads,
+    } = machine.into_parts();
+    read_parts(
+        &program,
+        words,
+        fuel,
+        &mut objects,
+        &mut register,
+        &mut threads,
+    )?;
+    let parts = Parts {
+        program,
+        objects,
+        register,
+        threads,
+    };
+    Ok(parts.into_machine())
+}
+
+/// Makes the parts of a machine of the program those of the machine of these words.
+fn read_parts(
+    program: &Program,
+    words: &[u64],
+    fuel: u32,
+    objects: &mut [Object],
+    register: &mut Register,
+    threads: &mut [Thread],
+) -> Result<(), Unread>
+    requires room { IsReached (record {
+      program = program.now;
+      objects = objects.old;
+      made = register.old.made;
+      threads = threads.old;
+    }) }
+    requires sound { IsSound (machine_of program.now fuel words.now) }
+    ensures machine { OnOk result (record {
+      program = program.now;
+      objects = objects.new;
+      made = register.new.made;
+      threads = threads.new;
+    } ≡ machine_of program.now fuel words.now) }
+    ensures objects { OnOk result (length objects.new ≡ length objects.old) }
+    ensures threads { OnOk result (length threads.new ≡ length threads.old) }
+    ensures numbering { register.new.numbering ≡ register.old.numbering }
+{
+    let mut at = 0;
+    read_threads(words, &mut at, fuel, threads)?;
+    read_made(words, &mut at, register)?;
+    read_objects(words, &mut at, objects)?;
+    place_threads(program, objects, fuel, threads)?;
+    Ok(())
+}

@@ -1,0 +1,35 @@
+//! The words of a machine.
+
+ghost use Rattle.std.specs.Prelude.{◌≡◌, ◌++◌, OnOk};
+ghost use Rattle.machine_laws.specs.Reached.{IsReached};
+ghost use Rattle.machine_words.specs.MadeWords.{made_words};
+ghost use Rattle.machine_words.specs.MachineWords.{words_of};
+
+use crate::object_words::add_objects;
+use crate::thread_words::add_threads;
+use crate::writer::{add, add_numbers};
+use plain_machine::{Machine, Register};
+use plain_monitor::NoMemory;
+
+/// The classes of what each thread has made.
+fn add_made(out: &mut Vec<u64>, register: &Register) -> Result<(), NoMemory>
+    ensures { OnOk result (out.new.items ≡ out.old.items ++ made_words register.now.made) }
+{
+    for t in 0..register.threads() {
+        let row = register.row(t);
+        add(out, row.len() as u64)?;
+        add_numbers(out, row)?;
+    }
+    Ok(())
+}
+
+/// Writes the words of a machine that entries of its program lead to, behind those that are there. Where memory is wanting, `NoMemory`.
+pub fn add_words(machine: &Machine, out: &mut Vec<u64>) -> Result<(), NoMemory>
+    requires { IsReached machine.now }
+    ensures { OnOk result (out.new.items ≡ out.old.items ++ words_of machine.now) }
+{
+    add_threads(out, machine.threads())?;
+    add_made(out, machine.register())?;
+    add_objects(out, machine.objects())?;
+    Ok(())
+}
