@@ -31,7 +31,7 @@ use Rattle.state_search.specs.Found.{Keys}
 use Rattle.state_search.specs.Search.{Has, IsSearch}
 use Rattle.outcome_search.specs.Settled.{entry_in, behind_next, settled}
 use Rattle.outcome_search.specs.NextWords.{is_any_spent, key_of, first_key, next_of, next_key}
-use Rattle.outcome_search.specs.Real.{IsReal}
+use Rattle.outcome_search.specs.Real.{IsLed, IsReal}
 use Rattle.outcome_search.proofs.Chains.{chain}
 use Rattle.outcome_search.proofs.Ways.{HasWay, has_spent}
 use Rattle.outcome_search.proofs.Good.{IsGood, IsGoodKey, key_read, good_first, good_behind, settled_read, all_good}
@@ -47,7 +47,7 @@ offered_entry offer.Ended e other h = absurd h
 
 behind_taken : (p : ProgramText) (fuel : ℕ) (m n : PlainMachine) (t : ℕ) (e : Entry) → IsGood p fuel m → take m t e ≡ Some n → behind_next m t ≡ Some n
 behind_taken p fuel m n t e h takes =
-    let offers = offered_entry (offered m t) e (makes_none m n t e h.no_hash takes) (taken_is_offered m n t e h.reached takes) in
+    let offers = offered_entry (offered m t) e (makes_none m n t e h.no_hash takes) (taken_is_offered m n t e h.found.reached takes) in
     rw offers (bare_same m t e ∙ takes)
 
 -- the machine of a key that was found
@@ -85,6 +85,11 @@ module _ (p : ProgramText) (fuel steps most : ℕ) (f : Keys) (valid : IsProgram
       let g = good_at k key at in
       subst (λ (m : PlainMachine). HasSpent m ⊎ IsReal p fuel m) (sym (key_read p fuel key g)) (real_by p fuel g.machine some g.good.way)
 
+  pub led_at : (k : ℕ) (key : List ℕ) → slice_get f.keys k ≡ Some key → IsLed p fuel (machine_of p fuel key)
+  led_at k key at =
+      let g = good_at k key at in
+      subst (IsLed p fuel) (sym (key_read p fuel key g)) g.good.led
+
   pub once_at : (j k : ℕ) (one two : List ℕ) → slice_get f.keys j ≡ Some one → slice_get f.keys k ≡ Some two
       → machine_of p fuel one ≡ machine_of p fuel two → j ≡ k
   once_at j k one two a b same =
@@ -111,7 +116,7 @@ module _ (p : ProgramText) (fuel steps most : ℕ) (f : Keys) (valid : IsProgram
           subst (λ (z : PlainMachine). next_of fuel steps t z ≡ Some (key_of fuel steps n)) (sym is) leads in
           let k2 = taken m t e n takes in
           let count : length m.threads ≡ length p.threads =
-          good.reached.thread_count ∙ ap (λ (q : ProgramText). length q.threads) good.program in
+          good.found.reached.thread_count ∙ ap (λ (q : ProgramText). length q.threads) good.found.program in
           let within : t < length p.threads = omega (arith, slice_get_within m.threads t k2.s k2.at, count) in
           let gone : k < f.gone = omega (arith, slice_get_within f.keys k key at, all) in
           let has = h.found.closed k key gone at t (key_of fuel steps n) within by_key in

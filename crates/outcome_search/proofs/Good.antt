@@ -6,59 +6,43 @@ use Rattle.object_program.specs.Program.{ProgramText}
 use Rattle.object_program.specs.Valid.{IsProgram}
 use Rattle.plain_machine.specs.Machine.{PlainMachine, new_machine, take}
 use Rattle.plain_machine.specs.Offering.{offered}
-use Rattle.machine_laws.specs.Reached.{IsReached}
-use Rattle.machine_laws.proofs.ReachedAsked.{taken}
-use Rattle.machine_laws.proofs.ReachedEntries.{progress}
-use Rattle.machine_laws.proofs.ReachedFirst.{first_is_reached}
 use Rattle.every_outcome.specs.Fuel.{refuelled, HasSpent}
 use Rattle.every_outcome.specs.NoHash.{HasNoHash, AsksNoHash}
-use Rattle.every_outcome.specs.Stands.{AllStand}
-use Rattle.every_outcome.proofs.FullFuel.{full_twice}
 use Rattle.every_outcome.proofs.NoHash.{first_asks_none, full_asks_none, stays}
-use Rattle.every_outcome.proofs.Refuelled.{reached_full}
-use Rattle.every_outcome.proofs.Standing.{all_stand_first, all_stand_behind, all_stand_full}
 use Rattle.machine_words.specs.MachineWords.{words_of, machine_of}
-use Rattle.machine_words.proofs.ReadBack.{read_back}
 use Rattle.state_search.specs.Search.{LeadsBy}
 use Rattle.outcome_search.specs.Settled.{entry_in, behind_next, settled}
 use Rattle.outcome_search.specs.NextWords.{is_any_spent, key_of, first_key, next_of, next_key}
+use Rattle.outcome_search.specs.Keys.{IsFound}
 use Rattle.outcome_search.proofs.Chains.{settles}
-use Rattle.outcome_search.proofs.Ways.{HasWay, first_way, way_behind}
+use Rattle.outcome_search.proofs.Found.{found_behind, found_first, found_read}
+use Rattle.outcome_search.specs.Real.{IsLed}
+use Rattle.outcome_search.proofs.Ways.{HasWay, first_way, led_behind, led_first, way_behind}
 
 -- a reached machine of the program, whose threads have all their fuel
 pub record IsGood (p : ProgramText) (fuel : ℕ) (m : PlainMachine) : Type 0 where
-  pub program : m.program ≡ p
-  pub reached : IsReached m
-  pub stand : AllStand m
+  pub found : IsFound p fuel m
   pub no_hash : AsksNoHash m
-  pub full : refuelled fuel m ≡ m
+  pub led : IsLed p fuel m
   pub way : HasSpent m ⊎ HasWay p fuel m
-
-same_program : (m n : PlainMachine) (t : ℕ) (e : Entry) → take m t e ≡ Some n → n.program ≡ m.program
-same_program m n t e takes = ap (λ (z : PlainMachine). z.program) (sym (taken m t e n takes).is)
 
 -- it is good with its fuel given back, behind an entry
 pub good_behind : (p : ProgramText) (fuel : ℕ) (m n : PlainMachine) (t : ℕ) (e : Entry) → 1 ≤ fuel → IsGood p fuel m → take m t e ≡ Some n
     → IsGood p fuel (refuelled fuel n)
 good_behind p fuel m n t e some h takes =
     record {
-      program = same_program m n t e takes ∙ h.program;
-      reached = reached_full fuel n some (progress m n t e h.reached takes).reached;
-      stand = all_stand_full fuel n (all_stand_behind m n t e h.stand takes);
+      found = found_behind p fuel m n t e some h.found takes;
       no_hash = full_asks_none fuel n (stays m n t e h.no_hash takes);
-      full = ap (λ (ss : List _). record n { threads = ss }) (full_twice fuel n.threads);
+      led = led_behind p fuel m n t e takes h.led;
       way = way_behind p fuel m n t e takes h.way;
     }
 
 pub good_first : (p : ProgramText) (fuel : ℕ) → IsProgram p → HasNoHash p → 1 ≤ fuel → IsGood p fuel (refuelled fuel (new_machine p fuel))
 good_first p fuel valid free some =
-    let m = new_machine p fuel in
     record {
-      program = refl;
-      reached = reached_full fuel m some (first_is_reached p fuel valid);
-      stand = all_stand_full fuel m (all_stand_first p fuel);
-      no_hash = full_asks_none fuel m (first_asks_none p fuel free);
-      full = ap (λ (ss : List _). record m { threads = ss }) (full_twice fuel m.threads);
+      found = found_first p fuel valid some;
+      no_hash = full_asks_none fuel (new_machine p fuel) (first_asks_none p fuel free);
+      led = led_first p fuel;
       way = first_way p fuel;
     }
 
@@ -66,14 +50,10 @@ good_settled : (p : ProgramText) (fuel steps : ℕ) (m : PlainMachine) → 1 ≤
 good_settled p fuel steps m some h =
     settles (IsGood p fuel) fuel steps m (λ m a good k. good_behind p fuel m a k.thread k.entry some good k.takes) h
 
--- it is the machine of its words
-pub good_read : (p : ProgramText) (fuel : ℕ) (m : PlainMachine) → IsGood p fuel m → machine_of p fuel (words_of m) ≡ m
-good_read p fuel m h =
-    subst (λ (q : ProgramText). machine_of q fuel (words_of m) ≡ refuelled fuel m) h.program (read_back m fuel h.reached h.stand) ∙ h.full
-
 pub settled_read : (p : ProgramText) (fuel steps : ℕ) (n : PlainMachine) → 1 ≤ fuel → IsGood p fuel (refuelled fuel n)
     → machine_of p fuel (key_of fuel steps n) ≡ settled fuel steps (refuelled fuel n)
-settled_read p fuel steps n some h = good_read p fuel (settled fuel steps (refuelled fuel n)) (good_settled p fuel steps (refuelled fuel n) some h)
+settled_read p fuel steps n some h =
+    found_read p fuel (settled fuel steps (refuelled fuel n)) (good_settled p fuel steps (refuelled fuel n) some h).found
 
 -- the words of a good machine
 pub record IsGoodKey (p : ProgramText) (fuel : ℕ) (key : List ℕ) : Type 0 where
@@ -82,7 +62,7 @@ pub record IsGoodKey (p : ProgramText) (fuel : ℕ) (key : List ℕ) : Type 0 wh
   pub words : words_of machine ≡ key
 
 pub key_read : (p : ProgramText) (fuel : ℕ) (key : List ℕ) (k : IsGoodKey p fuel key) → machine_of p fuel key ≡ k.machine
-key_read p fuel key k = ap (machine_of p fuel) (sym k.words) ∙ good_read p fuel k.machine k.good
+key_read p fuel key k = ap (machine_of p fuel) (sym k.words) ∙ found_read p fuel k.machine k.good.found
 
 pub first_good : (p : ProgramText) (fuel steps : ℕ) → IsProgram p → HasNoHash p → 1 ≤ fuel → IsGoodKey p fuel (first_key p fuel steps)
 first_good p fuel steps valid free some =

@@ -1,4 +1,12 @@
+pub mod Found
+pub mod Going
+pub mod Stepping
 pub mod Chains
 pub mod Ways
 pub mod Good
 pub mod Closed
+pub mod Counting
+pub mod Hashes
+pub mod KnownEnds
+pub mod Trails
+pub mod EveryEnds

@@ -11,6 +11,7 @@ use Rattle.plain_machine.specs.Machine.{PlainMachine, new_machine, take}
 use Rattle.every_outcome.specs.Fuel.{is_spent, refuelled, HasSpent, LeadsFull}
 use Rattle.every_outcome.proofs.FullFuel.{spent_behind, spent_full}
 use Rattle.outcome_search.specs.NextWords.{is_any_spent}
+use Rattle.outcome_search.specs.Real.{LeadsRefuelled, IsLed}
 
 spent_among : (ss : List ThreadState) → list_any (λ s. is_spent s.mode) ss ≡ true
     → (t : ℕ) × (s : ThreadState) × (slice_get ss t ≡ Some s) × (is_spent s.mode ≡ true)
@@ -43,6 +44,21 @@ lead_more : (fuel : ℕ) (xs : List (ℕ × Logged)) (m b a : PlainMachine) (x :
 lead_more fuel [] m b a x leads takes alive =
     (a, subst (λ (z : PlainMachine). take z x.0 x.1.entry ≡ Some a) (sym leads) takes, alive, refl)
 lead_more fuel (y ∷ xs) m b a x leads takes alive = (leads.0, leads.1, leads.2, lead_more fuel xs (refuelled fuel leads.0) b a x leads.3 takes alive)
+
+-- the same whoever is spent
+led_more : (fuel : ℕ) (xs : List (ℕ × Logged)) (m b a : PlainMachine) (x : ℕ × Logged) → LeadsRefuelled fuel m xs b → take b x.0 x.1.entry ≡ Some a
+    → LeadsRefuelled fuel m (xs ++ x ∷ []) (refuelled fuel a)
+led_more fuel [] m b a x leads takes = (a, subst (λ (z : PlainMachine). take z x.0 x.1.entry ≡ Some a) (sym leads) takes, refl)
+led_more fuel (y ∷ xs) m b a x leads takes = (leads.0, leads.1, led_more fuel xs (refuelled fuel leads.0) b a x leads.2 takes)
+
+pub led_first : (p : ProgramText) (fuel : ℕ) → IsLed p fuel (refuelled fuel (new_machine p fuel))
+led_first p fuel = record { entries = []; leads = refl }
+
+pub led_behind : (p : ProgramText) (fuel : ℕ) (m n : PlainMachine) (t : ℕ) (e : Entry) → take m t e ≡ Some n → IsLed p fuel m
+    → IsLed p fuel (refuelled fuel n)
+led_behind p fuel m n t e takes led =
+    let x : ℕ × Logged = (t, record { stamp = 0; entry = e }) in
+    record { entries = led.entries ++ x ∷ []; leads = led_more fuel led.entries (refuelled fuel (new_machine p fuel)) m n x led.leads takes }
 
 -- entries lead there from the first machine, with the fuel given back behind each, and nobody is spent on the way
 pub record HasWay (p : ProgramText) (fuel : ℕ) (m : PlainMachine) : Type 0 where

@@ -1,3 +1,10 @@
 pub mod Settled
 pub mod NextWords
+pub mod Keys
+pub mod Ends
+pub mod Outcomes
+pub mod MovesView
 pub mod Real
+pub mod EveryEnd
+pub mod Witness
+pub mod inner

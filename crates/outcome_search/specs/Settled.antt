@@ -17,9 +17,13 @@ entry_in offer = None
 abbrev pub behind_next : PlainMachine → ℕ → Option PlainMachine
 behind_next m t = option_and_then (λ e. take m t e) (entry_in (offered m t))
 
+-- behind this entry of thread t, where it goes alone
+abbrev pub taken_alone : PlainMachine → ℕ → Entry → Option PlainMachine
+taken_alone m t e = if goes_alone m t e then take m t e else None
+
 -- behind the entry of thread t, where it has one that goes alone
 abbrev pub behind_alone : PlainMachine → ℕ → Option PlainMachine
-behind_alone m t = option_and_then (λ e. if goes_alone m t e then take m t e else None) (entry_in (offered m t))
+behind_alone m t = option_and_then (λ e. taken_alone m t e) (entry_in (offered m t))
 
 abbrev pub or_else : Option PlainMachine → Option PlainMachine → Option PlainMachine
 or_else (Some m) other = Some m

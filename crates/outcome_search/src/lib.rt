@@ -1,7 +1,24 @@
-//! Laws of the search for all ends of a program, over the words of machines: it finds none that no run comes to, and where it went into all
-//! of its keys it misses none.
+//! The search for all ends of a program, over the words of machines, with their counts, and its laws: it finds none that no run comes to, and
+//! where it went into all of its keys it misses none.
 #![tactic(auto)]
 
+mod alone;
+mod course;
+mod ends;
+mod find;
 mod laws;
+mod moves;
+mod outcome;
+mod witness;
 
-pub use laws::{searches_are_closed, searches_find_real_machines, searches_have_every_end};
+pub use ends::End;
+pub use find::{OutcomeError, find_outcomes};
+pub use laws::{
+    counted_ends_are_real, counted_programs_have_no_hash, counts_without_faulted_ends,
+    counts_without_stuck_ends, every_end_says_how_runs_end, first_ends_are_such_ends,
+    searches_are_closed, searches_find_every_end, searches_find_real_machines,
+    searches_have_every_end,
+};
+pub use moves::MachineMoves;
+pub use outcome::Outcomes;
+pub use witness::find_witness;

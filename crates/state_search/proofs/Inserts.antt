@@ -17,22 +17,27 @@ last_there : (keys : List (List ℕ)) (v : List ℕ) → slice_get (keys ++ v �
 last_there [] v = refl
 last_there (k ∷ keys) v = last_there keys v
 
-keeps_push : (keys : List (List ℕ)) (v : List ℕ) → Keeps keys (keys ++ v ∷ [])
+pub keeps_push : (keys : List (List ℕ)) (v : List ℕ) → Keeps keys (keys ++ v ∷ [])
 keeps_push [] v k x h = absurd (none-some x h)
 keeps_push (y ∷ keys) v zero x h = h
 keeps_push (y ∷ keys) v (suc k) x h = keeps_push keys v k x h
 
 -- what stands in a list with one more is of the list, or it is the one
-old_or_last : (keys : List (List ℕ)) (v : List ℕ) (k : ℕ) (x : List ℕ) → slice_get (keys ++ v ∷ []) k ≡ Some x
-    → (slice_get keys k ≡ Some x) ⊎ ((k ≡ length keys) × (x ≡ v))
-old_or_last [] v zero x h = inr (refl, sym (same_Some v x h))
-old_or_last [] v (suc k) x h = absurd (none-some x h)
-old_or_last (y ∷ keys) v zero x h = inl h
-old_or_last (y ∷ keys) v (suc k) x h = go (old_or_last keys v k x h)
-  where
-    go : (slice_get keys k ≡ Some x) ⊎ ((k ≡ length keys) × (x ≡ v)) → (slice_get keys k ≡ Some x) ⊎ ((suc k ≡ suc (length keys)) × (x ≡ v))
-    go (inl old) = inl old
-    go (inr last) = inr (ap suc last.0, last.1)
+module _ {A : Type 0} where
+  pub old_or_last : (items : List A) (v : A) (k : ℕ) (x : A) → slice_get (items ++ v ∷ []) k ≡ Some x
+      → (slice_get items k ≡ Some x) ⊎ ((k ≡ length items) × (x ≡ v))
+  old_or_last [] v zero x h = inr (refl, sym (same_Some v x h))
+  old_or_last [] v (suc k) x h = absurd (none-some x h)
+  old_or_last (y ∷ items) v zero x h = inl h
+  old_or_last (y ∷ items) v (suc k) x h = go (old_or_last items v k x h)
+    where
+      go : (slice_get items k ≡ Some x) ⊎ ((k ≡ length items) × (x ≡ v)) → (slice_get items k ≡ Some x) ⊎ ((suc k ≡ suc (length items)) × (x ≡ v))
+      go (inl old) = inl old
+      go (inr last) = inr (ap suc last.0, last.1)
+
+  pub length_push : (items : List A) (v : A) → length (items ++ v ∷ []) ≡ length items + 1
+  length_push [] v = refl
+  length_push (k ∷ items) v = omega (arith, length_push items v)
 
 has_any : (keys : List (List ℕ)) (v : List ℕ) → is_among keys v ≡ true → Has keys v
 has_any [] v h = absurd (false≢true h)
@@ -83,10 +88,6 @@ inserted keys v = go (is_among keys v) refl
       only = λ k x h. part k x (old_or_last keys v k x h);
       once = once_push keys v e;
     })
-
-length_push : (keys : List (List ℕ)) (v : List ℕ) → length (keys ++ v ∷ []) ≡ length keys + 1
-length_push [] v = refl
-length_push (k ∷ keys) v = omega (arith, length_push keys v)
 
 -- how many there are then
 pub length_kept : (keys : List (List ℕ)) (v : List ℕ) → is_among keys v ≡ true → length (insert_key same_words keys v) ≡ length keys

@@ -5,10 +5,13 @@ use Rattle.std.proofs.lemmas.Bool.Decides.{nat_tests}
 use Rattle.std.proofs.lemmas.Option.{none-some, same_Some, slice_get_within}
 use Rattle.indexmap.specs.IndexSet.{insert_key}
 use Rattle.state_search.specs.Found.{Keys}
+use Rattle.state_search.specs.declared.found.Origin.{Origin}
+use Rattle.state_search.specs.inner.Added.{with_key}
 use Rattle.state_search.specs.inner.Among.{same_words, is_among}
-use Rattle.state_search.specs.Search.{Has, LeadsInto, IsClosedBelow, IsLedTo, IsUnderWay}
-use Rattle.state_search.specs.inner.Steps.{AreKeys, Keeps, GoesOn}
+use Rattle.state_search.specs.Search.{Has, AreKeys, LeadsInto, IsClosedBelow, IsLedTo, LeadsFrom, IsUnderWay}
+use Rattle.state_search.specs.inner.Steps.{Keeps, GoesOn}
 use Rattle.state_search.proofs.Inserts.{IsInserted, inserted, length_kept, length_more}
+use Rattle.state_search.proofs.Origins.{origins_added}
 
 -- a place before one that is filled is filled
 before_none : (keys : List (List ℕ)) (k n : ℕ) → k < n → n ≤ length keys → slice_get keys k ≡ None → ⊥
@@ -43,11 +46,12 @@ module _ (next : List ℕ → ℕ → Option (List ℕ)) (many : ℕ) where
 
   -- a key that the next key leads to is added, where there is room for it
   pub goes_on_added : (most choice : ℕ) (key to : List ℕ) (f : Keys) → slice_get f.keys f.gone ≡ Some key → choice < many → next key choice ≡ Some to
-      → (nat_lt (length f.keys) most || is_among f.keys to) ≡ true → GoesOn next many most f (record f { keys = insert_key same_words f.keys to })
+      → (nat_lt (length f.keys) most || is_among f.keys to) ≡ true → GoesOn next many most f (with_key f to (record { key = f.gone; choice = choice }))
   goes_on_added most choice key to f here lt leads room first u = record {
     first_key = i.kept 0 first u.first_key;
     once = i.once u.once;
     led = λ k x at. led k x (i.only k x at);
+    origins = origins_added next many key to (record { key = f.gone; choice = choice }) f here lt leads u.origins;
     closed = closed_kept f.gone f.keys (insert_key same_words f.keys to) i.kept u.within u.closed;
     within = omega (arith, u.within, longer);
     few = fits (is_among f.keys to) refl;
@@ -84,6 +88,7 @@ module _ (next : List ℕ → ℕ → Option (List ℕ)) (many : ℕ) where
     first_key = u.first_key;
     once = u.once;
     led = u.led;
+    origins = u.origins;
     closed = closed;
     within = omega (arith, slice_get_within f.keys f.gone key here);
     few = u.few;
@@ -100,11 +105,12 @@ module _ (next : List ℕ → ℕ → Option (List ℕ)) (many : ℕ) where
 
 -- the first key alone
 pub under_way_first : (next : List ℕ → ℕ → Option (List ℕ)) (many most : ℕ) (first : List ℕ) → 1 ≤ most
-    → IsUnderWay next many first most (record { keys = first ∷ []; gone = 0 })
+    → IsUnderWay next many first most (record { keys = first ∷ []; origins = record { key = 0; choice = 0 } ∷ []; gone = 0 })
 under_way_first next many most first some = record {
   first_key = refl;
   once = once;
   led = led;
+  origins = record { each = refl; lead = lead };
   closed = λ k key lt at. absurd (omega (arith, lt));
   within = omega arith;
   few = some;
@@ -118,6 +124,11 @@ under_way_first next many most first some = record {
     led : (k : ℕ) (key : List ℕ) → slice_get (first ∷ []) k ≡ Some key → IsLedTo next many first key
     led zero key at = record { choices = []; leads = same_Some first key at }
     led (suc k) key at = absurd (none-some key at)
+
+    lead : (k : ℕ) (origin : Origin) (key : List ℕ) → 1 ≤ k → slice_get (record { key = 0; choice = 0 } ∷ []) k ≡ Some origin
+        → slice_get (first ∷ []) k ≡ Some key → LeadsFrom next many (first ∷ []) k origin key
+    lead zero origin key some its at = absurd (omega (arith, some))
+    lead (suc k) origin key some its at = absurd (none-some key at)
 
 pub keys_inserted : (is_key : List ℕ → Type 0) (keys : List (List ℕ)) (v : List ℕ) → AreKeys is_key keys → is_key v
     → AreKeys is_key (insert_key same_words keys v)

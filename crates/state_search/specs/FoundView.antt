@@ -4,4 +4,4 @@ use Rattle.state_search.specs.declared.found.Found.TheInside.{Inside}
 use Rattle.state_search.specs.Found.{Keys}
 
 abbrev pub found_keys : Inside → Keys
-found_keys a = record { keys = map (λ v. v.items) a.keys.keys; gone = a.gone }
+found_keys a = record { keys = map (λ v. v.items) a.keys.keys; origins = a.origins.items; gone = a.gone }

@@ -1,12 +1,12 @@
 //! The search, by breadth.
 
 ghost use Rattle.std.specs.Prelude.{◌≡◌, ◌<◌, ◌≤◌, ◌+◌, if◌then◌else◌, ℕ, List, length, true, false, Some, IfOk, OnOk, slice_get, IsTrue, IsFalse};
-ghost use Rattle.state_search.specs.Search.{Has, IsUnderWay, IsSearch};
-ghost use Rattle.state_search.specs.inner.Steps.{AreKeys, Keeps, GoesOn};
+ghost use Rattle.state_search.specs.Search.{Has, AreKeys, IsUnderWay, IsSearch};
+ghost use Rattle.state_search.specs.inner.Steps.{Keeps, GoesOn};
 
-use crate::found::Found;
+use crate::error::SearchError;
+use crate::found::{Found, Origin};
 use crate::moves::Moves;
-use plain_monitor::NoMemory;
 use std::alloc::Global;
 
 /// Finds all keys that choices lead to from the first one, and goes into each, unless there are more than `most`.
@@ -17,10 +17,11 @@ pub fn search<M: Moves>(
     moves: &mut M,
     first: Vec<u64>,
     most: usize,
-) -> Result<Found, NoMemory>
+) -> Result<Found, SearchError>
     requires is_key { M.is_key moves.old first.items }
     requires some { 1 ≤ most }
     ensures found { IfOk result (λ f. IsSearch (M.next moves.old) (M.choices moves.old) first.items most f) }
+    ensures all { IfOk result (λ f. AreKeys (M.is_key moves.new) f.keys) }
     ensures keys_stay { (words : List ℕ) → M.is_key moves.old words → M.is_key moves.new words }
     ensures next_stays { M.next moves.new ≡ M.next moves.old }
     ensures choices_stay { M.choices moves.new ≡ M.choices moves.old }
@@ -40,7 +41,7 @@ fn go_into<M: Moves>(
     found: &mut Found,
     moves: &mut M,
     most: usize,
-) -> Result<bool, NoMemory>
+) -> Result<bool, SearchError>
     requires open { found.old.gone < length found.old.keys }
     requires keys { AreKeys (M.is_key moves.old) found.old.keys }
     ensures goes_on { OnOk result (GoesOn (M.next moves.old) (M.choices moves.old) most found.old found.new) }
@@ -54,7 +55,7 @@ fn go_into<M: Moves>(
     let Some(key) = found.key(found.gone()) else {
         return Ok(false);
     };
-    let key = Vec::from_slice(alloc, key).map_err(|_| NoMemory)?;
+    let key = Vec::from_slice(alloc, key).map_err(|_| SearchError::NoMemory)?;
     for choice in 0..moves.choices() {
         if !try_choice(found, moves, &key, choice, most)? {
             return Ok(false);
@@ -72,7 +73,7 @@ fn try_choice<M: Moves>(
     key: &[u64],
     choice: u32,
     most: usize,
-) -> Result<bool, NoMemory>
+) -> Result<bool, SearchError>
     requires here { slice_get found.old.keys found.old.gone ≡ Some key.now }
     requires keys { AreKeys (M.is_key moves.old) found.old.keys }
     requires choice { choice < M.choices moves.old }
@@ -89,7 +90,11 @@ fn try_choice<M: Moves>(
 {
     match moves.next(key, choice)? {
         Some(to) => {
-            let there = found.add(to, most)?;
+            let origin = Origin {
+                key: found.gone(),
+                choice,
+            };
+            let there = found.add(to, origin, most)?;
             Ok(there)
         }
         None => Ok(true),

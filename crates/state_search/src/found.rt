@@ -1,18 +1,28 @@
 //! The keys that a search has found.
 
-ghost use Rattle.std.specs.Prelude.{◌≡◌, ◌<◌, ◌≤◌, ◌+◌, ◌||◌, nat_lt, ℕ, List, [], ◌∷◌, length, true, false, Some, IfOk, OnOk, IfSome, MatchOption, IsSome, ◌↔◌, slice_get, option_map, if◌then◌else◌, slice_index_or};
-ghost use Rattle.indexmap.specs.IndexSet.{insert_key};
-ghost use Rattle.state_search.specs.inner.Among.{same_words, is_among};
+ghost use Rattle.std.specs.Prelude.{◌≡◌, ◌<◌, ◌≤◌, ◌+◌, ◌||◌, nat_lt, ℕ, List, [], ◌∷◌, length, true, false, Option, Some, IfOk, OnOk, IfSome, MatchOption, IsSome, ◌↔◌, slice_get, option_map, if◌then◌else◌, slice_index_or};
+ghost use Rattle.state_search.specs.Search.{IsUnderWay, IsWayTo};
+ghost use Rattle.state_search.specs.inner.Added.{with_key};
+ghost use Rattle.state_search.specs.inner.Among.{is_among};
 
 use indexmap::IndexSet;
 use plain_monitor::NoMemory;
 use std::alloc::Global;
 use std::marker::Model;
 
-/// The keys that a search has found, in the order in which it found them, and how many of them it went into.
+/// The key from which a key was found, by its number, and the choice that led from it. Of the first key both are 0.
+#[derive(Clone, Copy, Debug, PartialEq, Eq)]
+pub struct Origin {
+    pub(crate) key: usize,
+    pub(crate) choice: u32,
+}
+
+/// The keys that a search has found, in the order in which it found them, where each came from, and how many of them it
+/// went into.
 #[derive(Drop)]
 pub struct Found {
     keys: IndexSet<Vec<u64>>,
+    origins: Vec<Origin>,
     gone: usize,
 }
 
@@ -29,11 +39,23 @@ impl Model for Found {
 impl Found {
     /// The first key alone.
     pub(crate) fn new(alloc: Global, first: Vec<u64>) -> Result<Found, NoMemory>
-        ensures { IfOk result (λ f. f ≡ record { keys = first.items ∷ []; gone = 0 }) }
+        ensures { IfOk result (λ f. f ≡ record {
+          keys = first.items ∷ [];
+          origins = (record { key = 0; choice = 0 }) ∷ [];
+          gone = 0;
+        }) }
     {
         let mut keys = IndexSet::new(alloc);
         keys.insert(first).map_err(|_| NoMemory)?;
-        Ok(Found { keys, gone: 0 })
+        let mut origins = Vec::new(alloc);
+        origins
+            .push(Origin { key: 0, choice: 0 })
+            .map_err(|_| NoMemory)?;
+        Ok(Found {
+            keys,
+            origins,
+            gone: 0,
+        })
     }
 
     /// How many keys were found.
@@ -60,6 +82,28 @@ impl Found {
         }
     }
 
+    /// The choices that lead from the first key to the key with this number, the last one first; none where there is no
+    /// such key.
+    pub fn way_to(&self, alloc: Global, number: usize) -> Result<Vec<u32>, NoMemory>
+        ensures { IfOk result (λ choices. (next : List ℕ → ℕ → Option (List ℕ)) (many : ℕ) (first : List ℕ) (most : ℕ)
+            → IsUnderWay next many first most self.now → IsWayTo next many first self.now.keys number choices.items) }
+    {
+        let mut choices = Vec::new(alloc);
+        let mut at = number;
+        // Each origin stands before its key, so these are steps enough.
+        for _ in 0..number {
+            if at == 0 {
+                break;
+            }
+            let Some(origin) = self.origins.get(at) else {
+                break;
+            };
+            choices.push(origin.choice).map_err(|_| NoMemory)?;
+            at = origin.key;
+        }
+        Ok(choices)
+    }
+
     /// Whether the key can be among the keys, of which there are to be at most `most`: there is room for it, or it is there.
     fn has_room(&self, key: &Vec<u64>, most: usize) -> bool
         ensures { result ≡ nat_lt (length self.now.keys) most || is_among self.now.keys key.now.items }
@@ -67,16 +111,25 @@ impl Found {
         self.keys.len() < most || self.keys.contains(key)
     }
 
-    /// Adds the key where it isn't there, unless there are `most` already: whether it is there then.
-    pub(crate) fn add(&mut self, key: Vec<u64>, most: usize) -> Result<bool, NoMemory>
-        ensures room { IfOk result (λ there. there ≡ nat_lt (length self.old.keys) most || is_among self.old.keys key.items) }
+    /// Adds the key, with its origin, where it isn't there, unless there are `most` already: whether it is there then.
+    pub(crate) fn add(
+        &mut self,
+        key: Vec<u64>,
+        origin: Origin,
+        most: usize,
+    ) -> Result<bool, NoMemory>
+        ensures room { IfOk result (λ there. there ≡ nat_lt (length self.old.keys) most
+            || is_among self.old.keys key.items) }
         ensures added { IfOk result (λ there. self.new ≡ (if there
-            then record self.old { keys = insert_key same_words self.old.keys key.items } else self.old)) }
+            then with_key self.old key.items origin else self.old)) }
     {
         if !self.has_room(&key, most) {
             return Ok(false);
         }
-        self.keys.insert(key).map_err(|_| NoMemory)?;
+        let is_new = self.keys.insert(key).map_err(|_| NoMemory)?;
+        if is_new {
+            self.origins.push(origin).map_err(|_| NoMemory)?;
+        }
         Ok(true)
     }
 

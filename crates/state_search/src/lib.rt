@@ -5,9 +5,11 @@
 #![tactic(auto)]
 
 mod breadth;
+mod error;
 mod found;
 mod moves;
 
 pub use breadth::search;
-pub use found::Found;
+pub use error::SearchError;
+pub use found::{Found, Origin};
 pub use moves::Moves;

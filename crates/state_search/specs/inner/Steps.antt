@@ -7,9 +7,6 @@ use Rattle.state_search.specs.Search.{IsUnderWay}
 abbrev pub Keeps : List (List ℕ) → List (List ℕ) → Type 0
 Keeps before after = (k : ℕ) (key : List ℕ) → slice_get before k ≡ Some key → slice_get after k ≡ Some key
 
-abbrev pub AreKeys : (List ℕ → Type 0) → List (List ℕ) → Type 0
-AreKeys is_key keys = (k : ℕ) (key : List ℕ) → slice_get keys k ≡ Some key → is_key key
-
 -- from whichever first key the search goes, it goes on
 abbrev pub GoesOn : (List ℕ → ℕ → Option (List ℕ)) → ℕ → ℕ → Keys → Keys → Type 0
 GoesOn next many most before after = (first : List ℕ) → IsUnderWay next many first most before → IsUnderWay next many first most after

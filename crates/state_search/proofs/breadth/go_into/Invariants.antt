@@ -1,6 +1,6 @@
 use Rattle.std.proofs.Common.{◌≡◌, ℕ, List, Some, slice_get}
-use Rattle.state_search.specs.Search.{LeadsInto}
-use Rattle.state_search.specs.inner.Steps.{AreKeys, GoesOn}
+use Rattle.state_search.specs.Search.{AreKeys, LeadsInto}
+use Rattle.state_search.specs.inner.Steps.{GoesOn}
 use Rattle.state_search.proofs.breadth.go_into.Given as goal
 
 abbrev pub invariant-loop-choice : goal.invariant-loop-choice

@@ -1,6 +1,5 @@
 use Rattle.std.proofs.Common.{◌≡◌, ◌-◌, ℕ, List}
-use Rattle.state_search.specs.Search.{IsUnderWay}
-use Rattle.state_search.specs.inner.Steps.{AreKeys}
+use Rattle.state_search.specs.Search.{AreKeys, IsUnderWay}
 use Rattle.state_search.proofs.breadth.search.Given as goal
 
 abbrev pub invariant-loop-alloc : goal.invariant-loop-alloc

@@ -1,0 +1,47 @@
+-- What the loops that make entries that go alone have done so far.
+use Rattle.std.proofs.Common.{◌≡◌, ℕ, suc, ◌+◌, true, false, length, Option, Some, None, is_some, refl}
+use Rattle.std.proofs.lemmas.Bool.{false≢true, true≢false}
+use Rattle.plain_machine.specs.Machine.{PlainMachine}
+use Rattle.outcome_search.specs.Settled.{behind_alone, or_else, first_alone, go_on, settled}
+use Rattle.outcome_search.specs.inner.Going.{gone_on}
+
+-- where the first thread has no such entry, the next ones decide
+pub first_other : (m : PlainMachine) (t n : ℕ) → is_some (behind_alone m t) ≡ false → first_alone m t (suc n) ≡ first_alone m (t + 1) n
+first_other m t n none = go (behind_alone m t) refl none
+  where
+    go : (r : Option PlainMachine) → behind_alone m t ≡ r → is_some r ≡ false → or_else (behind_alone m t) (first_alone m (t + 1) n) ≡ first_alone m (t + 1) n
+    go None e h = rw e refl
+    go (Some a) e h = absurd (true≢false h)
+
+-- where it has one, it is the first
+pub first_here : (m : PlainMachine) (t n : ℕ) → is_some (behind_alone m t) ≡ true → first_alone m t (suc n) ≡ behind_alone m t
+first_here m t n some = go (behind_alone m t) refl some
+  where
+    go : (r : Option PlainMachine) → behind_alone m t ≡ r → is_some r ≡ true → or_else (behind_alone m t) (first_alone m (t + 1) n) ≡ behind_alone m t
+    go None e h = absurd (false≢true h)
+    go (Some a) e h = rw e refl
+
+-- one entry more is made, where there is one
+pub settles_on : (fuel steps : ℕ) (m n : PlainMachine) → is_some (first_alone m 0 (length m.threads)) ≡ true
+    → n ≡ gone_on fuel m (first_alone m 0 (length m.threads)) → settled fuel steps n ≡ settled fuel (suc steps) m
+settles_on fuel steps m n some is = go (first_alone m 0 (length m.threads)) refl some is
+  where
+    go : (r : Option PlainMachine) → first_alone m 0 (length m.threads) ≡ r → is_some r ≡ true → n ≡ gone_on fuel m r
+        → settled fuel steps n ≡ go_on (settled fuel steps) fuel m (first_alone m 0 (length m.threads))
+    go None e h to = absurd (false≢true h)
+    go (Some a) e h to = rw (e, to) refl
+
+-- where there is none, it has settled
+pub settles_there : (fuel steps : ℕ) (m n : PlainMachine) → is_some (first_alone m 0 (length m.threads)) ≡ false
+    → n ≡ gone_on fuel m (first_alone m 0 (length m.threads)) → n ≡ settled fuel (suc steps) m
+settles_there fuel steps m n none is = go (first_alone m 0 (length m.threads)) refl none is
+  where
+    go : (r : Option PlainMachine) → first_alone m 0 (length m.threads) ≡ r → is_some r ≡ false → n ≡ gone_on fuel m r
+        → n ≡ go_on (settled fuel steps) fuel m (first_alone m 0 (length m.threads))
+    go None e h to = rw e to
+    go (Some a) e h to = absurd (true≢false h)
+
+-- nothing is made
+pub unmade : (fuel : ℕ) (m n : PlainMachine) (r : Option PlainMachine) → is_some r ≡ false → n ≡ gone_on fuel m r → n ≡ m
+unmade fuel m n None none is = is
+unmade fuel m n (Some a) none is = absurd (true≢false none)
