@@ -1,7 +1,8 @@
-"""Calls the built program for `tools/fuzz`, `tools/faults` and `tools/limits`, which try what nobody asks of it in good faith.
+"""Calls the built program for `tools/fuzz`, `tools/faults` and `tools/limits`, which try what nobody asks of it in good faith, and for others outside
+of the gate.
 
 `call` gives what the program answers. Whatever it is called with, it has to end by itself within ten seconds, with a status of the table in
-README.md, and has to leave standard error alone; where it doesn't, Wrong is raised.
+docs/OPTIONS.md, and has to leave standard error alone; where it doesn't, Wrong is raised.
 """
 import dataclasses
 import pathlib
@@ -12,7 +13,7 @@ TOP = pathlib.Path(__file__).resolve().parent.parent
 EXAMPLES = TOP / "examples"
 BUILT = TOP / "crates" / "biasrun" / "out" / "biasrun"
 MARKER = b"%journal\n"
-STATUSES = range(8)
+STATUSES = range(9)
 MOST_OF_TEXT = 1_048_576  # bytes of a program
 MOST_OF_JOURNAL = 67_108_864  # bytes of a program with its journal
 SECONDS = 10
@@ -55,7 +56,7 @@ def judged(status, written, errors):
     if errors:
         raise Wrong(f"it writes to standard error: {errors[:SHOWN]!r}")
     if status not in STATUSES:
-        raise Wrong(f"its status is {status}, which README.md doesn't have")
+        raise Wrong(f"its status is {status}, which docs/OPTIONS.md doesn't have")
     return Answer(status, written)
 
 

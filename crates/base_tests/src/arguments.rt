@@ -116,6 +116,29 @@ fn checks_are_read(rt: HostRuntime) -> Result<(), Fail> {
 }
 
 #[test]
+fn searches_are_read(rt: HostRuntime) -> Result<(), Fail> {
+    let accepted = [
+        ("biasrun outcomes", (1_000_000, false)),
+        ("biasrun outcomes --witness", (1_000_000, true)),
+        ("biasrun outcomes --states 1", (1, false)),
+        (
+            "biasrun outcomes --states=10000000 --witness",
+            (10_000_000, true),
+        ),
+        (
+            "biasrun outcomes --witness --states 0000000250",
+            (250, true),
+        ),
+    ];
+    for (line, (states, witness)) in accepted {
+        let command = read_line(rt.alloc(), line)?;
+        let search = Command::Outcomes { states, witness };
+        assert_eq!(rt; command, Some(search), "at {line}");
+    }
+    Ok(())
+}
+
+#[test]
 fn numbers_of_items_are_read(rt: HostRuntime) -> Result<(), Fail> {
     let accepted = [
         ("biasrun make 1", 1),
@@ -208,7 +231,47 @@ biasrun check --fuel 0
 biasrun check --fuel
 biasrun check --fuel 5 --fuel 5
 biasrun check --hash-start 4294967296
-biasrun checks";
+biasrun checks
+biasrun outcomes outcomes
+biasrun outcomes 5
+biasrun outcomes\x20
+biasrun outcomes --states
+biasrun outcomes --states=
+biasrun outcomes --states 0
+biasrun outcomes --states 10000001
+biasrun outcomes --states 00000000001
+biasrun outcomes --states -5
+biasrun outcomes --states 5x
+biasrun outcomes --states --witness
+biasrun outcomes --states 5 --states 5
+biasrun outcomes --states=5 --witness --states=6
+biasrun outcomes --witness --witness
+biasrun outcomes --witness=1
+biasrun outcomes --witness true
+biasrun outcomes --workers 4
+biasrun outcomes --fuel 20000
+biasrun outcomes --quantum 1000
+biasrun outcomes --bias on
+biasrun outcomes --hash-start 1
+biasrun outcomes --tick 0
+biasrun outcomes --stats
+biasrun outcomes --journal
+biasrun outcomes --report
+biasrun outcomes --states 5 --witness --report
+biasrun --witness outcomes
+biasrun OUTCOMES
+biasrun outcome
+biasrun run --states 1000000
+biasrun run --witness
+biasrun run --journal --witness --report
+biasrun sync --states=5
+biasrun sync --witness
+biasrun check --states 5
+biasrun check --witness
+biasrun check --fuel 5 --witness
+biasrun compile --witness
+biasrun make --witness
+biasrun make 5 --states 5";
 
 #[test]
 fn other_words_are_refused(rt: HostRuntime) -> Result<(), Fail> {

@@ -33,14 +33,15 @@ use Rattle.bias_check.specs.Parts.{has_journal, journal_part, program_part}
 use Rattle.bias_check.specs.Printed.{journal_of}
 use Rattle.bias_check.proofs.JournalsRun.{journal_lines}
 use Rattle.bias_check.proofs.TrueAnswers.{found_only}
+use Rattle.outcome_search.specs.Outcomes.{has_hash}
 use Rattle.run_words.specs.Command.{accepted}
 use Rattle.run_words.specs.declared.options.Command.{Command}
-use Rattle.run_words.specs.declared.options.Command.TheVariants.{Run, Sync, Compile, Check, Make}
+use Rattle.run_words.specs.declared.options.Command.TheVariants.{Run, Sync, Compile, Check, Make, Outcomes}
 use Rattle.run_words.specs.declared.options.Options.{Options}
 use Rattle.sync_source.specs.Compiled.{compiled}
 use Rattle.bias_cli.specs.declared.finish.Finish.{Finish}
 use Rattle.bias_cli.specs.Seen.{SourceSeen, SinkSeen}
-use Rattle.bias_cli.specs.Finish.{IsFinish, IsRunOf, LeavesRun, Meets, ReadFault, Reading, Tells, Text, Unread, compile_due, due_of, journal_due, run_due, sync_due, text_due}
+use Rattle.bias_cli.specs.Finish.{Finds, IsFinish, IsRunOf, LeavesRun, Meets, ReadFault, Reading, Tells, Text, Unread, compile_due, due_of, finds_due, journal_due, run_due, sync_due, text_due}
 use Rattle.bias_cli.specs.Input.{most_of_journal}
 use Rattle.bias_cli.specs.Verdict.{IsVerdict, answer_to}
 use Rattle.bias_cli.proofs.BlocksAllowed.{blocks_allowed}
@@ -113,6 +114,16 @@ module _ (before after : SinkSeen) (f : Finish) where
   compiled_leaves (Ok s) met = met.0.0
   compiled_leaves (Err e) met = met.0.0
 
+  -- nor does a search
+  found_leaves : (states : ℕ) (witness : Bool) (text : List ℕ) (p : ProgramText) (hash : Bool)
+      → Meets before after f (cond hash (Tells 3 text) (Finds p states witness)) → f.run ≡ None
+  found_leaves states witness text p true met = met.0.0
+  found_leaves states witness text p false met = met.0.0
+
+  searched_leaves : (states : ℕ) (witness : Bool) (p : Result ProgramText ProgramError) → Meets before after f (finds_due states witness p) → f.run ≡ None
+  searched_leaves states witness (Ok p) met = found_leaves states witness _ p (has_hash p) met
+  searched_leaves states witness (Err e) met = met.0.0
+
   ran_leaves : (o : Options) (p : ProgramText) (r : RunRecord) → o.fuel ≤ most_fuel → IsProgram p → LeavesRun before after f o p → f.run ≡ Some r → IsLegalOf r
   ran_leaves o p r few is met h =
       subst IsLegalOf (same_Some met.0 r (sym met.2 ∙ h)) (run_legal o p met.0 met.1 met.4.machine is few met.4.run)
@@ -136,6 +147,7 @@ module _ (before after : SinkSeen) (f : Finish) where
   text_leaves words (Some (Check fuel start)) bytes r e met h =
       absurd (none-some r (sym (check_leaves fuel start _ _ (journal_part bytes) (nat_lt most_of_journal (length bytes)) (has_journal bytes) (program_of (program_part bytes)) met) ∙ h))
   text_leaves words (Some (Make items)) bytes r e met h = absurd (none-some r (sym met.0.0 ∙ h))
+  text_leaves words (Some (Outcomes states witness)) bytes r e met h = absurd (none-some r (sym (searched_leaves states witness (program_of bytes) met) ∙ h))
 
   reading_leaves : (words : List (List ℕ)) (reading : Reading) (r : RunRecord) → Meets before after f (due_of (accepted words) reading) → f.run ≡ Some r → IsLegalOf r
   reading_leaves words Unread r met h = text_leaves words (accepted words) [] r refl met h

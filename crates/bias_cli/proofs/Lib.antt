@@ -12,3 +12,6 @@ pub mod JournalsLegal
 pub mod BlocksAllowed
 pub mod BlockRuns
 pub mod Briefly
+pub mod RunsFound
+pub mod Journals
+pub mod Searched

@@ -9,7 +9,7 @@ use Rattle.run_words.specs.declared.options.Command.{Command}
 use Rattle.sync_source.specs.Compiled.{compiled}
 use Rattle.bias_cli.specs.declared.finish.Finish.{Finish}
 use Rattle.bias_cli.specs.Seen.{SourceSeen, SinkSeen}
-use Rattle.bias_cli.specs.Finish.{Due, Tells, Runs, RunsBlocks, Checks, LeavesRun, Meets, IsGivenUp, IsFinish, due_of}
+use Rattle.bias_cli.specs.Finish.{Due, Tells, Runs, RunsBlocks, Checks, Finds, LeavesRun, Meets, IsGivenUp, IsFinish, due_of}
 
 -- what holds of a record that can be replayed
 record IsReplayed (r : RunRecord) : Type 0 where
@@ -29,6 +29,7 @@ run_replayed before after f r o p met h =
 due_replayed : (before after : SinkSeen) (f : Finish) (r : RunRecord) (due : Due) → Meets before after f due → f.run ≡ Some r → IsReplayed r
 due_replayed before after f r (Tells status text) met h = absurd (cc (h, met.0.0))
 due_replayed before after f r (Checks p fuel start lines) met h = absurd (cc (h, met.0.0))
+due_replayed before after f r (Finds p states witness) met h = absurd (cc (h, met.0.0))
 due_replayed before after f r (Runs o p) met h = run_replayed before after f r o p met h
 due_replayed before after f r (RunsBlocks o s) met h = run_replayed before after f r o (compiled decimal s) met.0 h
 

@@ -1,5 +1,5 @@
 -- The options of words that are accepted are such that a run can have them.
-use Rattle.std.proofs.Common.{◌≡◌, ℕ, ◌≤◌, ◌&&◌, Bool, true, false, nat_le, if◌then◌else◌, List, [], ◌∷◌, Option, Some, None, option_map, option_and_then, refl, subst, arith}
+use Rattle.std.proofs.Common.{◌≡◌, ℕ, ◌≤◌, ◌&&◌, ◌||◌, Bool, true, false, nat_le, if◌then◌else◌, List, [], ◌∷◌, Option, Some, None, is_some, option_map, option_and_then, refl, subst, arith}
 use Rattle.std.specs.Prelude.{codes}
 use Rattle.std.specs.Bool.{⊤}
 use Rattle.std.specs.Str.{bytes_eq}
@@ -8,9 +8,9 @@ use Rattle.std.proofs.lemmas.Bool.{leb-true}
 use Rattle.plain_monitor.specs.Limits.{most_threads, most_fuel}
 use Rattle.run_words.specs.declared.options.Options.{Options}
 use Rattle.run_words.specs.declared.options.Command.{Command}
-use Rattle.run_words.specs.declared.options.Command.TheVariants.{Run, Sync, Compile, Check, Make}
+use Rattle.run_words.specs.declared.options.Command.TheVariants.{Run, Sync, Compile, Check, Make, Outcomes}
 use Rattle.run_words.specs.Number.{is_number, number, within}
-use Rattle.run_words.specs.Command.{Text, Values, accepted, check_by, check_values, compile_of, fuel_of, has_run_options, make_of, options_in, options_of, read_or, start_of, switch, values_in}
+use Rattle.run_words.specs.Command.{Text, Values, accepted, check_by, check_values, compile_of, fuel_of, has_outcome_options, has_run_options, make_of, options_in, options_of, outcomes_by, read_or, run_values, start_of, switch, values_in}
 use Rattle.bias_cli.specs.inner.Asked.{IsRunnable}
 
 -- where there is a number, it lies between these
@@ -62,13 +62,20 @@ of_parts v (Some a) (Some b) (Some c) (Some d) None tick w f q = tt
 of_parts v (Some a) (Some b) (Some c) (Some d) (Some e) None w f q = tt
 of_parts v (Some a) (Some b) (Some c) (Some d) (Some e) (Some g) w f q = record { fuel = f.1; workers = w.0; quantum = q.0 }
 
-of_options : (v : Values) → AreRunnable (options_of v)
-of_options v =
+of_run_values : (v : Values) → AreRunnable (run_values v)
+of_run_values v =
     of_parts v (read_or 4 (number 1 most_threads) v.workers) (fuel_of v) (read_or 1000 (number 1 100000) v.quantum) (read_or true switch v.bias) (start_of v)
     (read_or 0 (number 0 4294967295) v.tick)
     (of_text 4 1 most_threads (omega arith) (omega arith) v.workers)
     (of_text 20000 1 most_fuel (omega arith) (omega arith) v.fuel)
     (of_text 1000 1 100000 (omega arith) (omega arith) v.quantum)
+
+only_without : (b : Bool) (o : Option Options) → AreRunnable o → AreRunnable (if b then None else o)
+only_without true o can = tt
+only_without false o can = can
+
+of_options : (v : Values) → AreRunnable (options_of v)
+of_options v = only_without (has_outcome_options v) (run_values v) (of_run_values v)
 
 of_values : (v : Option Values) → AreRunnable (option_and_then options_of v)
 of_values None = tt
@@ -82,6 +89,7 @@ CanRun (Some (Sync o)) = IsRunnable o
 CanRun (Some Compile) = ⊤
 CanRun (Some (Check fuel start)) = ⊤
 CanRun (Some (Make items)) = ⊤
+CanRun (Some (Outcomes states witness)) = ⊤
 
 by_test : (b : Bool) (c d : Option Command) → CanRun c → CanRun d → CanRun (if b then c else d)
 by_test true c d first second = first
@@ -106,7 +114,16 @@ of_check (Some f) (Some s) = tt
 
 of_checked : (v : Option Values) → CanRun (option_and_then check_by v)
 of_checked None = tt
-of_checked (Some v) = by_test (has_run_options v) None (check_values v) tt (of_check (fuel_of v) (start_of v))
+of_checked (Some v) = by_test (has_run_options v || has_outcome_options v) None (check_values v) tt (of_check (fuel_of v) (start_of v))
+
+of_states : (witness : Bool) (n : Option ℕ) → CanRun (option_map (λ n. Outcomes n witness) n)
+of_states witness None = tt
+of_states witness (Some n) = tt
+
+of_searched : (v : Option Values) → CanRun (option_and_then outcomes_by v)
+of_searched None = tt
+of_searched (Some v) =
+    by_test (has_run_options v || is_some v.fuel || is_some v.start) None _ tt (of_states v.witness (read_or 1000000 (number 1 10000000) v.states))
 
 of_made : (n : Option ℕ) → CanRun (option_map Make n)
 of_made None = tt
@@ -125,7 +142,8 @@ of_words (program ∷ command ∷ words) =
     (by_test (bytes_eq command (codes "sync")) _ _ (of_sync (options_in words) (of_values (values_in words)))
     (by_test (bytes_eq command (codes "compile")) _ _ (of_compile words)
     (by_test (bytes_eq command (codes "check")) _ _ (of_checked (values_in words))
-    (by_test (bytes_eq command (codes "make")) _ _ (of_make words) tt))))
+    (by_test (bytes_eq command (codes "make")) _ _ (of_make words)
+    (by_test (bytes_eq command (codes "outcomes")) _ _ (of_searched (values_in words)) tt)))))
 
 pub runnable : (words : List Text) (o : Options) → accepted words ≡ Some (Run o) → IsRunnable o
 runnable words o e = subst CanRun e (of_words words)

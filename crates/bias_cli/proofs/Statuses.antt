@@ -1,5 +1,5 @@
 -- Which calls have status 7.
-use Rattle.std.proofs.Common.{◌≡◌, ◌≢◌, ◌⊎◌, ℕ, Bool, true, false, nat_eq, nat_lt, if◌then◌else◌, List, length, Option, Some, None, refl, sym, ◌∙◌, arith, inl, inr, decimal}
+use Rattle.std.proofs.Common.{◌≡◌, ◌≢◌, ◌⊎◌, ℕ, Bool, true, false, nat_eq, nat_lt, ◌||◌, if◌then◌else◌, List, length, Option, Some, None, refl, sym, ◌∙◌, arith, inl, inr, decimal}
 use Rattle.std.specs.Prelude.{Result, Ok, Err}
 use Rattle.std.specs.List.{list_any}
 use Rattle.std.specs.Bool.{⊤}
@@ -18,13 +18,15 @@ use Rattle.bias_check.specs.declared.answer.CheckFault.TheVariants.{Unreadable, 
 use Rattle.bias_check.specs.Parts.{has_journal, program_part, journal_part}
 use Rattle.run_words.specs.declared.options.Options.{Options}
 use Rattle.run_words.specs.declared.options.Command.{Command}
-use Rattle.run_words.specs.declared.options.Command.TheVariants.{Run, Sync, Compile, Check, Make}
+use Rattle.run_words.specs.declared.options.Command.TheVariants.{Run, Sync, Compile, Check, Make, Outcomes}
 use Rattle.sync_source.specs.Compiled.{compiled}
 use Rattle.bias_cli.specs.declared.finish.Finish.{Finish}
 use Rattle.bias_cli.specs.Seen.{SourceSeen, SinkSeen}
 use Rattle.bias_cli.specs.Input.{most_of_journal}
 use Rattle.bias_cli.specs.Verdict.{verdict_status}
-use Rattle.bias_cli.specs.Finish.{Reading, Unread, ReadFault, Text, Due, Tells, Runs, RunsBlocks, Checks, run_due, sync_due, compile_due, journal_due, text_due, due_of, is_cut_short, status_of, IsWritten, LeavesRun, Meets, IsGivenUp, IsFinish}
+use Rattle.outcome_search.specs.Outcomes.{has_hash}
+use Rattle.bias_cli.specs.Outcomes.{outcome_status}
+use Rattle.bias_cli.specs.Finish.{Reading, Unread, ReadFault, Text, Due, Tells, Runs, RunsBlocks, Checks, Finds, run_due, sync_due, compile_due, finds_due, journal_due, text_due, due_of, is_cut_short, status_of, IsWritten, LeavesRun, Meets, IsGivenUp, IsFinish}
 
 -- ---- the statuses that are due
 
@@ -34,6 +36,7 @@ HasAnother (Tells status text) = status ≢ 7
 HasAnother (Runs o p) = ⊤
 HasAnother (RunsBlocks o s) = ⊤
 HasAnother (Checks p fuel start lines) = ⊤
+HasAnother (Finds p states witness) = ⊤
 
 run_another : (o : Options) (r : Result ProgramText ProgramError) → HasAnother (run_due o r)
 run_another o (Ok p) = tt
@@ -61,6 +64,10 @@ check_another fuel start bytes =
     (by_test (has_journal bytes) _ _ (journal_another fuel start (journal_part bytes) (program_of (program_part bytes)))
     (λ is. absurd (omega (arith, is))))
 
+finds_another : (states : ℕ) (witness : Bool) (r : Result ProgramText ProgramError) → HasAnother (finds_due states witness r)
+finds_another states witness (Ok p) = by_test (has_hash p) _ _ (λ is. absurd (omega (arith, is))) tt
+finds_another states witness (Err e) = λ is. absurd (omega (arith, is))
+
 text_another : (c : Option Command) (bytes : List ℕ) → HasAnother (text_due c bytes)
 text_another None bytes = λ is. absurd (omega (arith, is))
 text_another (Some (Run o)) bytes = run_another o (program_of bytes)
@@ -68,6 +75,7 @@ text_another (Some (Sync o)) bytes = sync_another o (sync_program_of bytes)
 text_another (Some Compile) bytes = compile_another (sync_program_of bytes)
 text_another (Some (Check fuel start)) bytes = check_another fuel start bytes
 text_another (Some (Make items)) bytes = λ is. absurd (omega (arith, is))
+text_another (Some (Outcomes states witness)) bytes = finds_another states witness (program_of bytes)
 
 due_another : (c : Option Command) (reading : Reading) → HasAnother (due_of c reading)
 due_another c Unread = text_another c _
@@ -85,6 +93,12 @@ verdict_another (Ok (NoStep number)) given is = absurd (omega (arith, is))
 verdict_another (Ok (BadHash object)) given is = absurd (omega (arith, is))
 verdict_another (Err (Unreadable number)) given is = absurd (omega (arith, is))
 verdict_another (Err NoMemory) given is = given refl
+
+outcome_another : (stuck cut left : Bool) → ◌≢◌ {A = ℕ} (if stuck then 4 else if cut then 1 else if left then 8 else 0) 7
+outcome_another true cut left is = absurd (omega (arith, is))
+outcome_another false true left is = absurd (omega (arith, is))
+outcome_another false false true is = absurd (omega (arith, is))
+outcome_another false false false is = absurd (omega (arith, is))
 
 -- ---- the statuses of calls that did what was due
 
@@ -105,6 +119,10 @@ met_another before after f (RunsBlocks o s) another met = run_leaves_another bef
 met_another before after f (Checks p fuel start lines) another met =
     let check = met.1 in
     written_another before after f.status (verdict_status check.answer) _ (verdict_another check.answer check.verdict.given) check.written
+met_another before after f (Finds p states witness) another met =
+    let found = met.1 in
+    let o = found.counts in
+    written_another before after f.status (outcome_status o) _ (outcome_another (nat_lt 0 o.stuck) (nat_lt 0 o.faulted || nat_lt 0 o.spent) (nat_lt 0 o.«open»)) found.written
 
 pub finished_another : (c : Option Command) (sb sa : SourceSeen) (kb ka : SinkSeen) (f : Finish) → IsFinish c sb sa kb ka f → f.status ≢ 7
 finished_another c sb sa kb ka f d = met_another kb ka f (due_of c d.reading) (due_another c d.reading) d.met

@@ -5,7 +5,7 @@ use Rattle.std.proofs.lemmas.List.{at_drop_more}
 use Rattle.bias_cli.specs.Output.{Wrote, WroteFront}
 use Rattle.lock_journal.specs.RunText.{text_of_lines}
 
-texts_append : (xs ys : List (List ℕ)) → text_of_lines (xs ++ ys) ≡ text_of_lines xs ++ text_of_lines ys
+pub texts_append : (xs ys : List (List ℕ)) → text_of_lines (xs ++ ys) ≡ text_of_lines xs ++ text_of_lines ys
 texts_append [] ys = refl
 texts_append (x ∷ xs) ys = ap (λ zs. x ++ zs) (texts_append xs ys) ∙ sym (append_assoc x (text_of_lines xs) (text_of_lines ys))
 

@@ -25,10 +25,13 @@ use Rattle.bias_cli.specs.Output.{Wrote, WroteFront}
 use Rattle.bias_cli.specs.Asked.{settings_of}
 use Rattle.bias_cli.specs.Report.{IsReportWhere}
 use Rattle.bias_cli.specs.Verdict.{IsVerdict, verdict_status, verdict_text}
+use Rattle.outcome_search.specs.declared.outcome.Outcomes as of_search
+use Rattle.outcome_search.specs.Outcomes.{has_hash}
+use Rattle.bias_cli.specs.Outcomes.{IsSearched, outcome_lines, outcome_status}
 use Rattle.lock_journal.specs.RunText.{text_of_run, text_of_lines}
 use Rattle.run_words.specs.declared.options.Options.{Options}
 use Rattle.run_words.specs.declared.options.Command.{Command}
-use Rattle.run_words.specs.declared.options.Command.TheVariants.{Run, Sync, Compile, Check, Make}
+use Rattle.run_words.specs.declared.options.Command.TheVariants.{Run, Sync, Compile, Check, Make, Outcomes}
 use Rattle.made_program.specs.HandoverText.{handover_text}
 use Rattle.bias_cli.specs.Refused.{refusal_text, sync_refusal_text}
 use Rattle.lock_journal.specs.declared.record.RunRecord.{RunRecord}
@@ -44,6 +47,7 @@ most_asked (Some (Sync o)) = Some most_of_program
 most_asked (Some Compile) = Some most_of_program
 most_asked (Some (Check fuel start)) = Some most_of_journal
 most_asked (Some (Make items)) = None
+most_asked (Some (Outcomes states witness)) = Some most_of_program
 
 -- where no text is asked for, the source is as it was; else at most one byte more is taken of it than the text may have
 abbrev pub TakesAtMost : {S : Type 0} → of_source.Ghosts S → Option ℕ → S → S → Type 0
@@ -66,12 +70,14 @@ IsReading (Some most) before after ReadFault = IsTrue (rose before.faults after.
 IsReading (Some most) before after (Text bytes) = Took most before.left after.left bytes
 
 -- what is due: to tell a text with its status, where something is refused, or a program is made or compiled; a run of a program, or of a
--- program with blocks, under options; or a check of a journal's lines, by the program, the fuel and what the generators of hashes start from
+-- program with blocks, under options; or a check of a journal's lines, by the program, the fuel and what the generators of hashes start from;
+-- or a search for every end of a program, which keeps at most so many states, with a witness or without
 pub data Due : Type 0 where
   Tells : ℕ → List ℕ → Due
   Runs : Options → ProgramText → Due
   RunsBlocks : Options → SyncText → Due
   Checks : ProgramText → ℕ → ℕ → List (List ℕ) → Due
+  Finds : ProgramText → ℕ → Bool → Due
 
 abbrev pub words_refused : Due
 words_refused = Tells 2 (codes "words refused\n")
@@ -114,6 +120,11 @@ check_due fuel start bytes =
     else if has_journal bytes then journal_due fuel start (journal_part bytes) (program_of (program_part bytes))
     else Tells 3 (codes "program: NoJournal\n")
 
+-- the ends of a program that asks for a hash aren't searched for
+abbrev pub finds_due : ℕ → Bool → Result ProgramText ProgramError → Due
+finds_due states witness (Ok p) = if has_hash p then Tells 3 (codes "program: Hash\n") else Finds p states witness
+finds_due states witness (Err e) = no_program e
+
 -- what is due of the arguments and the text that they ask for; those that are not accepted, and those that ask for a program to be made,
 -- ask for none, and what is due of them is due whatever the text is
 abbrev pub text_due : Option Command → List ℕ → Due
@@ -123,6 +134,7 @@ text_due (Some (Sync o)) bytes = sync_due o (sync_program_of bytes)
 text_due (Some Compile) bytes = compile_due (sync_program_of bytes)
 text_due (Some (Check fuel start)) bytes = check_due fuel start bytes
 text_due (Some (Make items)) bytes = program_made items
+text_due (Some (Outcomes states witness)) bytes = finds_due states witness (program_of bytes)
 
 abbrev pub due_of : Option Command → Reading → Due
 due_of c Unread = text_due c []
@@ -173,6 +185,13 @@ pub record IsCheck (p : ProgramText) (fuel start : ℕ) (lines : List (List ℕ)
   pub verdict : IsVerdict p fuel start lines answer
   pub written : IsWritten before after status (verdict_status answer) (verdict_text p answer)
 
+-- a search for every end: its counts are written, and behind them the way to an end where it is asked for, with the status by the counts
+pub record HasSearched (p : ProgramText) (states : ℕ) (witness : Bool) (before after : SinkSeen) (status : ℕ) : Type 0 where
+  pub counts : of_search.Outcomes
+  pub lines : List (List ℕ)
+  pub searched : IsSearched p states witness counts lines
+  pub written : IsWritten before after status (outcome_status counts) (text_of_lines (outcome_lines counts ++ lines))
+
 -- there is neither a record nor a closed heap
 abbrev pub LeavesNothing : Finish → Type 0
 LeavesNothing finish = (finish.run ≡ None) × (finish.closed ≡ None)
@@ -196,6 +215,7 @@ Meets before after finish (RunsBlocks o s) =
     LeavesRun before after finish o (compiled decimal s) × FollowsBlocks finish o.fuel s
 Meets before after finish (Checks p fuel start lines) =
     LeavesNothing finish × IsCheck p fuel start lines before after finish.status
+Meets before after finish (Finds p states witness) = LeavesNothing finish × HasSearched p states witness before after finish.status
 
 -- out of memory: nothing is left, and the sink is as it was
 pub record IsGivenUp {K : Type 0} (before after : K) (finish : Finish) : Type 0 where

@@ -5,6 +5,7 @@ pub mod Refused
 pub mod Report
 pub mod Verdict
 pub mod Asked
+pub mod Outcomes
 pub mod Finish
 pub mod MayBeWritten
 pub mod inner

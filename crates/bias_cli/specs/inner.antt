@@ -2,3 +2,4 @@
 pub mod Asked
 pub mod Input
 pub mod Briefly
+pub mod Ends

@@ -13,14 +13,15 @@ use run_io::Sink;
 ///
 /// | Status | Where |
 /// |---|---|
-/// | 0 | a program ran, and every thread came to its `end`; or a journal is legal; or a program was made, or compiled |
-/// | 1 | a program ran, some thread faulted or was spent, and the machine isn't stuck; or a line of a journal is no step, or a hash is bad |
+/// | 0 | a program ran, and every thread came to its `end`; or a journal is legal; or a program was made, or compiled; or all its ends were found, and it came to its `end` in each |
+/// | 1 | a program ran, some thread faulted or was spent, and the machine isn't stuck; or that is an end that was found; or a line of a journal is no step, or a hash is bad |
 /// | 2 | the arguments are not accepted |
-/// | 3 | the text has no program, its line and cause are written; or no journal, or a line of it is unreadable |
-/// | 4 | a program ran, and the machine behind the record is stuck |
+/// | 3 | the text has no program, its line and cause are written; or no journal, or a line of it is unreadable; or ends are asked for of a program with a `hash` |
+/// | 4 | a program ran, and the machine behind the record is stuck; or such an end was found |
 /// | 5 | a read failed |
 /// | 6 | a write failed, in place of any of the above |
 /// | 7 | out of memory, before the first write; no contract says when that is |
+/// | 8 | the search for all ends stopped at its limit, and found none with status 1 or 4 |
 ///
 /// `run` and `closed` are there exactly where the arguments ask for a run, by `run` or by `sync`, no read failed, the text has such a program
 /// and the status isn't 7, with status 6 too.

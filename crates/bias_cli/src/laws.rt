@@ -23,7 +23,7 @@ ghost use Rattle.bias_cli.specs.Seen.{SourceSeen, SinkSeen};
 ghost use Rattle.bias_cli.specs.Finish.{IsGivenUp, IsFinish, IsRunOf, status_of};
 ghost use Rattle.bias_cli.specs.Verdict.{IsVerdict, answer_to};
 
-/// Status 7 says that memory was wanting, and no other call has it: what is due has a status from 0 to 5, and a failed write has 6.
+/// Status 7 says that memory was wanting, and no other call has it: what is due has a status from 0 to 5, or 8, and a failed write has 6.
 /// So by the two clauses of `biasrun` each call either was given up or did what was due.
 pub fn status_7_is_want_of_memory()
     ensures another { (c : Option Command) (source_before source_after : SourceSeen)

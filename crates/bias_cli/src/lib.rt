@@ -18,6 +18,8 @@ mod finish;
 mod input;
 mod laws;
 mod make;
+mod outcome_laws;
+mod outcomes;
 mod output;
 mod refusal;
 mod report;
@@ -34,6 +36,7 @@ pub use laws::{
     the_journal_of_each_run_is_legal_for_check,
 };
 pub use lock_journal::{Cell, ClassLine, Line, Lines, Merge, RunRecord, Shot, replay};
+pub use outcome_laws::runs_end_as_a_search_found;
 use run_io::{Clock, Gate, Sink, Source};
 pub use run_words::{Command, Options, WordsFault, read_words};
 pub use settings_laws::settings_change_nothing_that_may_be_written;
@@ -47,11 +50,12 @@ use std::thread::Threads;
 /// and how each object was locked and passed on. `sync` reads a program with blocks in the same way, and runs its code with the same
 /// options; and `compile` reads one and writes its code, as a text that `run` takes where it isn't too long. `check` reads a program with
 /// a journal of it, to the end or one byte past the limit of both, and writes whether the journal is a legal history of the program, and
-/// if not, from which line on it isn't. `make` reads nothing, and writes the text of the handover program for the number of items that
-/// they say (`made_program::handover`), which may be run then.
+/// if not, from which line on it isn't. `outcomes` reads a program as `run` does, and writes how many states a search for every end of it kept,
+/// and how they end, with a journal that leads to an end where one is asked for. `make` reads nothing, and writes the text of the handover
+/// program for the number of items that they say (`made_program::handover`), which may be run then.
 ///
 /// `words[0]` is the program's name. Where the arguments are not accepted, a read fails, or the text has no program, that is what is
-/// written, and there is no record, nor is there one of a check or of a program that is made or compiled (`Finish` has the statuses). At
+/// written, and there is no record, nor is there one of a check, of a search or of a program that is made or compiled (`Finish` has the statuses). At
 /// the first write that fails the writing stops, with a prefix of the text written and status 6. Memory runs out only before the
 /// first write, and leaves the sink as it was. Of the source, where it tells what is left, no more is taken than one byte past the limit.
 ///
@@ -70,8 +74,8 @@ pub fn biasrun<R: Threads + Wait + Sync, S: Source, K: Sink, C: Clock + Sync, G:
     // Out of memory: nothing is left, and the sink is as it was.
     ensures given_up { result.status ≡ 7 → IsGivenUp sink.old sink.new result }
     // The arguments, the text that was read and the run that was made of it, or the check of a journal,
-    // or the number of items of a program that is made, say what is due, and that was written and
-    // answered, up to the first write that failed.
+    // or the search for every end, or the number of items of a program that is made, say what is due,
+    // and that was written and answered, up to the first write that failed.
     ensures finished { result.status ≢ 7 →
         IsFinish (accepted (map (λ w. string_bytes w) words.now))
         (source_seen S.Source source.old) (source_seen S.Source source.new)

@@ -20,6 +20,7 @@ use crate::compile::compile_source;
 use crate::finish::{Finish, WRITE_FAILED, give_up, tell};
 use crate::input::{MOST_OF_PROGRAM, ReadError, read_text};
 use crate::make::make_program;
+use crate::outcomes::find_source;
 use crate::refusal::refusal_line;
 use crate::report::report_where;
 use crate::text::{status_by, write_text};
@@ -64,6 +65,9 @@ pub(crate) fn run_words<
         Ok(Command::Compile) => compile_source(alloc, source, sink),
         Ok(Command::Check { fuel, start }) => check_source(alloc, fuel, start, source, sink),
         Ok(Command::Make { items }) => make_program(alloc, items, sink),
+        Ok(Command::Outcomes { states, witness }) => {
+            find_source(alloc, states, witness, source, sink)
+        }
         Err(WordsFault::Refused) => tell(sink, 2, b"words refused\n"),
         Err(WordsFault::NoMemory) => give_up(),
     }

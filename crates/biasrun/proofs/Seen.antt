@@ -8,7 +8,7 @@ use Rattle.run_words.specs.declared.options.Options.{Options}
 use Rattle.run_words.specs.declared.options.Command.{Command}
 use Rattle.bias_cli.specs.Seen.{SourceSeen, SinkSeen}
 use Rattle.bias_cli.specs.Finish.{Due, IsWritten, IsRun, LeavesRun, Meets, IsFinish, due_of}
-use Rattle.bias_cli.specs.Finish.Due.{Tells, Runs, RunsBlocks, Checks}
+use Rattle.bias_cli.specs.Finish.Due.{Tells, Runs, RunsBlocks, Checks, Finds}
 use Rattle.bias_cli.specs.declared.finish.Finish.{Finish}
 
 -- with nothing pending it is what the sink behind holds
@@ -40,6 +40,8 @@ module _ (before after b a : SinkSeen) (from : b.held ≡ before.held) (to : a.h
   meets_seen f (RunsBlocks o s) ne met = (leaves_seen f o _ ne met.0, met.1)
   meets_seen f (Checks p fuel start lines) ne met =
       (met.0, record { answer = met.1.answer; verdict = met.1.verdict; written = written_seen _ _ _ ne met.1.written })
+  meets_seen f (Finds p states witness) ne met =
+      (met.0, record { counts = met.1.counts; lines = met.1.lines; searched = met.1.searched; written = written_seen _ _ _ ne met.1.written })
 
   pub finish_seen : (c : Option Command) (sb sa : SourceSeen) (f : Finish) → f.status ≢ 6 → IsFinish c sb sa before after f
       → IsFinish c sb sa b a f

@@ -4,12 +4,14 @@
 #![tactic(auto)]
 
 mod blocks;
+mod ends;
 mod made;
 
 pub use blocks::{
     BOUNDED_BUFFER_SYNC, COUNTING_SYNC, CROSSED_BLOCKS_SYNC, PHILOSOPHERS_SYNC,
     READERS_AND_WRITERS_SYNC,
 };
+pub use ends::{DINING_RISING, DINING_THREE, FAULT_BY_ORDER, LOST_NOTIFY, TWO_ADDERS};
 pub use made::{MADE_BY_EACH_SYNC, MADE_QUEUE_SYNC};
 
 /// One object, one thread: it enters, prints and leaves.
@@ -456,7 +458,7 @@ end
 ";
 
 /// All of them.
-pub const EXAMPLES: [&str; 17] = [
+pub const EXAMPLES: [&str; 22] = [
     ANSWER,
     EXIT_TOO_OFTEN,
     WAIT_WITHOUT_HOLD,
@@ -474,4 +476,9 @@ pub const EXAMPLES: [&str; 17] = [
     TOO_MANY,
     HANDOVER_40,
     COUNTING,
+    DINING_THREE,
+    DINING_RISING,
+    TWO_ADDERS,
+    LOST_NOTIFY,
+    FAULT_BY_ORDER,
 ];

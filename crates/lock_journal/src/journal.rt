@@ -34,6 +34,15 @@ pub(crate) fn next_entry(entries: &mut Merge, run: &RunRecord, out: &mut Line) -
     }
 }
 
+/// The line of an entry of thread `t` in a journal, with its line feed.
+pub fn entry_line(program: &Program, t: u32, logged: &Logged) -> Line
+    ensures { result ≡ journal_line program.now (t, logged.now) }
+{
+    let mut line = Line::new();
+    push_logged(&mut line, program, t, logged);
+    line
+}
+
 /// Writes the line of an entry of thread `t`.
 fn push_logged(out: &mut Line, program: &Program, t: u32, logged: &Logged)
     requires { out.old ≡ [] }

@@ -17,6 +17,7 @@ mod replaying;
 mod threads;
 mod words;
 
+pub use journal::entry_line;
 pub use line::Line;
 pub use lines::Lines;
 pub use order::Merge;

@@ -9,7 +9,8 @@ use std::test::Fail;
 use std::thread::Threads;
 
 /// What a call is made with: the words behind the program's name, the text and what stands behind it, then how many empty lines, the
-/// read and the write that fail, by number from 1 or 0 for none, and the most bytes that a read gives and a write takes.
+/// read and the write that fail, by number from 1 or 0 for none, the most bytes that a read gives and a write takes, and from what number the
+/// clock counts, and by which steps.
 #[derive(Clone, Copy)]
 pub struct Call<'a> {
     pub words: &'a [&'a str],
@@ -19,6 +20,7 @@ pub struct Call<'a> {
     pub read_fails: u32,
     pub write_fails: u32,
     pub cut: u32,
+    pub clock: (u64, u64),
 }
 
 /// A run of the text with these words, in which no read and no write fails.
@@ -31,6 +33,7 @@ pub fn calling<'a>(words: &'a [&'a str], text: &'a str) -> Call<'a> {
         read_fails: 0,
         write_fails: 0,
         cut: 1000,
+        clock: (1, 1),
     }
 }
 
@@ -103,7 +106,7 @@ pub fn make_by<R: Threads + Wait + Abort + AllocGlobal + Sync, G: Gate + Sync>(
         words.as_slice(),
         &mut source,
         &mut sink,
-        &StepClock::new(1, 1),
+        &StepClock::new(call.clock.0, call.clock.1),
         gate,
     );
     bias_cli::records_can_be_replayed();

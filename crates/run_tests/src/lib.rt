@@ -19,6 +19,8 @@ mod meets;
 #[cfg(test)]
 mod monitors;
 #[cfg(test)]
+mod outcomes;
+#[cfg(test)]
 mod reports;
 #[cfg(test)]
 mod rows;

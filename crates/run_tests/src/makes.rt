@@ -72,23 +72,30 @@ class Flag single ";
     expect_around(&rt, run, 0, front, &["\n"])
 }
 
-/// Of the 40 items, which the first thread has first, the second one takes 20 one by one and 20 more at once, when the class is biased
-/// anew, and after 40 the class has no biases any more.
-#[test]
-fn biases_of_forty_items(rt: HostRuntime) -> Result<(), Fail> {
-    let front = "\
+/// What is written of the 40 items where no time goes on.
+const FORTY_ITEMS: &str = "\
 t1: 40
 thread t1 done
 thread t2 done
 class Item single 38 rebias 1 revoke 1 count 40 prototype 1 enters 0 61 40 0 0 0
 class Flag single ";
-    expect_around(
-        &rt,
-        calling(&["run", "--stats"], HANDOVER_40),
-        0,
-        front,
-        &["\n"],
-    )
+
+/// Of the 40 items, which the first thread has first, the second one takes 20 one by one and 20 more at once, when the class is biased
+/// anew, and after 40 the class has no biases any more.
+#[test]
+fn biases_of_forty_items(rt: HostRuntime) -> Result<(), Fail> {
+    let run = calling(&["run", "--stats"], HANDOVER_40);
+    expect_around(&rt, run, 0, FORTY_ITEMS, &["\n"])
+}
+
+/// The same by a clock that stands at its greatest count, with the longest tick: every moment is the same one.
+#[test]
+fn biases_of_forty_items_where_the_clock_stands(rt: HostRuntime) -> Result<(), Fail> {
+    let run = Call {
+        clock: (u64::MAX, 0),
+        ..calling(&["run", "--stats", "--tick", "4294967295"], HANDOVER_40)
+    };
+    expect_around(&rt, run, 0, FORTY_ITEMS, &["\n"])
 }
 
 /// Where time goes on by 25 seconds with each look at the clock, the count of a class decays behind a bulk rebias: the first thread takes

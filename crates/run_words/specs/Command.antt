@@ -9,7 +9,7 @@ use Rattle.run_words.specs.declared.words.Kind.{Kind}
 use Rattle.run_words.specs.declared.words.Kind.TheVariants.{Valued, Flag}
 use Rattle.run_words.specs.declared.options.Options.{Options}
 use Rattle.run_words.specs.declared.options.Command.{Command}
-use Rattle.run_words.specs.declared.options.Command.TheVariants.{Run, Sync, Compile, Check, Make}
+use Rattle.run_words.specs.declared.options.Command.TheVariants.{Run, Sync, Compile, Check, Make, Outcomes}
 
 abbrev pub Text : Type 0
 Text = List ℕ
@@ -17,10 +17,11 @@ Text = List ℕ
 -- ---- one word in the place of an option
 
 abbrev pub valued_names : List Text
-valued_names = codes "workers" ∷ codes "fuel" ∷ codes "quantum" ∷ codes "bias" ∷ codes "hash-start" ∷ codes "tick" ∷ []
+valued_names = codes "workers" ∷ codes "fuel" ∷ codes "quantum" ∷ codes "bias" ∷ codes "hash-start" ∷ codes "tick"
+    ∷ codes "states" ∷ []
 
 abbrev pub flag_names : List Text
-flag_names = codes "stats" ∷ codes "journal" ∷ codes "report" ∷ []
+flag_names = codes "stats" ∷ codes "journal" ∷ codes "report" ∷ codes "witness" ∷ []
 
 abbrev pub is_one_of : List Text → Text → Bool
 is_one_of names name = list_any (λ x. bytes_eq x name) names
@@ -130,9 +131,11 @@ pub record Values : Type 0 where
   pub bias : Option Text
   pub start : Option Text
   pub tick : Option Text
+  pub states : Option Text
   pub stats : Bool
   pub journal : Bool
   pub report : Bool
+  pub witness : Bool
 
 abbrev pub values_of : Given → Values
 values_of given = record {
@@ -142,9 +145,11 @@ values_of given = record {
   bias = value_of (codes "bias") given;
   start = value_of (codes "hash-start") given;
   tick = value_of (codes "tick") given;
+  states = value_of (codes "states") given;
   stats = is_true (value_of (codes "stats") given);
   journal = is_true (value_of (codes "journal") given);
   report = is_true (value_of (codes "report") given);
+  witness = is_true (value_of (codes "witness") given);
 }
 
 -- what the text says, or the default where there is none
@@ -167,8 +172,9 @@ fuel_of v = read_or 20000 (number 1 most_fuel) v.fuel
 abbrev pub start_of : Values → Option ℕ
 start_of v = read_or 1 (number 0 4294967295) v.start
 
-abbrev pub options_of : Values → Option Options
-options_of v = do
+-- how a program is run by these values
+abbrev pub run_values : Values → Option Options
+run_values v = do
   workers ← read_or 4 (number 1 most_threads) v.workers
   fuel ← fuel_of v
   quantum ← read_or 1000 (number 1 100000) v.quantum
@@ -191,6 +197,14 @@ options_of v = do
 abbrev pub has_run_options : Values → Bool
 has_run_options v =
     is_some v.workers || is_some v.quantum || is_some v.bias || is_some v.tick || v.stats || v.journal || v.report
+
+-- an option is given that only a search for all ends has
+abbrev pub has_outcome_options : Values → Bool
+has_outcome_options v = is_some v.states || v.witness
+
+-- a run has all options but those of a search
+abbrev pub options_of : Values → Option Options
+options_of v = if has_outcome_options v then None else run_values v
 
 -- what a check goes by
 abbrev pub check_values : Values → Option Command
@@ -223,10 +237,18 @@ compile_of words = None
 
 -- a check takes its words as a run does, but has no more options than these two
 abbrev pub check_by : Values → Option Command
-check_by v = if has_run_options v then None else check_values v
+check_by v = if has_run_options v || has_outcome_options v then None else check_values v
 
 abbrev pub check_of : List Text → Option Command
 check_of words = option_and_then check_by (values_in words)
+
+-- a search for all ends takes its words as a run does, but has none of its options; it keeps at most so many states
+abbrev pub outcomes_by : Values → Option Command
+outcomes_by v = if has_run_options v || is_some v.fuel || is_some v.start then None
+    else option_map (λ n. Outcomes n v.witness) (read_or 1000000 (number 1 10000000) v.states)
+
+abbrev pub outcomes_of : List Text → Option Command
+outcomes_of words = option_and_then outcomes_by (values_in words)
 
 -- what is made takes one word, the number of its items
 abbrev pub make_of : List Text → Option Command
@@ -240,6 +262,7 @@ command_in command words =
     else if bytes_eq command (codes "compile") then compile_of words
     else if bytes_eq command (codes "check") then check_of words
     else if bytes_eq command (codes "make") then make_of words
+    else if bytes_eq command (codes "outcomes") then outcomes_of words
     else None
 
 abbrev pub command_of : List Text → Option Command

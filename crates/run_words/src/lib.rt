@@ -60,6 +60,8 @@ fn read_command(alloc: Global, command: &str, words: &[String]) -> Result<Comman
         read_check(alloc, words)
     } else if command == "make" {
         read_make(words)
+    } else if command == "outcomes" {
+        read_outcomes(alloc, words)
     } else {
         Err(WordsFault::Refused)
     }
@@ -110,6 +112,15 @@ fn read_check(alloc: Global, words: &[String]) -> Result<Command, WordsFault>
 {
     let values = read_values(alloc, words)?;
     options::check_by(values).ok_or(WordsFault::Refused)
+}
+
+/// What the words behind `outcomes` ask for.
+fn read_outcomes(alloc: Global, words: &[String]) -> Result<Command, WordsFault>
+    ensures ok { IfOk result (λ c. spec.outcomes_of (map (λ w. string_bytes w) words.now) ≡ Some c) }
+    ensures refused { result ≡ Err Refused → spec.outcomes_of (map (λ w. string_bytes w) words.now) ≡ None }
+{
+    let values = read_values(alloc, words)?;
+    options::outcomes_by(values).ok_or(WordsFault::Refused)
 }
 
 /// What the words behind `make` ask for.

@@ -23,6 +23,9 @@ pub enum Command {
     Check { fuel: u32, start: u32 },
     /// To make the program that hands over this many items, 1 to 1,500.
     Make { items: u32 },
+    /// To find every way in which a program may end, keeping at most this many states, 1 to 10,000,000; whether a journal that
+    /// leads to a stuck or faulted end is written.
+    Outcomes { states: u32, witness: bool },
 }
 
 /// How a program is run.
@@ -57,21 +60,33 @@ pub(crate) struct Values<'a> {
     pub(crate) bias: Option<&'a str>,
     pub(crate) start: Option<&'a str>,
     pub(crate) tick: Option<&'a str>,
+    pub(crate) states: Option<&'a str>,
     pub(crate) stats: bool,
     pub(crate) journal: bool,
     pub(crate) report: bool,
+    pub(crate) witness: bool,
 }
 
-/// The options that the texts say, or `None` where one of them says no value of its option.
+/// The options that the texts say, or `None` where one of them says no value of its option or belongs to a search for all ends.
 pub(crate) fn options_of(values: Values) -> Option<Options>
     ensures { result ≡ spec.options_of (told.values_held values.entry) }
 {
+    if has_outcome_options(&values) {
+        return None;
+    }
+    run_values(&values)
+}
+
+/// How a program is run by the texts, or `None` where one of them says no value of its option.
+fn run_values(values: &Values) -> Option<Options>
+    ensures { result ≡ spec.run_values (told.values_held values.now) }
+{
     Some(Options {
         workers: number_or(values.workers, 4, 1, THREADS)?,
-        fuel: fuel_of(&values)?,
+        fuel: fuel_of(values)?,
         quantum: number_or(values.quantum, 1_000, 1, 100_000)?,
         bias: switch_or(values.bias, true)?,
-        start: start_of(&values)?,
+        start: start_of(values)?,
         tick: number_or(values.tick, 0, 0, 4_294_967_295)?,
         stats: values.stats,
         journal: values.journal,
@@ -79,16 +94,30 @@ pub(crate) fn options_of(values: Values) -> Option<Options>
     })
 }
 
-/// The check that the texts ask for, or `None` where one of them says no value of its option or belongs to a run.
+/// The check that the texts ask for, or `None` where one of them says no value of its option or belongs to a run or a search.
 pub(crate) fn check_by(values: Values) -> Option<Command>
     ensures { result ≡ spec.check_by (told.values_held values.entry) }
 {
-    if has_run_options(&values) {
+    if has_run_options(&values) || has_outcome_options(&values) {
         return None;
     }
     Some(Command::Check {
         fuel: fuel_of(&values)?,
         start: start_of(&values)?,
+    })
+}
+
+/// The search for all ends that the texts ask for, or `None` where one of them says no value of its option or belongs to a run or a
+/// check.
+pub(crate) fn outcomes_by(values: Values) -> Option<Command>
+    ensures { result ≡ spec.outcomes_by (told.values_held values.entry) }
+{
+    if has_run_options(&values) || values.fuel.is_some() || values.start.is_some() {
+        return None;
+    }
+    Some(Command::Outcomes {
+        states: number_or(values.states, 1_000_000, 1, 10_000_000)?,
+        witness: values.witness,
     })
 }
 
@@ -125,6 +154,13 @@ fn has_run_options(values: &Values) -> bool
         || values.stats
         || values.journal
         || values.report
+}
+
+/// Whether an option is given that only a search for all ends has.
+fn has_outcome_options(values: &Values) -> bool
+    ensures { result ≡ spec.has_outcome_options (told.values_held values.now) }
+{
+    values.states.is_some() || values.witness
 }
 
 /// The number that the text says, or the default where there is no text.

@@ -44,7 +44,7 @@ fn bare_command<'a>(alloc: Global) -> clap::Command<'a>
         .disable_help_flag(true)
 }
 
-/// The command `run` with its options, of which a check has some.
+/// The command `run` with the options of all commands.
 fn run_command<'a>(alloc: Global) -> Result<clap::Command<'a>, AllocError>
     ensures { IfOk result (λ c. app_of c ≡ told.run_app) }
 {
@@ -78,9 +78,11 @@ fn values_in<'a>(matches: &ArgMatches<'a>) -> Values<'a>
         bias: matches.get_str("bias"),
         start: matches.get_str("hash-start"),
         tick: matches.get_str("tick"),
+        states: matches.get_str("states"),
         stats: is_set(matches, "stats"),
         journal: is_set(matches, "journal"),
         report: is_set(matches, "report"),
+        witness: is_set(matches, "witness"),
     }
 }
 

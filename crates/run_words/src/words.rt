@@ -15,10 +15,18 @@ pub(crate) enum Kind {
 }
 
 /// The options that have a value.
-pub(crate) static VALUED: [&str; 6] = ["workers", "fuel", "quantum", "bias", "hash-start", "tick"];
+pub(crate) static VALUED: [&str; 7] = [
+    "workers",
+    "fuel",
+    "quantum",
+    "bias",
+    "hash-start",
+    "tick",
+    "states",
+];
 
 /// The options that have none.
-pub(crate) static FLAGS: [&str; 3] = ["stats", "journal", "report"];
+pub(crate) static FLAGS: [&str; 4] = ["stats", "journal", "report", "witness"];
 
 /// Whether the option with this name has a value, or `None` where there is no such option.
 fn kind_of(name: &str) -> Option<Kind>

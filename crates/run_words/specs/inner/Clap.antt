@@ -31,9 +31,11 @@ values_found found = record {
   bias = found (codes "bias");
   start = found (codes "hash-start");
   tick = found (codes "tick");
+  states = found (codes "states");
   stats = is_true (found (codes "stats"));
   journal = is_true (found (codes "journal"));
   report = is_true (found (codes "report"));
+  witness = is_true (found (codes "witness"));
 }
 
 -- the values that the code holds, with the texts behind its references
@@ -45,7 +47,9 @@ values_held v = record {
   bias = option_map (λ s. s.now) v.bias;
   start = option_map (λ s. s.now) v.start;
   tick = option_map (λ s. s.now) v.tick;
+  states = option_map (λ s. s.now) v.states;
   stats = v.stats;
   journal = v.journal;
   report = v.report;
+  witness = v.witness;
 }

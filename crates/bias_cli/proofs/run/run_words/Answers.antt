@@ -1,6 +1,6 @@
 use Rattle.std.proofs.Common.{◌∙◌, ap, map, Some}
 use Rattle.std.specs.Prelude.{string_bytes}
-use Rattle.bias_cli.proofs.MadeItems.{few_items}
+use Rattle.bias_cli.proofs.MadeItems.{few_items, few_states}
 use Rattle.bias_cli.proofs.RunOptions.{runnable, sync_runnable}
 use Rattle.bias_cli.proofs.run.run_words.Goals as goal
 
@@ -23,3 +23,8 @@ pub make_program-requires-clause-few : goal.make_program-requires-clause-few
 make_program-requires-clause-few g c =
     let made = c.in-Ok-Make in
     (few_items (map (λ w. string_bytes w) c.args.words.now) made.items (made.ensures.ok ∙ ap Some made.field-0-is)).1
+
+pub find_source-requires : goal.find_source-requires
+find_source-requires g c =
+    let asked = c.in-Ok-Outcomes in
+    few_states (map (λ w. string_bytes w) c.args.words.now) asked.states asked.witness (asked.ensures.ok ∙ ap Some asked.field-0-is)
