@@ -7,6 +7,7 @@ pub mod May
 pub mod Values
 pub mod Behind
 pub mod Advanced
+pub mod BehindCall
 pub mod Waited
 pub mod Walked
 pub mod OnTime

@@ -6,11 +6,12 @@ ghost use Rattle.plain_machine.specs.declared.call.Call.TheVariants as call;
 ghost use Rattle.plain_machine.specs.declared.call.Mode.TheVariants.{Calling};
 ghost use Rattle.thread_calls.specs.Advances.{HasAdvanced, MayAdvance, turn_of};
 ghost use Rattle.thread_calls.specs.Between.{IsHeapOf};
+ghost use Rattle.thread_calls.specs.inner.Made.{IsBehindCall};
 ghost use Rattle.thread_calls.specs.Timed.{StaysTimed};
 ghost use Rattle.thread_frame.specs.Frames.{before_call, IsAtInstruction};
 
 use crate::came::{Went, tell};
-use crate::makes::make;
+use crate::makes::{enter, exit, get, make, put};
 use crate::timing::time_now;
 use core_world::{Turn, Why};
 use heap_table::{Heap, Pass};
@@ -21,7 +22,8 @@ use plain_monitor::Entry;
 use run_io::Clock;
 use thread_frame::Frame;
 
-/// Makes the call that the thread is at. Only where it is pending does the frame stand before it then, and is a cause written.
+/// Makes the call that the thread is at. Only where it is pending does the frame stand before it then, and is a cause written. The calls that most
+/// instructions are have places of their own, so that no answer of theirs goes through memory; `make` makes the rest.
 #[inline]
 pub(crate) fn call<C: Clock>(
     program: &Program,
@@ -41,11 +43,60 @@ pub(crate) fn call<C: Clock>(
         (turn_of result cause.new) }
     ensures timed { StaysTimed tick pass.old pass.new }
 {
-    if let Call::Wait { object } = call {
-        let turn = begin_wait(program, heap, clock, tick, fuel, pass, frame, object);
-        return tell(turn, cause);
+    match call {
+        Call::Enter { object } => {
+            let turn = enter(heap, pass, object, time_now(clock, tick));
+            go_behind(frame, Call::Enter { object }, turn, cause)
+        }
+        Call::Exit { object } => {
+            let turn = exit(heap, pass, object);
+            go_behind(frame, Call::Exit { object }, turn, cause)
+        }
+        Call::Get {
+            local,
+            object,
+            slot,
+        } => {
+            let turn = get(heap, pass, local, object, slot);
+            let made = Call::Get {
+                local,
+                object,
+                slot,
+            };
+            go_behind(frame, made, turn, cause)
+        }
+        Call::Put {
+            object,
+            slot,
+            value,
+        } => {
+            let turn = put(heap, pass, object, slot, value);
+            let made = Call::Put {
+                object,
+                slot,
+                value,
+            };
+            go_behind(frame, made, turn, cause)
+        }
+        Call::Wait { object } => {
+            let turn = begin_wait(program, heap, clock, tick, fuel, pass, frame, object);
+            tell(turn, cause)
+        }
+        _ => {
+            let turn = make(heap, clock, tick, pass, call);
+            go_behind(frame, call, turn, cause)
+        }
     }
-    match make(heap, clock, tick, pass, call) {
+}
+
+// Moves on behind the call that was made, or stands before it where it is pending. It is built into each place that calls it, where the compiler
+// knows the call, and so what of its answer the frame takes.
+#[inline(always)]
+fn go_behind(frame: &mut Frame, call: Call, turn: Turn<Entry>, cause: &mut Why) -> Went
+    requires { IsAtInstruction frame.old.place frame.old.made (Some (Calling call)) }
+    ensures { IsBehindCall frame.old frame.new call turn (turn_of result cause.new) }
+{
+    match turn {
         Turn::Done(entry) => {
             frame.follow(Asked::Calls { call }, &entry);
             Went::Done

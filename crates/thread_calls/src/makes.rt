@@ -8,7 +8,7 @@ ghost use Rattle.heap_table.specs.Resting.{MayOperate, start_now};
 ghost use Rattle.plain_history.specs.Known.{news};
 ghost use Rattle.plain_machine.specs.declared.call.Call.TheVariants as call;
 ghost use Rattle.plain_monitor.specs.Limits.{most_made};
-ghost use Rattle.thread_calls.specs.inner.Made.{HasMade, Holds, MayMake};
+ghost use Rattle.thread_calls.specs.inner.Made.{HasMade, Holds, IsRare, MayMake};
 ghost use Rattle.thread_calls.specs.Timed.{StaysTimed};
 
 use crate::timing::time_now;
@@ -19,8 +19,8 @@ use plain_machine::Call;
 use plain_monitor::{Entry, Value};
 use run_io::Clock;
 
-// An enter, which is not refused, since the thread has fewer than 64 holds.
-fn enter(heap: &Heap, pass: &mut Pass, object: u32, now: u64) -> Turn<Entry>
+/// An enter, which is not refused, since the thread has fewer than 64 holds.
+pub(crate) fn enter(heap: &Heap, pass: &mut Pass, object: u32, now: u64) -> Turn<Entry>
     requires may { MayOperate heap.now pass.old (task.Enter object now) }
     requires room { is_full (start_now heap.now pass.old) object ≡ false }
     ensures made { HasMade heap.now pass.old pass.new (call.Enter object) result }
@@ -35,8 +35,8 @@ fn enter(heap: &Heap, pass: &mut Pass, object: u32, now: u64) -> Turn<Entry>
     }
 }
 
-// An exit of an object that the thread holds.
-fn exit(heap: &Heap, pass: &mut Pass, object: u32) -> Turn<Entry>
+/// An exit of an object that the thread holds.
+pub(crate) fn exit(heap: &Heap, pass: &mut Pass, object: u32) -> Turn<Entry>
     requires may { MayOperate heap.now pass.old (task.Exit object) }
     requires holds { Holds pass.old object }
     ensures made { HasMade heap.now pass.old pass.new (call.Exit object) result }
@@ -82,8 +82,8 @@ fn notify_all(heap: &Heap, pass: &mut Pass, object: u32, now: u64) -> Turn<Entry
     }
 }
 
-// A get from a slot of an object that the thread holds, for this local.
-fn get(heap: &Heap, pass: &mut Pass, local: u32, object: u32, slot: u32) -> Turn<Entry>
+/// A get from a slot of an object that the thread holds, for this local.
+pub(crate) fn get(heap: &Heap, pass: &mut Pass, local: u32, object: u32, slot: u32) -> Turn<Entry>
     requires may { MayOperate heap.now pass.old (task.Get object slot) }
     requires holds { Holds pass.old object }
     ensures made { HasMade heap.now pass.old pass.new (call.Get local object slot) result }
@@ -97,8 +97,8 @@ fn get(heap: &Heap, pass: &mut Pass, local: u32, object: u32, slot: u32) -> Turn
     })
 }
 
-// A put into a slot of an object that the thread holds.
-fn put(heap: &Heap, pass: &mut Pass, object: u32, slot: u32, value: Value) -> Turn<Entry>
+/// A put into a slot of an object that the thread holds.
+pub(crate) fn put(heap: &Heap, pass: &mut Pass, object: u32, slot: u32, value: Value) -> Turn<Entry>
     requires may { MayOperate heap.now pass.old (task.Put object slot value) }
     requires holds { Holds pass.old object }
     ensures made { HasMade heap.now pass.old pass.new (call.Put object slot value) result }
@@ -171,7 +171,8 @@ fn dump(heap: &Heap, pass: &mut Pass, number: u32) -> Turn<Entry>
     }
 }
 
-/// Makes the call, which may begin and isn't refused. Calls that take a moment get the clock's time now, by `tick`.
+/// Makes the call, which may begin and isn't refused, and is none of those that have a place of their own where calls are made. Calls that
+/// take a moment get the clock's time now, by `tick`.
 pub(crate) fn make<C: Clock>(
     heap: &Heap,
     clock: &C,
@@ -179,26 +180,19 @@ pub(crate) fn make<C: Clock>(
     pass: &mut Pass,
     call: Call,
 ) -> Turn<Entry>
-    requires { MayMake heap.now pass.old call }
+    requires may { MayMake heap.now pass.old call }
+    requires rare { IsRare call }
     ensures made { HasMade heap.now pass.old pass.new call result }
     ensures timed { StaysTimed tick pass.old pass.new }
 {
     match call {
-        Call::Enter { object } => enter(heap, pass, object, time_now(clock, tick)),
-        Call::Exit { object } => exit(heap, pass, object),
+        Call::Enter { .. } => unreachable!(),
+        Call::Exit { .. } => unreachable!(),
         Call::Wait { .. } => unreachable!(),
         Call::Notify { object } => notify(heap, pass, object, time_now(clock, tick)),
         Call::NotifyAll { object } => notify_all(heap, pass, object, time_now(clock, tick)),
-        Call::Get {
-            local,
-            object,
-            slot,
-        } => get(heap, pass, local, object, slot),
-        Call::Put {
-            object,
-            slot,
-            value,
-        } => put(heap, pass, object, slot, value),
+        Call::Get { .. } => unreachable!(),
+        Call::Put { .. } => unreachable!(),
         Call::Hash { local, object } => { hash(heap, pass, local, object, time_now(clock, tick)) }
         Call::New { local, class } => create(heap, pass, local, class),
         Call::Print { value } => print(heap, pass, value),

@@ -18,7 +18,7 @@ use Rattle.plain_monitor.specs.declared.entry.Entry.{Entry}
 use Rattle.plain_monitor.specs.Limits.{most_made}
 use Rattle.thread_calls.specs.Advances.{DoneIn, PendedIn, MadeCall}
 use Rattle.thread_calls.specs.Asked.{unfinished_of_call}
-use Rattle.thread_frame.specs.Frames.{FrameSeen, frame_behind_call}
+use Rattle.thread_frame.specs.Frames.{FrameSeen, before_call, frame_behind_call}
 use Rattle.thread_logs.specs.Followed.{HasValue}
 
 -- WHEN IT MAY. The thread holds the object by its own log.
@@ -39,6 +39,15 @@ MayMake h p (call.Hash x o) = (now : ℕ) → MayOperate h p (task.Hash o now)
 MayMake h p (call.New x c) = MayOperate h p (task.Create c) × (length (news p.known.log) < most_made)
 MayMake h p (call.Print v) = MayOperate h p (task.Print v)
 MayMake h p (call.Dump n) = MayOperate h p task.Dump × (n ≡ length p.known.shots + 1) × (n ≤ 4)
+
+-- a call that isn't one of those that nearly all instructions are, nor a wait
+abbrev pub IsRare : Call → Type 0
+IsRare (call.Enter o) = ⊥
+IsRare (call.Exit o) = ⊥
+IsRare (call.Wait o) = ⊥
+IsRare (call.Get x o k) = ⊥
+IsRare (call.Put o k v) = ⊥
+IsRare c = Unit {0}
 
 -- WHAT IT LEAVES. The pass was p, and is q: it rests again, on the same heap and with as much room.
 pub record IsBehind (h : HeapSeen) (p q : PassSeen) : Type 0 where
@@ -79,3 +88,8 @@ pub record HasTold (h : HeapSeen) (p q : PassSeen) (c : Call) (e : Entry) : Type
 abbrev pub HasMade : HeapSeen → PassSeen → PassSeen → Call → Turn Entry → Type 0
 HasMade h p q c (Done e) = HasTold h p q c e
 HasMade h p q c (Pending why) = HasLeft h p q (unfinished_of_call c) why × (is_some (unfinished_of_call c) ≡ true)
+
+-- the frame was f, and is g: behind the call, by the entry that it made, or before it, where it is pending; and that is what it came to
+abbrev pub IsBehindCall : FrameSeen → FrameSeen → Call → Turn Entry → Turn Bool → Type 0
+IsBehindCall f g c (Done e) came = (g ≡ frame_behind_call f c e) × (came ≡ Done true)
+IsBehindCall f g c (Pending why) came = (g ≡ before_call f c) × (came ≡ Pending why)
