@@ -7,9 +7,10 @@ TOP = pathlib.Path(__file__).resolve().parent.parent
 
 @functools.cache
 def libraries():
-    """The libraries on the line of each crate; one without a line of its own is the kit's."""
+    """The libraries on the line of each crate; one without a line of its own is the kit's. A word between the name and the colon says what kind of
+    crate it is."""
     lines = [line.split("#")[0] for line in (TOP / "crates.txt").read_text(encoding="utf-8").splitlines()]
-    return {name.strip(): rest.split() for name, mark, rest in (line.partition(":") for line in lines) if mark}
+    return {said.split()[0]: rest.split() for said, mark, rest in (line.partition(":") for line in lines) if mark}
 
 
 def cited(name):

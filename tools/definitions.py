@@ -25,7 +25,7 @@ SPEC_LINE = re.compile(r"(?:pub )?(?:use|mod|infix[lr]?)\b")
 USE = re.compile(r"^\s*(?:pub |ghost )?use ([\w.?]+?)(?:\.\{([^}]*)\}| as (\w+))?;?\s*$", re.M)
 RUST_TYPE = re.compile(r"^(?:pub(?:\([a-z]+\))? )?(struct|enum|trait) (\w+)(?:[^\n{]*;$|[^\n]*\{\}$|.*?^\})", re.M | re.S)
 RUST_ALIAS = re.compile(r"^(?:pub(?:\([a-z]+\))? )?(type) (\w+)[^;]*;$", re.M)
-RUST_FUNCTION = re.compile(r"^pub (fn) (\w+)(.*?)^\{$", re.M | re.S)
+RUST_FUNCTION = re.compile(r'^pub (?:extern "C" )?(fn) (\w+)(.*?)^\{$', re.M | re.S)
 RUST_USE = re.compile(r"^(?:pub(?:\([a-z]+\))? )?use (\w+)((?:::\w+)*?)::(?:\{([^;]*)\}|(\w+|\*));", re.M)
 MODEL = re.compile(r"^impl(?:<[^{]*?>)? Model for (\w+).*?^\}", re.M | re.S)
 TOKEN = re.compile(r"[(){}\[\];,λ]|[^\s(){}\[\];,λ]+")
@@ -126,11 +126,14 @@ def rust_type(crate, modules, name):
 
 
 def member(module, name):
-    """What a name of an imported module stands for, and whether it is a constructor; nothing for the toolchain's libraries."""
+    """What a name of an imported module stands for, and whether it is a constructor; nothing for the toolchain's libraries, and for what it makes of
+    functions and types."""
     parts = module.split(".")
     if parts[0] != "Rattle" or not is_crate(parts[1]):
         return None
     crate, parts = parts[1], parts[3:]
+    if parts[0] == "contracts":
+        return None
     if parts[0] == "declared":
         variants = parts[-1] == "TheVariants"
         parts = parts[1:-1] if parts[-1] in ("TheVariants", "TheInside") else parts[1:]

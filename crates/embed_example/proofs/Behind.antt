@@ -107,6 +107,7 @@ module _ (h : HeapSeen) (p q : PassSeen) (live : IsLive h p) (rests : Rests h q)
         unchecked = d.checking;
         unended = ap ends d.log ∙ unended_both p.known.log d.new live.unended (ends_by d.new ∙ ap some_ends d.entries ∙ none);
         limit = subst (λ n. n ≤ log_limit) (sym limit) live.limit;
+        whole = limit ∙ live.whole;
       }
 
   pub free_behind : (es : List Entry) → Did es None false p.known q.known → some_ends es ≡ false → IsRunning q.known → IsFree h q
@@ -157,6 +158,7 @@ as_before h w o p q may rests limit same =
         unchecked = ap (λ (k : Known). k.checking) same ∙ may.live.unchecked;
         unended = ap (λ (k : Known). ends k.log) same ∙ may.live.unended;
         limit = subst (λ n. n ≤ log_limit) (sym limit) may.live.limit;
+        whole = limit ∙ may.live.whole;
       };
       stands = ap (λ (k : Known). k.running || (k.requesting && goes_on_with w o k.unfinished)) same ∙ may.stands;
       free = ap (λ (k : Known). is_none k.unfinished || goes_on_with w o k.unfinished) same ∙ may.free;
@@ -209,6 +211,7 @@ may_beside h w o p q b runs may =
         unchecked = b.checking ∙ may.live.unchecked;
         unended = ap ends b.log ∙ may.live.unended;
         limit = subst (λ n. n ≤ log_limit) (sym b.limit) may.live.limit;
+        whole = b.limit ∙ may.live.whole;
       };
       stands = λ i. runs.runs i || (q.known.requesting && goes_on_with w o q.known.unfinished);
       free = ap (λ (u : Option Unfinished). is_none u || goes_on_with w o u) b.unfinished ∙ may.free;
@@ -276,6 +279,7 @@ new_free h fuel t p q n few b runs =
         unchecked = b.checking ∙ ap (λ (k : Known). k.checking) known;
         unended = ap ends (b.log ∙ ap (λ (k : Known). k.log) known);
         limit = omega (arith, limit, few);
+        whole = limit ∙ sym n.room;
       };
       runs = runs.runs;
       none = b.unfinished ∙ ap (λ (k : Known). k.unfinished) known;

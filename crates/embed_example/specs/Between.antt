@@ -8,18 +8,21 @@ use Rattle.core_world.specs.Trees.Operations.{goes_on_with}
 use Rattle.heap_table.specs.Fresh.{IsFresh}
 use Rattle.heap_table.specs.Resting.{Rests}
 use Rattle.heap_table.specs.Seen.{HeapSeen, PassSeen}
+use Rattle.lock_runtime.specs.Standing.{IsStopped}
 
 -- The pass of thread t on which no call was made yet, on a heap that was made for so much fuel.
 pub record IsNew (h : HeapSeen) (fuel t : ℕ) (p : PassSeen) : Type 0 where
   pub fresh : IsFresh h t p
   pub limit : p.limit ≡ entries_for fuel
+  pub room : h.room ≡ entries_for fuel
 
--- Its last call is over, it makes no check, it hasn't ended, and its log is no longer than any log may be.
+-- Its last call is over, it makes no check, it hasn't ended, its log is no longer than any log may be, and no page of it was handed out.
 pub record IsLive (h : HeapSeen) (p : PassSeen) : Type 0 where
   pub rests : Rests h p
   pub unchecked : p.known.checking ≡ false
   pub unended : ends p.known.log ≡ false
   pub limit : p.limit ≤ log_limit
+  pub whole : p.limit ≡ h.room
 
 -- Any operation may begin: the thread runs, and nothing is unfinished.
 pub record IsFree (h : HeapSeen) (p : PassSeen) : Type 0 where
@@ -32,6 +35,12 @@ pub record MayTry (w : Op) (o : ℕ) (h : HeapSeen) (p : PassSeen) : Type 0 wher
   pub live : IsLive h p
   pub stands : (p.known.running || (p.known.requesting && goes_on_with w o p.known.unfinished)) ≡ true
   pub free : (is_none p.known.unfinished || goes_on_with w o p.known.unfinished) ≡ true
+
+-- Its thread is stopped, its last call is over, and no page of its log was handed out.
+pub record IsOver (h : HeapSeen) (p : PassSeen) : Type 0 where
+  pub rests : Rests h p
+  pub stopped : IsStopped p.known
+  pub whole : p.limit ≡ h.room
 
 -- The pass was p, and is q behind calls that log nothing, and leave what is unfinished so.
 pub record IsBeside (h : HeapSeen) (p q : PassSeen) : Type 0 where

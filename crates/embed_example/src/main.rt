@@ -18,7 +18,7 @@ ghost use Rattle.plain_history.specs.ExactStamps.{StampsAreExact};
 ghost use Rattle.plain_monitor.specs.History.{LegalObjects};
 ghost use Rattle.plain_monitor.specs.declared.entry.Entry.TheVariants as entry;
 ghost use Rattle.embed_example.specs.Acts.{op_of, Tried, HasAdded, HasMade, IsGivenUp, IsNoEnd};
-ghost use Rattle.embed_example.specs.Between.{IsNew, IsFree, MayTry, IsBeside};
+ghost use Rattle.embed_example.specs.Between.{IsNew, IsFree, IsOver, MayTry, IsBeside};
 
 use core_world::{Turn, Why};
 use heap_table::{Closed, Heap, HeapShape, Pass, close, wait_of_word};
@@ -263,7 +263,7 @@ pub fn make<R: Wait>(
 /// Ends the thread. A finish asks that nothing is held; then the thread stops, since only passes of stopped threads close a heap.
 pub fn end(heap: &Heap, pass: &mut Pass) -> Result<(), Stop>
     requires { IsFree heap.now pass.old }
-    ensures ended { OnOk result (Rests heap.now pass.new × IsStopped pass.new.known) }
+    ensures ended { OnOk result (IsOver heap.now pass.new) }
     ensures logged { OnOk result (HasAdded (λ es. es ≡ entry.Done ∷ []) pass.old pass.new) }
     ensures refused { IfErr result (λ e. (pass.new ≡ pass.old) × IsNoEnd pass.old e) }
 {
@@ -295,7 +295,7 @@ pub fn begin_to_wait<R: Wait>(rt: &R, heap: &Heap, pass: &mut Pass) -> Result<()
 pub fn wait_on<R: Wait>(rt: &R, heap: &Heap, mut pass: Pass) -> Result<Pass, Stop>
     requires door { DOOR < heap.now.heap.shape.declared }
     requires waits { MayTry op.Wait DOOR heap.now pass }
-    ensures { IfOk result (λ p. Rests heap.now p × IsStopped p.known) }
+    ensures { IfOk result (IsOver heap.now) }
 {
     make(rt, heap, &mut pass, Act::Wait, DOOR)?;
     make(rt, heap, &mut pass, Act::Exit, DOOR)?;
@@ -307,7 +307,7 @@ pub fn wait_on<R: Wait>(rt: &R, heap: &Heap, mut pass: Pass) -> Result<Pass, Sto
 pub fn knock<R: Wait>(rt: &R, heap: &Heap, mut pass: Pass) -> Result<Pass, Stop>
     requires door { DOOR < heap.now.heap.shape.declared }
     requires new { IsNew heap.now FUEL 1 pass }
-    ensures { IfOk result (λ p. Rests heap.now p × IsStopped p.known) }
+    ensures { IfOk result (IsOver heap.now) }
 {
     set_running(rt, heap, &mut pass)?;
     make(rt, heap, &mut pass, Act::Enter, DOOR)?;
@@ -326,10 +326,11 @@ fn in_order(heap: &Heap, first: &Pass, second: &Pass) -> bool
     heap.shape().threads() == 2 && first.thread() == 0 && second.thread() == 1
 }
 
-/// Closes the heap. That asks for all of its passes, in the order of their threads, each stopped and without a request.
+/// Closes the heap. That asks for all of its passes, in the order of their threads, each stopped and without a request. No page of a log was
+/// handed out, so what is left are the whole logs.
 pub fn close_door(alloc: Global, heap: Heap, first: Pass, second: Pass) -> Result<Closed, Stop>
-    requires first { Rests heap first × IsStopped first.known }
-    requires second { Rests heap second × IsStopped second.known }
+    requires first { IsOver heap first }
+    requires second { IsOver heap second }
     ensures legal { IfOk result (λ c. LegalObjects c.heap.shape.objects c.logs) }
     ensures stamps { IfOk result (λ c. StampsAreExact c.logs) }
 {

@@ -1,5 +1,5 @@
 -- What the last state of the table says.
-use Rattle.std.proofs.Common.{◌≡◌, ℕ, zero, suc, ◌+◌, ◌<◌, List, [], ◌∷◌, ◌++◌, length, take, get_or, Some, sym, ap, ◌∙◌, subst, arith, append-nil}
+use Rattle.std.proofs.Common.{◌≡◌, ℕ, zero, suc, ◌+◌, ◌<◌, refl, drop, List, [], ◌∷◌, ◌++◌, length, take, get_or, Some, sym, ap, ◌∙◌, subst, arith, append-nil}
 use Rattle.std.specs.Prelude.{slice_index, slice_get}
 use Rattle.std.proofs.lemmas.List.{take_more, take_all}
 use mathlib.Core.Option.{some, some-injective, some-ne-none}
@@ -13,7 +13,9 @@ use Rattle.heap_table.specs.Ruled.{heap_in}
 use Rattle.heap_table.specs.inner.Ruled.{Each, Rules, Ruled}
 use Rattle.heap_table.specs.declared.setting.Setting.{Setting}
 use Rattle.std.specs.List.{All}
-use Rattle.heap_table.specs.Seen.{HeapSeen, PassSeen, IsOf, LastWorld}
+use Rattle.heap_table.specs.Seen.{HeapSeen, PassSeen, IsOf, LastWorld, given_of, page_of, pages_of, logs_of}
+use Rattle.heap_table.specs.Kept.{Follows}
+use Rattle.heap_table.specs.declared.mirror.Mirror.{Mirror}
 use Rattle.heap_table.specs.inner.Seen.{AllOf}
 
 at_place : (xs : List ℕ) (i x : ℕ) → get_elem? xs i ≡ some x → (i < length xs) × (get_or xs i 0 ≡ x)
@@ -55,9 +57,25 @@ pub all_yielded : {A : Type 0} (xs ys zs : List A) → xs ++ ys ≡ zs → lengt
 all_yielded xs [] zs e n = sym (append-nil xs) ∙ e
 all_yielded xs (y ∷ ys) zs e n = absurd (omega arith)
 
-pub all_of : (h : HeapSeen) (ps : List PassSeen) → All (IsOf h) ps → AllOf h ps
+pub all_of : (h : HeapSeen) (ps : List PassSeen) → All (IsOf h) ps → AllOf h.table ps
 all_of h [] f = tt
 all_of h (p ∷ ps) f = ((f 0 p (omega arith)).table, all_of h ps (λ k d lt. f (suc k) d (omega arith)))
+
+-- the page that a pass keeps is what its log has besides the pages that were handed out
+pub page_is : (m : Mirror) (p : PassSeen) → Follows m p.known → p.limit ≡ m.given + m.room → p.room ≡ m.room → page_of p ≡ m.log.items
+page_is m p f limit room =
+    let given : given_of p ≡ m.given = omega (arith, limit, room) in
+    ap (λ n. drop n p.known.log) given ∙ f.log.entries
+
+-- where no page was handed out, all entries are left
+pub all_left : (h : HeapSeen) (ps : List PassSeen) → All (IsOf h) ps → All (λ p. p.limit ≡ h.room) ps → pages_of ps ≡ logs_of ps
+all_left h [] of none = refl
+all_left h (p ∷ ps) of none =
+    let room = (of 0 p (omega arith)).room in
+    let limit = none 0 p (omega arith) in
+    let nothing : given_of p ≡ 0 = omega (arith, room, limit) in
+    let others = all_left h ps (λ k d lt. of (suc k) d (omega arith)) (λ k d lt. none (suc k) d (omega arith)) in
+    λ i. drop (nothing i) p.known.log ∷ others i
 
 -- what holds of both of two holds of each
 pub both : {X : Type 0} (P : X → Type 0) (p q : X) → P p → P q → All P (p ∷ q ∷ [])

@@ -31,8 +31,9 @@ use Rattle.lock_policy.specs.Draws.{state_after}
 use Rattle.heap_table.specs.Tallies.{counts_shown}
 use Rattle.heap_table.specs.declared.afters.Stand.{Stand}
 use Rattle.heap_table.specs.declared.mirror.Mirror.{Mirror}
-use Rattle.heap_table.specs.Kept.{Follows}
+use Rattle.heap_table.specs.Kept.{Follows, HasRoom, IsPageFrom}
 use Rattle.heap_table.specs.inner.Kept.{entry_after, with_any_entry, stand_after, made_after}
+use Rattle.std.proofs.lemmas.List.{drop-append-le}
 use Rattle.plain_history.specs.Known.{news, class_made}
 use Rattle.plain_monitor.specs.Made.{creates}
 
@@ -50,12 +51,37 @@ pub last_end : (n : ℕ) (log : List Logged) (l : Logged) → last_above n (log 
 last_end n [] l = refl
 last_end n (x ∷ log) l = last_end x.stamp log l
 
-pub noted : (note : Note) (found last stamp : ℕ) (log next : List Logged) (e : Entry) → entry_after note found ≡ Some e → stamp ≡ stamp_by e found last → next ≡ log ++ record { stamp = stamp; entry = e } ∷ []
-    → last_stamp log ≡ last → (next ≡ log_after note found log) × (last_stamp next ≡ stamp)
-noted note found last stamp log next e is by more same =
+-- an entry behind the page stands behind the log
+page_grows : (given : ℕ) (log page : List Logged) (l : Logged) → IsPageFrom given log page → IsPageFrom given (log ++ l ∷ []) (page ++ l ∷ [])
+page_grows given log page l p =
+    let whole = p.whole in let longer = length-append log (l ∷ []) in let more = length-append page (l ∷ []) in record {
+      entries = drop-append-le given log (l ∷ []) (omega (arith, whole)) ∙ ap (λ (x : List Logged). x ++ l ∷ []) p.entries;
+      whole = omega (arith, whole, longer, more);
+    }
+
+pub noted : (note : Note) (found last stamp : ℕ) (page next : List Logged) (e : Entry) → entry_after note found ≡ Some e → stamp ≡ stamp_by e found last
+    → next ≡ page ++ record { stamp = stamp; entry = e } ∷ [] → (given : ℕ) (log : List Logged) → IsPageFrom given log page → last_stamp log ≡ last
+    → IsPageFrom given (log_after note found log) next × (last_stamp (log_after note found log) ≡ stamp)
+noted note found last stamp page next e is by more given log p same =
+    let l : Logged = record { stamp = stamp; entry = e } in
     let s : stamp ≡ stamp_by e found (last_stamp log) = by ∙ ap (stamp_by e found) (sym same) in
-    let a : next ≡ with_entry e found log = more ∙ ap (λ (x : ℕ). log ++ record { stamp = x; entry = e } ∷ []) s in
-    (a ∙ ap (λ (x : Option Entry). with_any_entry x found log) (sym is) ∙ sym (log_is note found log), ap last_stamp more ∙ last_end 0 log (record { stamp = stamp; entry = e }))
+    let b : log ++ l ∷ [] ≡ log_after note found log =
+    ap (λ (x : ℕ). log ++ record { stamp = x; entry = e } ∷ []) s ∙ ap (λ (x : Option Entry). with_any_entry x found log) (sym is) ∙ sym (log_is note found log) in
+    let grown : IsPageFrom given (log ++ l ∷ []) next = subst (IsPageFrom given (log ++ l ∷ [])) (sym more) (page_grows given log page l p) in
+    (subst (λ (x : List Logged). IsPageFrom given x next) b grown, ap last_stamp (sym b) ∙ last_end 0 log l)
+
+pub unnoted : (note : Note) (found last : ℕ) (page : List Logged) → entry_after note found ≡ None → (given : ℕ) (log : List Logged) → IsPageFrom given log page
+    → last_stamp log ≡ last → IsPageFrom given (log_after note found log) page × (last_stamp (log_after note found log) ≡ last)
+unnoted note found last page is given log p same =
+    let b : log ≡ log_after note found log = ap (λ (x : Option Entry). with_any_entry x found log) (sym is) ∙ sym (log_is note found log) in
+    (subst (λ (x : List Logged). IsPageFrom given x page) b p, ap last_stamp (sym b) ∙ same)
+
+-- what has room in the log has room in the page
+pub room_in_page : (note : Note) (given room : ℕ) (log page : List Logged) → IsPageFrom given log page → HasRoom note log (given + room) → HasRoom note page room
+room_in_page Quiet given room log page p h = tt
+room_in_page (Log e) given room log page p h = let whole = p.whole in omega (arith, whole, h)
+room_in_page (LogGet o slot) given room log page p h = let whole = p.whole in omega (arith, whole, h)
+room_in_page (LogHash o) given room log page p h = let whole = p.whole in omega (arith, whole, h)
 
 abbrev stand_of : Known → Stand
 stand_of k = record { running = k.running; requesting = k.requesting; reached = k.reached; halted = k.halted }
@@ -137,8 +163,11 @@ few_news (x ∷ log) =
     at_most_one (entry.New o class) = omega arith
     at_most_one e = omega arith
 
-pub few_made : (m : Mirror) (k : Known) → Follows m k → m.made ≤ length m.log.items
-few_made m k f = let few = few_news k.log in let made = f.made in let log = ap length f.log in omega (arith, few, made, log)
+pub few_made : (m : Mirror) (k : Known) → Follows m k → m.made ≤ m.given + length m.log.items
+few_made m k f = let few = few_news k.log in let made = f.made in let whole = f.log.whole in omega (arith, few, made, whole)
+
+pub few_installed : (m : Mirror) (k : Known) → Follows m k → m.drawing.installed ≤ m.given + length m.log.items
+few_installed m k f = let few = f.few in let draws = f.draws in let whole = f.log.whole in omega (arith, few, draws, whole)
 
 news_follow : (note : Note) (found : ℕ) (log : List Logged) → length (news (log_after note found log)) ≡ made_after note (length (news log))
 news_follow Quiet found log = refl
@@ -166,7 +195,8 @@ shots_follow (own.CountVerdict class verdict reset) s k taken cut cells e d = e
 
 pub follow_hit : (s : Shape) (start : ℕ) (p : StepPlan) (n : ℕ) (k : Known) (m l : Mirror) → hits p.act n ≡ true → Follows m k
     → l.thread ≡ m.thread
-    → (last_stamp m.log.items ≡ m.last → (l.log.items ≡ log_after p.note n m.log.items) × (last_stamp l.log.items ≡ l.last))
+    → ((given : ℕ) (all : List Logged) → IsPageFrom given all m.log.items → last_stamp all ≡ m.last
+    → IsPageFrom given (log_after p.note n all) l.log.items × (last_stamp (log_after p.note n all) ≡ l.last))
     → l.stand ≡ stand_after p.at p.act (word_after p.act n) m.thread m.stand
     → l.kept ≡ kept_after p.own n m.kept
     → l.saved ≡ saved_after p.own n m.saved
@@ -175,7 +205,7 @@ pub follow_hit : (s : Shape) (start : ℕ) (p : StepPlan) (n : ℕ) (k : Known) 
     → ((k : Known) → k.published ≡ m.published → l.published ≡ published_after p.at p.act k)
     → l.unfinished ≡ unfinished_after p.note n p.after
     → l.checking ≡ p.check
-    → (l.limit ≡ m.limit) × (l.classes ≡ m.classes) × (l.first ≡ m.first)
+    → (l.room ≡ m.room) × (l.given ≡ m.given) × (l.classes ≡ m.classes) × (l.first ≡ m.first)
     → ((n : ℕ) (k : List CountedVerdict) → m.counts.items ≡ counts_shown 0 n k → l.counts.items ≡ counts_shown 0 n (counts_after p.own k))
     → l.drawing.installed ≡ draws_after p.note m.drawing.installed
     → ((first : ℕ) → m.drawing.generator ≡ state_after first (m.drawing.installed + 1) → l.drawing.generator ≡ state_after first (l.drawing.installed + 1))
@@ -184,13 +214,12 @@ pub follow_hit : (s : Shape) (start : ℕ) (p : StepPlan) (n : ℕ) (k : Known) 
     → IsDrafted p.own s k m.shots.draft.cut.items (cells_shown m.shots.draft.cells.items)
     → Follows l (known_after s start p n k)
 follow_hit s start p n k m l hit f thread log stand kept saved holds wait published unfinished checking fixed counts draws generator made shots drafted =
-    let g = log (sym (ap last_stamp f.log) ∙ f.last) in
+    let g = log m.given k.log f.log f.last in
     let st : stand_known p.at p.act (word_after p.act n) k ≡ l.stand = known_stand p.at p.act (word_after p.act n) k m.stand f.running f.requesting f.reached f.halted ∙ ap (λ (t : ℕ). stand_after p.at p.act (word_after p.act n) t m.stand) f.thread ∙ sym stand in
-    let logs : log_after p.note n k.log ≡ l.log.items = ap (log_after p.note n) f.log ∙ sym g.0 in
     let here : Follows l (known_hit s start p n k) = record {
       thread = f.thread ∙ sym thread;
-      log = logs;
-      last = ap last_stamp logs ∙ g.1;
+      log = subst (λ (given : ℕ). IsPageFrom given (log_after p.note n k.log) l.log.items) (sym fixed.1) g.0;
+      last = g.1;
       running = ap (λ (x : Stand). x.running) st;
       requesting = ap (λ (x : Stand). x.requesting) st;
       reached = ap (λ (x : Stand). x.reached) st;
@@ -202,11 +231,11 @@ follow_hit s start p n k m l hit f thread log stand kept saved holds wait publis
       published = sym (published k f.published);
       unfinished = sym unfinished;
       checking = sym checking;
-      counts = counts m.classes k.counts f.counts ∙ ap (λ c. counts_shown 0 c (counts_after p.own k.counts)) (sym fixed.1);
+      counts = counts m.classes k.counts f.counts ∙ ap (λ c. counts_shown 0 c (counts_after p.own k.counts)) (sym fixed.2);
       shots = shots_follow p.own s k m.shots.taken.items _ _ f.shots drafted ∙ sym shots;
       draws = ap (draws_after p.note) f.draws ∙ sym draws;
       made = news_follow p.note n k.log ∙ ap (made_after p.note) f.made ∙ sym made;
       few = few_draws p.note n k.log k.draws f.few;
-      generator = generator m.first (f.generator ∙ ap (λ n. state_after m.first (n + 1)) f.draws) ∙ (λ i. state_after (sym fixed.2 i) ((draws ∙ ap (draws_after p.note) (sym f.draws)) i + 1));
+      generator = generator m.first (f.generator ∙ ap (λ n. state_after m.first (n + 1)) f.draws) ∙ (λ i. state_after (sym fixed.3 i) ((draws ∙ ap (draws_after p.note) (sym f.draws)) i + 1));
     } in
     subst (λ (b : Bool). Follows l (cond b (known_hit s start p n k) (known_miss s start p n k))) (sym hit) here

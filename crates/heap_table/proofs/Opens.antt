@@ -360,6 +360,7 @@ pub fresh : (h : HeapSeen) (limit t : ℕ) → HeapLaw h.heap → t < h.heap.sha
 fresh h limit t law within = record {
   is_of = record {
     table = refl;
+    room = refl;
     within = within;
     classes = refl;
     first = refl;

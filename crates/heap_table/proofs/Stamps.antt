@@ -1,5 +1,5 @@
 -- A stamp is at most the number of all entries, so it fits its word.
-use Rattle.std.proofs.Common.{◌≡◌, inl, inr, ℕ, zero, suc, ◌+◌, ◌*◌, ◌≤◌, ◌==◌, Bool, true, false, cond, List, length, refl, sym, ap, ◌∙◌, subst, arith}
+use Rattle.std.proofs.Common.{◌≡◌, inl, inr, ℕ, zero, suc, ◌+◌, ◌*◌, ◌^◌, ◌≤◌, ◌==◌, Bool, true, false, cond, List, length, refl, sym, ap, ◌∙◌, subst, arith}
 use borrow.Author.Tests.{eqb-true, eqb-false}
 use Rattle.plain_monitor.specs.declared.entry.Logged.{Logged}
 use Rattle.plain_monitor.specs.History.{last_stamp}
@@ -18,6 +18,7 @@ use Rattle.heap_table.specs.inner.Kept.{StampFits}
 use Rattle.core_world.proofs.LookWhileRevoking.{forgotten}
 use Rattle.core_law.specs.WholeLaw.{LawsHold}
 use Rattle.core_law.specs.Logic.{Heap}
+use Rattle.core_law.specs.Sound.{Sound}
 use Rattle.heap_table.specs.Ruled.{Stepped}
 use Rattle.heap_table.specs.Seen.{HeapSeen, PassSeen, IsOf}
 use Rattle.heap_table.proofs.Follow.{last_end}
@@ -27,32 +28,41 @@ entries_few : (u n : ℕ) (f : ℕ → Known) → ((z : ℕ) → length (f z).lo
 entries_few u zero f few = omega arith
 entries_few u (suc n) f few = let h = entries_few (u + 1) n f few in let g = few u in omega (arith, h, g)
 
-fits_few : (w : World) (objects : List PlainObject) → Fits w objects → (t : ℕ) → last_stamp (w.known t).log ≤ 6401056
+fits_few : (w : World) (objects : List PlainObject) → Fits w objects → (t : ℕ) → last_stamp (w.known t).log ≤ 2 ^ 45
 fits_few w objects f t = let a = f.stamps.logged t in let b = entries_few 0 w.shape.threads w.known f.lengths.few in let c = f.limits.threads in omega (arith, a, b, c)
 
-few : (w : World) (objects : List PlainObject) → IsValid w objects → (t : ℕ) → last_stamp (w.known t).log ≤ 6401056
-few w objects (inl f) t = fits_few w objects f t
-few w objects (inr s) t = cases (t == s.requester) refl
-  where
-    cases : (b : Bool) → (t == s.requester) ≡ b → last_stamp (w.known t).log ≤ 6401056
-    cases true e =
-        let is : t ≡ s.requester = eqb-true t s.requester e in
-        let logs : (w.known t).log ≡ (s.before.known t).log = ap (λ (u : ℕ). (w.known u).log) is ∙ ap (λ (k : Known). k.log) s.knows ∙ ap (λ (u : ℕ). (s.before.known u).log) (sym is) in
-        let h = fits_few s.before objects s.fits t in
-        subst (λ (l : List Logged). last_stamp l ≤ 6401056) (sym logs) h
-    cases false e =
-        let h = fits_few s.before objects s.fits t in
-        subst (λ (k : Known). last_stamp k.log ≤ 6401056) (sym (s.others t (eqb-false t s.requester e))) h
+-- what holds of each log of a world that fits holds of each log of a valid one
+module _ (P : List Logged → Type 0) (fits : (w : World) (objects : List PlainObject) → Fits w objects → (t : ℕ) → P (w.known t).log) where
+  in_valid : (w : World) (objects : List PlainObject) → IsValid w objects → (t : ℕ) → P (w.known t).log
+  in_valid w objects (inl f) t = fits w objects f t
+  in_valid w objects (inr s) t = cases (t == s.requester) refl
+    where
+      cases : (b : Bool) → (t == s.requester) ≡ b → P (w.known t).log
+      cases true e =
+          let is : t ≡ s.requester = eqb-true t s.requester e in
+          let logs : (w.known t).log ≡ (s.before.known t).log =
+          ap (λ (u : ℕ). (w.known u).log) is ∙ ap (λ (k : Known). k.log) s.knows ∙ ap (λ (u : ℕ). (s.before.known u).log) (sym is) in
+          subst P (sym logs) (fits s.before objects s.fits t)
+      cases false e = subst (λ (k : Known). P k.log) (sym (s.others t (eqb-false t s.requester e))) (fits s.before objects s.fits t)
+
+  in_sound : (w : World) → Sound w → (t : ℕ) → P (w.known t).log
+  in_sound w sound t = in_valid w sound.valid.objects (forgotten LawsHold w sound.valid.objects sound.valid.is) t
+
+  in_pass : (h : HeapSeen) (p : PassSeen) → IsOf h p → P p.known.log
+  in_pass h p is_of = subst (λ (k : Known). P k.log) is_of.real.knew (in_sound is_of.real.world is_of.real.sound p.known.thread)
+
+few : (w : World) → Sound w → (t : ℕ) → last_stamp (w.known t).log ≤ 2 ^ 45
+few w sound t = in_sound (λ l. last_stamp l ≤ 2 ^ 45) fits_few w sound t
 
 log_hit : (w : World) (p : StepPlan) (n : ℕ) (k : Known) → hits p.act n ≡ true → (known_after w.shape w.start p n k).log ≡ log_after p.note n k.log
 log_hit w p n k hit = ap (λ (b : Bool). (cond b (known_hit w.shape w.start p n k) (known_miss w.shape w.start p n k)).log) hit
 
-by_note : (note : Note) (log : List Logged) (n last : ℕ) → last_stamp log ≤ 6401056 → last_stamp (log_after note n log) ≤ 6401056 → last_stamp log ≡ last → StampFits note n last
+by_note : (note : Note) (log : List Logged) (n last : ℕ) → last_stamp log ≤ 2 ^ 45 → last_stamp (log_after note n log) ≤ 2 ^ 45 → last_stamp log ≡ last → StampFits note n last
 by_note Quiet log n last a b e = omega (arith, a, e)
 by_note (Log entry) log n last a b e =
     let end = last_end 0 log (record { stamp = stamp_by entry n (last_stamp log); entry = entry }) in
-    let c : stamp_by entry n (last_stamp log) ≤ 6401056 = subst (λ (x : ℕ). x ≤ 6401056) end b in
-    let d : stamp_by entry n last ≤ 6401056 = subst (λ (x : ℕ). stamp_by entry n x ≤ 6401056) e c in omega (arith, d)
+    let c : stamp_by entry n (last_stamp log) ≤ 2 ^ 45 = subst (λ (x : ℕ). x ≤ 2 ^ 45) end b in
+    let d : stamp_by entry n last ≤ 2 ^ 45 = subst (λ (x : ℕ). stamp_by entry n x ≤ 2 ^ 45) e c in omega (arith, d)
 by_note (LogGet o slot) log n last a b e = omega (arith, a, e)
 by_note (LogHash o) log n last a b e = omega (arith, a, e)
 
@@ -60,18 +70,17 @@ pub stamp_fits : (b : Heap) (k : Known) (p : StepPlan) (n last : ℕ) → Steppe
 stamp_fits b k p n last was same hit =
     let w : World = was.world in
     let t : ℕ = k.thread in
-    let old = few w was.sound.valid.objects (forgotten LawsHold w was.sound.valid.objects was.sound.valid.is) t in
-    let after = was.sound_after.valid in
-    let new = few (world_after p t w) after.objects (forgotten LawsHold (world_after p t w) after.objects after.is) t in
+    let old = few w was.sound t in
+    let new = few (world_after p t w) was.sound_after t in
     let here : (world_after p t w).known t ≡ known_after w.shape w.start p (w.words p.at) (w.known t) = told_here t (known_after w.shape w.start p (w.words p.at) (w.known t)) w.known in
     let now : (world_after p t w).known t ≡ known_after w.shape w.start p n k = here ∙ λ i. known_after w.shape w.start p (was.was_there i) (was.knew i) in
     let log : ((world_after p t w).known t).log ≡ log_after p.note n k.log = ap (λ (x : Known). x.log) now ∙ log_hit w p n k hit in
-    by_note p.note k.log n last (subst (λ (x : Known). last_stamp x.log ≤ 6401056) was.knew old) (subst (λ (l : List Logged). last_stamp l ≤ 6401056) log new) same
+    by_note p.note k.log n last (subst (λ (x : Known). last_stamp x.log ≤ 2 ^ 45) was.knew old) (subst (λ (l : List Logged). last_stamp l ≤ 2 ^ 45) log new) same
 
 -- no stamp of a pass's log is higher
-pub low : (h : HeapSeen) (p : PassSeen) → IsOf h p → last_stamp p.known.log ≤ 6401056
-low h p is_of =
-    let w : World = is_of.real.world in
-    let sound = is_of.real.sound in
-    subst (λ (k : Known). last_stamp k.log ≤ 6401056) is_of.real.knew
-    (few w sound.valid.objects (forgotten LawsHold w sound.valid.objects sound.valid.is) p.known.thread)
+pub low : (h : HeapSeen) (p : PassSeen) → IsOf h p → last_stamp p.known.log ≤ 2 ^ 45
+low h p is_of = in_pass (λ l. last_stamp l ≤ 2 ^ 45) fits_few h p is_of
+
+-- and it has no more entries
+pub short : (h : HeapSeen) (p : PassSeen) → IsOf h p → length p.known.log ≤ log_limit
+short h p is_of = in_pass (λ l. length l ≤ log_limit) (λ w objects f t. f.lengths.few t) h p is_of

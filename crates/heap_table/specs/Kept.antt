@@ -1,5 +1,5 @@
 -- What a pass keeps agrees with what its thread knows.
-use Rattle.std.specs.Prelude.{◌≡◌, ℕ, ◌+◌, ◌<◌, ◌≤◌, ◌==◌, not, List, length}
+use Rattle.std.specs.Prelude.{◌≡◌, ℕ, ◌+◌, ◌<◌, ◌≤◌, ◌==◌, not, List, length, drop}
 use Rattle.plain_monitor.specs.declared.entry.Logged.{Logged}
 use Rattle.plain_monitor.specs.History.{last_stamp}
 use Rattle.plain_history.specs.Known.{news}
@@ -15,9 +15,14 @@ use Rattle.heap_table.specs.declared.mirror.Mirror.{Mirror}
 abbrev pub all_holds : List ℕ → ℕ
 all_holds hs = count_where (λ p h. not (h == 0)) 0 hs
 
+-- the page has the log's entries from this number on
+pub record IsPageFrom (given : ℕ) (log page : List Logged) : Type 0 where
+  pub entries : drop given log ≡ page
+  pub whole : given + length page ≡ length log
+
 pub record Follows (m : Mirror) (k : Known) : Type 0 where
   pub thread : k.thread ≡ m.thread
-  pub log : k.log ≡ m.log.items
+  pub log : IsPageFrom m.given k.log m.log.items
   pub last : last_stamp k.log ≡ m.last
   pub running : k.running ≡ m.stand.running
   pub requesting : k.requesting ≡ m.stand.requesting

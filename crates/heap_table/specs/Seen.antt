@@ -1,5 +1,5 @@
 -- A heap, a pass and what is left at the end, as contracts see them.
-use Rattle.std.specs.Prelude.{◌≡◌, ℕ, zero, suc, ◌+◌, ◌%◌, ◌^◌, ◌<◌, List, [], ◌∷◌, length, map, slice_index, Option, Some, slice_get}
+use Rattle.std.specs.Prelude.{◌≡◌, ℕ, zero, suc, ◌+◌, ◌-◌, ◌%◌, ◌^◌, ◌<◌, List, [], ◌∷◌, length, map, slice_index, Option, Some, slice_get, drop}
 use Rattle.atomic_table.specs.Seated.{TableId}
 use Rattle.plain_monitor.specs.declared.entry.Logged.{Logged}
 use Rattle.core_world.specs.declared.name.Name.{Name}
@@ -18,12 +18,16 @@ use Rattle.heap_table.specs.Tallies.{counts_shown}
 pub record HeapSeen : Type 0 where
   pub table : TableId
   pub heap : Heap
+  -- how many entries a page of a log may have
+  pub room : ℕ
 
 pub record PassSeen : Type 0 where
   pub table : TableId
   pub known : Known
-  -- how many entries its log may have
+  -- how many entries its log may have before it hands out its next page
   pub limit : ℕ
+  -- how many a page of it may have
+  pub room : ℕ
   -- how many classes the heap has
   pub classes : ℕ
   -- the first word of its generator
@@ -38,6 +42,7 @@ pub record PassSeen : Type 0 where
 -- the pass steps on this heap
 pub record IsOf (h : HeapSeen) (p : PassSeen) : Type 0 where
   pub table : p.table ≡ h.table
+  pub room : p.room ≡ h.room
   pub within : p.known.thread < h.heap.shape.threads
   pub classes : p.classes ≡ h.heap.shape.classes
   pub first : p.first ≡ (h.heap.start + p.known.thread) % 2 ^ 32
@@ -53,6 +58,7 @@ first_pass h limit t =
       table = h.table;
       known = first_known t;
       limit = limit;
+      room = h.room;
       classes = h.heap.shape.classes;
       first = (h.heap.start + t) % 2 ^ 32;
       threads = h.heap.shape.threads;
@@ -71,6 +77,17 @@ knowns ps = map (λ (p : PassSeen). p.known) ps
 
 abbrev pub logs_of : List PassSeen → List (List Logged)
 logs_of ps = map (λ (p : PassSeen). p.known.log) ps
+
+-- how many entries of its log it has handed out
+abbrev pub given_of : PassSeen → ℕ
+given_of p = p.limit - p.room
+
+-- the entries of its log that it has not handed out
+abbrev pub page_of : PassSeen → List Logged
+page_of p = drop (given_of p) p.known.log
+
+abbrev pub pages_of : List PassSeen → List (List Logged)
+pages_of ps = map page_of ps
 
 abbrev pub shots_of : List PassSeen → List (List DumpShot)
 shots_of ps = map (λ (p : PassSeen). p.known.shots) ps
@@ -96,6 +113,7 @@ pub record LastWorld (heap : Heap) (words : List ℕ) (ks : List Known) : Type 0
 pub record ClosedSeen : Type 0 where
   pub heap : Heap
   pub words : List ℕ
+  -- of each thread the entries that it has not handed out
   pub logs : List (List Logged)
   pub shots : List (List DumpShot)
   pub counts : List (List ClassCounts)

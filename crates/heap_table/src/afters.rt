@@ -1,12 +1,13 @@
 //! What a step makes of the parts of its thread's knowledge that a pass keeps.
-ghost use Rattle.std.specs.Prelude.{◌≡◌, ◌<◌, ◌≤◌, ℕ, vec_capacity, vec_len};
+ghost use Rattle.std.specs.Prelude.{◌≡◌, ◌<◌, ◌≤◌, ℕ, List, vec_capacity, vec_len};
+ghost use Rattle.plain_monitor.specs.declared.entry.Logged.{Logged as LoggedSeen};
 ghost use Rattle.mark_word.specs.Safe.{read_safe};
 ghost use Rattle.core_world.specs.Threads.Known.{Known};
 ghost use Rattle.core_world.specs.Steps.{kept_after, saved_after, unfinished_after, runs_after, asks_after, reached_after, halted_after, is_taking, stamp_by, holds_after, wait_after, published_after, log_after};
 ghost use Rattle.plain_monitor.specs.Limits.{most_threads};
 ghost use Rattle.plain_monitor.specs.Monitor.{is_thread};
 ghost use Rattle.plain_monitor.specs.History.{last_stamp};
-ghost use Rattle.heap_table.specs.Kept.{HasRoom};
+ghost use Rattle.heap_table.specs.Kept.{HasRoom, IsPageFrom};
 ghost use Rattle.heap_table.specs.inner.Kept.{StampFits, entry_after, looked, left, stand_after};
 ghost use Rattle.heap_table.specs.inner.Layout.{IsPlaced};
 
@@ -234,13 +235,14 @@ pub fn store_hold(holds: &mut Holds, at: Name, act: &Act)
     }
 }
 
-/// The log and its last stamp.
+/// The page of the log, and the log's last stamp.
 #[inline(always)]
 pub fn note_entry(log: &mut Vec<Logged>, last: &mut u64, note: &Note, found: u64)
     requires room { HasRoom note.now log.old.items (vec_capacity log.old) }
     requires stamp { StampFits note.now found last.old }
-    ensures log { last_stamp log.old.items ≡ last.old → (log.new.items ≡ log_after note.now found log.old.items)
-        × (last_stamp log.new.items ≡ last.new) }
+    ensures log { (given : ℕ) (all : List LoggedSeen) → IsPageFrom given all log.old.items → last_stamp all ≡ last.old
+        → IsPageFrom given (log_after note.now found all) log.new.items
+        × (last_stamp (log_after note.now found all) ≡ last.new) }
     ensures room { vec_capacity log.new ≡ vec_capacity log.old }
     ensures within { (limit : ℕ) → HasRoom note.now log.old.items limit → vec_len log.old ≤ limit
         → vec_len log.new ≤ limit }

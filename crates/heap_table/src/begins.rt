@@ -29,7 +29,7 @@ fn next_pass(
     setting: &Setting,
     seat: &mut Place,
     thread: u32,
-    limit: u32,
+    room: u32,
 ) -> Result<Pass, AllocError>
     requires setting { IsInLimits setting.now.shape × (words.now.shared.key ≡ setting.now)
         × (words.now.shared.table_id.words ≡ word_count setting.now.shape) }
@@ -41,11 +41,12 @@ fn next_pass(
     ensures pass { IfOk result (λ p. p ≡ first_pass (record {
       table = words.now.shared.table_id;
       heap = heap_in setting.now;
-    }) limit thread) }
+      room = room;
+    }) room thread) }
 {
     let first = setting.start.wrapping_add(thread);
     let shots = Shots::new(alloc, setting.shape.threads(), setting.shape.objects())?;
-    let mirror = Mirror::new(alloc, thread, limit, setting.shape.classes(), first, shots)?;
+    let mirror = Mirror::new(alloc, thread, room, setting.shape.classes(), first, shots)?;
     let own = words.shared.split_seat::<First>(seat);
     Ok(Pass { seat: own, mirror })
 }
@@ -64,13 +65,14 @@ fn spare(alloc: Global, words: usize, threads: usize) -> Result<Spare, AllocErro
     })
 }
 
-// A heap, and a stopped pass for each thread, with room for so many entries.
-fn begin(alloc: Global, setting: Setting, limit: u32) -> Result<(Heap, Vec<Pass>), AllocError>
+// A heap, and a stopped pass for each thread, with room for so many entries in a page of its log.
+fn begin(alloc: Global, setting: Setting, room: u32) -> Result<(Heap, Vec<Pass>), AllocError>
     requires law { IsInLimits setting.shape → HeapLaw (heap_in setting) }
     ensures heap { IfOk result (λ r. r.0.heap ≡ heap_in setting) }
-    ensures passes { IfOk result (λ r. r.1.items ≡ first_passes r.0 limit 0 setting.shape.threads) }
+    ensures room { IfOk result (λ r. r.0.room ≡ room) }
+    ensures passes { IfOk result (λ r. r.1.items ≡ first_passes r.0 room 0 setting.shape.threads) }
     ensures law { IfOk result (λ r. HeapLaw r.0.heap) }
-    ensures fresh { IfOk result (λ r. (t : ℕ) → t < setting.shape.threads → IsFresh r.0 t (first_pass r.0 limit t)) }
+    ensures fresh { IfOk result (λ r. (t : ℕ) → t < setting.shape.threads → IsFresh r.0 t (first_pass r.0 room t)) }
 {
     let start = opening_words(alloc, &setting)?;
     let threads = setting.shape.threads();
@@ -78,12 +80,13 @@ fn begin(alloc: Global, setting: Setting, limit: u32) -> Result<(Heap, Vec<Pass>
     let mut passes = Vec::with_capacity(alloc, threads as usize)?;
     let (words, mut seat): (Words, Place) = Words::of_words(alloc, start.as_slice(), &setting)?;
     for thread in 0..threads {
-        let pass = next_pass(alloc, &words, &setting, &mut seat, thread, limit)?;
+        let pass = next_pass(alloc, &words, &setting, &mut seat, thread, room)?;
         passes.push_reserved(pass);
     }
     let heap = Heap {
         words,
         setting,
+        room,
         spare,
     };
     Ok((heap, passes))
@@ -91,8 +94,8 @@ fn begin(alloc: Global, setting: Setting, limit: u32) -> Result<(Heap, Vec<Pass>
 
 impl Heap {
     /// A heap of this shape, with biases or without, whose hash generators start from `start`, and a pass for each
-    /// thread, in order: stopped, with nothing logged, held, requested, counted or unfinished, and with room for the
-    /// entries that so much fuel may log. Its words are made as those of the opening world; the contract
+    /// thread, in order: stopped, with nothing logged, held, requested, counted or unfinished, and with room in a page of
+    /// its log for the entries that so much fuel may log. Its words are made as those of the opening world; the contract
     /// says that the passes know what its threads know there. The caller hands in the heap's law, under the premise that
     /// its shape is in the limits, as every `HeapShape` is. The law is handed on, and each pass is one of this heap that
     /// has made no step. Nothing takes memory later. The fuel is at most
@@ -107,6 +110,7 @@ impl Heap {
         requires fuel { fuel ≤ most_fuel }
         requires law { IsInLimits shape → HeapLaw (record { shape = shape; start = start; biasing = biasing }) }
         ensures heap { IfOk result (λ r. r.0.heap ≡ record { shape = shape; start = start; biasing = biasing }) }
+        ensures room { IfOk result (λ r. r.0.room ≡ entries_for fuel) }
         ensures passes { IfOk result (λ r. r.1 ≡ first_passes r.0 (entries_for fuel) 0 shape.threads) }
         ensures law { IfOk result (λ r. HeapLaw r.0.heap) }
         ensures fresh { IfOk result (λ r. (t : ℕ) → t < shape.threads

@@ -7,7 +7,7 @@ ghost use Rattle.core_world.specs.Clauses.Safepoints.{IsUnfinished};
 ghost use Rattle.core_world.specs.Words.Forms.{is_halted, runs_in, asks_in};
 ghost use Rattle.core_law.specs.HeapLaw.{HeapLaw};
 ghost use Rattle.heap_table.specs.BiasesAtEnd.{BiasesAtEnd};
-ghost use Rattle.heap_table.specs.Seen.{knowns, logs_of, shots_of, counts_of_all, LastWorld, InOrder, IsOf, ClosedSeen};
+ghost use Rattle.heap_table.specs.Seen.{knowns, logs_of, pages_of, shots_of, counts_of_all, LastWorld, InOrder, IsOf, ClosedSeen};
 
 use crate::choice::{Both, Nobody};
 use crate::counts::ClassCounts;
@@ -47,7 +47,7 @@ impl Model for Closed {
 }
 
 impl Closed {
-    /// The log of each thread, in the order of their threads.
+    /// The entries of each thread's log that it has not handed out, in the order of their threads.
     pub fn logs(&self) -> &List<List<Logged>>
         ensures { result.now ≡ self.now.logs }
     {
@@ -97,7 +97,8 @@ impl Closed {
 /// The end of a heap: its words and what its passes logged and counted. The passes are all passes of this heap, in the
 /// order of their threads. None runs, and none has a request that stands, which isn't asked where one of them knows the
 /// halt. The heap has its law still. The words are those of a sound world in which each thread knows what its pass knows, and by its safepoint word
-/// no thread runs or asks. The logs are legal, and their stamps exact. Where no thread has a Hash unfinished, the law of
+/// no thread runs or asks. What is left of the logs are the entries that no page had, which are all where no page was handed
+/// out. The whole logs, pages and rest together, are legal, and their stamps exact. Where no thread has a Hash unfinished, the law of
 /// biases holds of the logs, of what the passes counted, and of the classes' words: each thread has counted at most one
 /// verdict more than it has entries, and none more where nothing is unfinished. It takes no memory.
 pub fn close(heap: Heap, passes: List<Pass>) -> Closed
@@ -108,21 +109,23 @@ pub fn close(heap: Heap, passes: List<Pass>) -> Closed
     ensures heap { result.heap ≡ heap.heap }
     ensures law { HeapLaw heap.heap }
     ensures world { LastWorld heap.heap result.words (knowns passes) }
-    ensures logs { result.logs ≡ logs_of passes }
+    ensures logs { result.logs ≡ pages_of passes }
+    ensures whole { All (λ p. p.limit ≡ heap.room) passes → result.logs ≡ logs_of passes }
     ensures shots { result.shots ≡ shots_of passes }
     ensures counts { result.counts ≡ counts_of_all passes }
-    ensures legal { LegalObjects heap.heap.shape.objects result.logs }
-    ensures stamps { StampsAreExact result.logs }
+    ensures legal { LegalObjects heap.heap.shape.objects (logs_of passes) }
+    ensures stamps { StampsAreExact (logs_of passes) }
     ensures biases { All (λ p. p.known.unfinished ≡ None) passes
-        → BiasesAtEnd 0 heap.heap result.words result.logs (knowns passes) }
+        → BiasesAtEnd 0 heap.heap result.words (logs_of passes) (knowns passes) }
     ensures biases_stuck { All (λ p. (o : ℕ) → IsUnfinished p.known.unfinished op.Hash o → ⊥) passes
-        → BiasesAtEnd 1 heap.heap result.words result.logs (knowns passes) }
+        → BiasesAtEnd 1 heap.heap result.words (logs_of passes) (knowns passes) }
     ensures still { (t : ℕ) → t < heap.heap.shape.threads → (runs_in (slice_index result.words 0) t ≡ false)
         × (asks_in (slice_index result.words 0) t ≡ false) }
 {
     let Heap {
         words,
         setting,
+        room: _,
         spare,
     } = heap;
     let Spare {

@@ -21,6 +21,7 @@ use std::marker::Model;
 pub struct Heap {
     pub(crate) words: Words,
     pub(crate) setting: Setting,
+    pub(crate) room: u32,
     pub(crate) spare: Spare,
 }
 
@@ -40,7 +41,7 @@ pub(crate) struct Spare {
 impl Model for Heap {
     ghost Value = { HeapSeen };
 
-    ghost view = { λ h. record { table = h.words.shared.table_id; heap = heap_in h.setting } };
+    ghost view = { λ h. record { table = h.words.shared.table_id; heap = heap_in h.setting; room = h.room } };
 
     ghost invariant = { λ h. (h.words.shared.key ≡ h.setting)
         × (h.words.shared.table_id.words ≡ word_count h.setting.shape) × (h.words.shared.table_id.slots ≡ 0)
@@ -60,6 +61,13 @@ impl Heap {
         ensures { result ≡ self.now.heap.start }
     {
         self.setting.start
+    }
+
+    /// How many entries a page of a log may have.
+    pub fn room(&self) -> u32
+        ensures { result ≡ self.now.room }
+    {
+        self.room
     }
 
     /// Whether the heap has biases.

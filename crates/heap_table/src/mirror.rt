@@ -23,12 +23,15 @@ use std::alloc::{AllocError, Global};
 #[derive(Drop)]
 pub struct Mirror {
     pub thread: u32,
-    /// How many entries the log may have.
-    pub limit: u32,
+    /// How many entries a page of the log may have.
+    pub room: u32,
+    /// How many entries of the log were handed out.
+    pub given: u64,
     /// The number of classes.
     pub classes: u32,
     /// The first word of the thread's generator.
     pub first: u32,
+    /// The page: the entries that were not handed out.
     pub log: Vec<Logged>,
     pub last: u64,
     pub stand: Stand,
@@ -44,8 +47,9 @@ pub struct Mirror {
     /// How many objects the thread has made.
     pub made: u64,
     pub shots: Shots,
-    pub ghost has_room: { limit ≤ vec_capacity log },
-    pub ghost within: { vec_len log ≤ limit },
+    pub ghost has_room: { room ≤ vec_capacity log },
+    pub ghost within: { vec_len log ≤ room },
+    pub ghost few: { given < 2 ^ 42 },
     pub ghost low: { thread < most_threads },
 }
 
@@ -91,7 +95,7 @@ impl Mirror {
     pub fn new(
         alloc: Global,
         thread: u32,
-        limit: u32,
+        room: u32,
         classes: u32,
         first: u32,
         shots: Shots,
@@ -99,15 +103,16 @@ impl Mirror {
         requires thread { thread < most_threads }
         requires shots { shots.taken.items ≡ [] }
         ensures follows { IfOk result (λ m. Follows m (first_known thread)) }
-        ensures fixed { IfOk result (λ m. (m.limit ≡ limit) × (m.classes ≡ classes) × (m.first ≡ first)
+        ensures fixed { IfOk result (λ m. (m.room ≡ room) × (m.given ≡ 0) × (m.classes ≡ classes) × (m.first ≡ first)
             × (m.shots ≡ shots)) }
     {
         Ok(Mirror {
             thread,
-            limit,
+            room,
+            given: 0,
             classes,
             first,
-            log: Vec::with_capacity(alloc, limit as usize)?,
+            log: Vec::with_capacity(alloc, room as usize)?,
             last: 0,
             stand: Stand {
                 running: false,
@@ -133,16 +138,16 @@ impl Mirror {
     #[inline(always)]
     pub fn follow(&mut self, step: &StepPlan, found: u64)
         requires at { IsPlaced step.now.at }
-        requires room { HasRoom step.now.note self.old.log.items self.old.limit }
+        requires room { HasRoom step.now.note self.old.log.items self.old.room }
         requires shots { HasPlace step.now.own (length self.old.shots.taken.items) }
-        requires draws { self.old.drawing.installed ≤ length self.old.log.items }
-        requires made { self.old.made ≤ length self.old.log.items }
+        requires draws { self.old.drawing.installed ≤ self.old.given + length self.old.log.items }
+        requires made { self.old.made ≤ self.old.given + length self.old.log.items }
         requires stamp { hits step.now.act found ≡ true → StampFits step.now.note found self.old.last }
         ensures follows { (s : Shape) (start : ℕ) (k : Known) → Follows self.old k
             → IsDrafted step.now.own s k self.old.shots.draft.cut.items (cells_shown self.old.shots.draft.cells.items)
             → Follows self.new (known_after s start step.now found k) }
-        ensures fixed { (self.new.limit ≡ self.old.limit) × (self.new.classes ≡ self.old.classes)
-            × (self.new.first ≡ self.old.first) × (self.new.shots.threads ≡ self.old.shots.threads)
+        ensures fixed { (self.new.room ≡ self.old.room) × (self.new.given ≡ self.old.given)
+            × (self.new.classes ≡ self.old.classes) × (self.new.first ≡ self.old.first) × (self.new.shots.threads ≡ self.old.shots.threads)
             × (self.new.shots.objects ≡ self.old.shots.objects) }
         ensures draft { IsLeft step.now.own self.old.shots.draft.cut.items
             (cells_shown self.old.shots.draft.cells.items)

@@ -1,16 +1,18 @@
 //! What one thread steps with.
-ghost use Rattle.std.specs.Prelude.{◌≡◌, ◌+◌, ◌-◌, ◌<◌, ◌≤◌, ◌==◌, [], ◌∷◌, ◌++◌, length};
+ghost use Rattle.std.specs.Prelude.{◌≡◌, ◌+◌, ◌-◌, ◌<◌, ◌≤◌, ◌^◌, ◌==◌, [], ◌∷◌, ◌++◌, length, nat_le, vec_capacity};
 ghost use Rattle.std.specs.List.{position_or_len};
 ghost use Rattle.lock_policy.specs.Draws.{nth_value};
 ghost use Rattle.plain_monitor.specs.Limits.{most_threads, most_holds};
 ghost use Rattle.plain_monitor.specs.History.{last_stamp};
 ghost use Rattle.plain_history.specs.Known.{news};
+ghost use Rattle.core_world.specs.Clauses.Lengths.{log_limit};
 ghost use Rattle.core_world.specs.Locks.{hold_count};
 ghost use Rattle.heap_table.specs.Kept.{all_holds};
-ghost use Rattle.heap_table.specs.Seen.{PassSeen};
+ghost use Rattle.heap_table.specs.Seen.{PassSeen, IsOf, page_of};
 ghost use Rattle.heap_table.specs.Tallies.{counts_shown};
 
 use crate::counts::ClassCounts;
+use crate::heap::Heap;
 use crate::holds::PLACES;
 use crate::mirror::Mirror;
 use crate::rule::Place;
@@ -18,6 +20,7 @@ use crate::shots::{Cell, Shot};
 use core_world::Unfinished;
 use plain_monitor::Logged;
 use std::marker::Model;
+use std::mem;
 
 /// A thread's own part of a heap: it alone makes the thread's steps, and knows what the thread knows.
 #[derive(Drop)]
@@ -27,7 +30,7 @@ pub struct Pass {
 }
 
 impl Model for Pass {
-    ghost use Rattle.std.specs.Prelude.{◌≡◌, [], ◌∷◌};
+    ghost use Rattle.std.specs.Prelude.{◌≡◌, ◌+◌, [], ◌∷◌};
     ghost use Rattle.heap_table.specs.Cells.{cells_shown};
     ghost use Rattle.heap_table.specs.Ruled.{only};
     ghost use Rattle.heap_table.specs.Seen.{PassSeen};
@@ -38,7 +41,8 @@ impl Model for Pass {
     ghost view = { λ p. record {
       table = p.seat.table_id;
       known = only p.seat.me.0;
-      limit = p.mirror.limit;
+      limit = p.mirror.given + p.mirror.room;
+      room = p.mirror.room;
       classes = p.mirror.classes;
       first = p.mirror.first;
       threads = p.mirror.shots.threads;
@@ -59,11 +63,43 @@ impl Pass {
         self.mirror.thread
     }
 
-    /// The thread's log, in its own order.
+    /// The entries of the thread's log that were not handed out, in its own order: all of them before the first page.
     pub fn log(&self) -> &[Logged]
-        ensures { result.now ≡ self.now.known.log }
+        ensures { result.now ≡ page_of self.now }
     {
         self.mirror.log.as_slice()
+    }
+
+    /// How many entries the thread's log has, with those that were handed out.
+    pub fn length(&self) -> u64
+        ensures same { result ≡ length self.now.known.log }
+        ensures few { result < 2 ^ 43 }
+    {
+        prove!(self.mirror.log.len() <= self.mirror.room as usize);
+        self.mirror.given + self.mirror.log.len() as u64
+    }
+
+    /// Whether the log may have so many entries more, with those that were handed out: stamps allow 2^41 of each thread.
+    pub fn may_grow(&self, entries: u32) -> bool
+        ensures { result ≡ nat_le (length self.now.known.log + entries) log_limit }
+    {
+        self.length() + u64::from(entries) <= 2_199_023_255_552
+    }
+
+    /// Hands out the entries that the thread logged since its last page, between two calls: no step of the heap is made, and
+    /// nobody has to stop. The pass logs into `empty` from here on, which has room for a page, so no memory is taken.
+    ///
+    /// The pages and, at the end, what `close` gives are together the thread's log.
+    pub fn take_page(&mut self, heap: &Heap, empty: Vec<Logged>) -> Vec<Logged>
+        requires is_of { IsOf heap.now self.old }
+        requires empty { empty.items ≡ [] }
+        requires room { self.old.room ≤ vec_capacity empty }
+        ensures page { result.items ≡ page_of self.old }
+        ensures pass { self.new ≡ record self.old { limit = self.old.limit + length (page_of self.old) } }
+    {
+        let page = mem::replace(&mut self.mirror.log, empty);
+        self.mirror.given += page.len() as u64;
+        page
     }
 
     /// The stamp of the log's last entry, or 0.
@@ -73,11 +109,11 @@ impl Pass {
         self.mirror.last
     }
 
-    /// How many entries may still be logged.
+    /// How many entries may still be logged before the next page is handed out.
     pub fn room(&self) -> u32
         ensures room { result + length self.now.known.log ≡ self.now.limit }
     {
-        self.mirror.limit - self.mirror.log.len() as u32
+        self.mirror.room - self.mirror.log.len() as u32
     }
 
     /// How many holds the thread has on the object, by its hold words.
@@ -206,7 +242,7 @@ impl Pass {
     }
 
     /// The next thread's log has this length at the safepoint.
-    pub fn see_length(&mut self, entries: u32)
+    pub fn see_length(&mut self, entries: u64)
         requires { length self.old.cut < self.old.threads }
         ensures { self.new ≡ record self.old { cut = self.old.cut ++ entries ∷ [] } }
     {

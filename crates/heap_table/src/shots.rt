@@ -18,7 +18,7 @@ pub struct Cell {
 #[derive(Drop)]
 pub struct Shot {
     pub number: u32,
-    pub cut: List<u32>,
+    pub cut: List<u64>,
     pub cells: List<Cell>,
 }
 
@@ -36,7 +36,7 @@ impl Model for Shot {
 pub struct Draft {
     pub threads: u32,
     pub objects: usize,
-    pub cut: Vec<u32>,
+    pub cut: Vec<u64>,
     pub cells: Vec<Cell>,
     pub ghost room: { (threads ≤ vec_capacity cut) × (objects ≤ vec_capacity cells) },
 }

@@ -17,8 +17,8 @@ use plain_monitor::{List, NoMemory};
 use std::alloc::Global;
 
 /// A heap of this shape, with biases or without, whose hash generators start from `start`, and a pass for each thread, in
-/// order: stopped, with nothing logged, held, requested, counted or unfinished, and with room for the entries that so
-/// much fuel may log. The opening world is sound, the passes know what its threads know, and each is one of this heap
+/// order: stopped, with nothing logged, held, requested, counted or unfinished, and with room in a page of its log for the
+/// entries that so much fuel may log. The opening world is sound, the passes know what its threads know, and each is one of this heap
 /// that has made no step. Nothing takes memory later. The fuel is at most 200,000. `NoMemory` where memory is wanting.
 pub fn new_heap(
     alloc: Global,
@@ -29,6 +29,7 @@ pub fn new_heap(
 ) -> Result<(Heap, List<Pass>), NoMemory>
     requires { fuel ≤ most_fuel }
     ensures heap { IfOk result (λ r. r.0.heap ≡ record { shape = shape; start = start; biasing = biasing }) }
+    ensures room { IfOk result (λ r. r.0.room ≡ entries_for fuel) }
     ensures passes { IfOk result (λ r. r.1 ≡ first_passes r.0 (entries_for fuel) 0 shape.threads) }
     ensures opening { IfOk result (λ r. Sound (opening shape start biasing)) }
     ensures fresh { IfOk result (λ r. (t : ℕ) → t < shape.threads

@@ -27,7 +27,7 @@ pub struct RunRecord {
 pub struct Shot {
     /// The number of the dump among those of its thread, from 1.
     pub number: u32,
-    pub cut: List<u32>,
+    pub cut: List<u64>,
     pub cells: List<Cell>,
 }
 

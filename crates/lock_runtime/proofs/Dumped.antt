@@ -34,14 +34,14 @@ bare p = record p { cut = []; cells = [] }
 module _ {A : Type 0} (h : HeapSeen) (d : Todo A) (p q : PassSeen) (a : A) where
   pub dumped_of : HasRun h d (bare p) (bare q) a → HasDumped h d p q a
   dumped_of run = record {
-    heap = record { table = run.heap.table; within = run.heap.within; classes = run.heap.classes; first = run.heap.first; threads = run.heap.threads; objects = run.heap.objects; real = run.heap.real };
+    heap = record { table = run.heap.table; room = run.heap.room; within = run.heap.within; classes = run.heap.classes; first = run.heap.first; threads = run.heap.threads; objects = run.heap.objects; real = run.heap.real };
     limit = run.limit;
     ran = run.ran;
   }
 
   pub run_of : HasDumped h d p q a → HasRun h d (bare p) (bare q) a
   run_of run = record {
-    heap = record { table = run.heap.table; within = run.heap.within; classes = run.heap.classes; first = run.heap.first; threads = run.heap.threads; objects = run.heap.objects; real = run.heap.real };
+    heap = record { table = run.heap.table; room = run.heap.room; within = run.heap.within; classes = run.heap.classes; first = run.heap.first; threads = run.heap.threads; objects = run.heap.objects; real = run.heap.real };
     limit = run.limit;
     cut = refl;
     cells = refl;
@@ -59,7 +59,7 @@ pub dumped_rests : {A : Type 0} (h : HeapSeen) (p q : PassSeen) (t : Task) (c : 
     → HasDumped h d p q a → Rests h q
 dumped_rests h p q t c d a is first run =
     let i = c.rests.is_of in
-    let bare_of : IsOf h (bare p) = record { table = i.table; within = i.within; classes = i.classes; first = i.first; threads = i.threads; objects = i.objects; real = i.real } in
+    let bare_of : IsOf h (bare p) = record { table = i.table; room = i.room; within = i.within; classes = i.classes; first = i.first; threads = i.threads; objects = i.objects; real = i.real } in
     let over = (behind h (bare p) t (record { rests = record { is_of = bare_of; over = c.rests.over }; may = c.may }) d is first (bare q) a (run_of h d p q a run)).over in
     record { is_of = run.heap; over = over }
 

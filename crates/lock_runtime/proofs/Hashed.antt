@@ -1,4 +1,4 @@
--- Hashes: the draws of a thread are few, and its next one is what its call takes.
+-- Hashes: the next draw of a thread is what its call takes.
 use Rattle.std.proofs.Common.{◌≡◌, ℕ, ◌+◌, ◌≤◌, List, [], ◌∷◌, Option, Some, None, length, refl, sym, subst, arith, inl, inr}
 use Rattle.plain_monitor.specs.Objects.{PlainObject}
 use Rattle.plain_monitor.specs.declared.entry.Logged.{Logged}
@@ -23,36 +23,6 @@ use Rattle.heap_table.proofs.Resting.{IsCallOf}
 use Rattle.lock_runtime.specs.inner.HashParts.{hash_unbiased, hash_going}
 use Rattle.lock_runtime.proofs.Behind.{first_then}
 use Rattle.lock_runtime.proofs.Unbiased.{first_unbias}
-
--- FEW DRAWS. A log has no more draws than entries.
-one_drawn : (d : Option Draw) → drawn_by d ≤ 1
-one_drawn None = omega arith
-one_drawn (Some d) = omega arith
-
-draws_few : (log : List Logged) → draws_in log ≤ length log
-draws_few [] = omega arith
-draws_few (l ∷ log) = omega (arith, one_drawn (draw_in l.entry), draws_few log)
-
-record Few (k : Known) : Type 0 where
-  draws : k.draws ≤ length k.log
-  log : length k.log ≤ log_limit
-
-fit_few : (w : World) (P : List PlainObject) (t : ℕ) → Fits w P → Few (w.known t)
-fit_few w P t fits = record { draws = omega (arith, fits.draws.counted t, draws_few (w.known t).log); log = fits.lengths.few t }
-
--- a revocation under way draws and logs nothing
-valid_few : (w : World) (P : List PlainObject) (t : ℕ) → IsValid w P → Few (w.known t)
-valid_few w P t (inl fits) = fit_few w P t fits
-valid_few w P t (inr s) = by_equal t s.requester
-    (λ e. subst (λ u. Few (w.known u)) (sym e) (subst Few (sym s.knows) (let few = fit_few s.before P s.requester s.fits in record { draws = few.draws; log = few.log })))
-    (λ d. subst Few (sym (s.others t d)) (fit_few s.before P t s.fits))
-
-pub few_draws : (h : HeapSeen) (p : PassSeen) → IsOf h p → p.known.draws ≤ log_limit
-few_draws h p is_of =
-    let r = is_of.real in
-    let stands : Stands h.heap p.known = record { world = r.world; objects = r.sound.valid.objects; is_of = r.is_of; knows = r.knew; within = is_of.within; valid = r.sound.valid.is } in
-    let few = home h.heap p.known stands (λ s y. Few y) (valid_few r.world r.sound.valid.objects p.known.thread (valid_here h.heap p.known stands)) in
-    omega (arith, few.draws, few.log)
 
 -- THE NEXT DRAW is the one of the pass's generator
 pub hash_alike : (h : HeapSeen) (p q : PassSeen) (e : Purpose) (o : ℕ) → StartsAlike p.known q.known → hash_unbiased h.heap.shape e (start_now h p) o ≡ hash_unbiased h.heap.shape e (start_now h q) o

@@ -10,6 +10,7 @@ pub mod Unbiased
 pub mod Waits
 pub mod Looked
 pub mod Hashed
+pub mod FewDraws
 pub mod Reached
 pub mod Dumped
 pub mod FewShots

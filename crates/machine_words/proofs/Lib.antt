@@ -11,3 +11,8 @@ pub mod ReadThreads
 pub mod ReadMade
 pub mod ReadObjects
 pub mod ReadBack
+pub mod Untouched
+pub mod There
+pub mod Jumps
+pub mod Beside
+pub mod Renewing

@@ -58,7 +58,7 @@ zeros_are (v ∷ vs) h =
     λ i. sym (same_is (Int (pos 0)) v p.0) i ∷ zeros_are vs p.1 i
 
 -- an object that is as at first
-new_is : (n : ℕ) (x : PlainObject) → length x.slots ≡ n → is_new x ≡ true → x ≡ new_object n
+pub new_is : (n : ℕ) (x : PlainObject) → length x.slots ≡ n → is_new x ≡ true → x ≡ new_object n
 new_is n x count h =
     let slots = and_parts _ _ h in
     let hash = and_parts _ _ slots.0 in

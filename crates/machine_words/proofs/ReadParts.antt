@@ -1,5 +1,5 @@
 -- What the code that reads an object or a thread, step by step, comes to.
-use Rattle.std.proofs.Common.{◌≡◌, ℕ, ◌+◌, ◌<◌, ◌/◌, ◌%◌, ◌++◌, pos, true, false, List, [], ◌∷◌, length, set, Option, refl, sym, ap, ◌∙◌}
+use Rattle.std.proofs.Common.{◌≡◌, ℕ, ◌+◌, ◌<◌, ◌/◌, ◌%◌, ◌++◌, pos, List, [], ◌∷◌, length, set, Option, refl, sym, ap, ◌∙◌}
 use Rattle.std.proofs.lemmas.List.{length-set, set-set, get_or-set_same, replicate_more}
 use Rattle.plain_monitor.specs.declared.entry.Value.{Value}
 use Rattle.plain_monitor.specs.declared.entry.Value.TheVariants.{Int}
@@ -12,9 +12,9 @@ use Rattle.plain_machine.specs.Thread.{ThreadState}
 use Rattle.machine_words.specs.Readers.{word_option, read_numbers, read_pairs, read_values}
 use Rattle.machine_words.specs.MadeWords.{read_row}
 use Rattle.machine_words.specs.ModeWords.{mode_with}
-use Rattle.machine_words.specs.ObjectWords.{begins, behind_one, read_object}
+use Rattle.machine_words.specs.ObjectWords.{read_object}
 use Rattle.machine_words.specs.ThreadWords.{read_thread}
-use Rattle.machine_words.specs.inner.Reading.{object_step, unplaced}
+use Rattle.machine_words.specs.inner.Reading.{unplaced}
 
 -- a cleared object that is given its owner, count and hash
 abbrev pub given : Option ℕ → ℕ → Option ℕ → PlainObject
@@ -33,30 +33,17 @@ pub object_is : (slots owner count hash waits called : ℕ) (all ws ws1 ws2 ws3 
 object_is slots owner count hash waits called all ws ws1 ws2 ws3 o h x0 x1 x2 x3 is is_o is_h e0 e1 f1 e2 f2 e3 f3 =
     rw (is, e3, f3, e2, f2, e1, f1, e0, is_o, is_h) (refl, refl)
 
--- an object that isn't as at first
-pub step_reads : (number : ℕ) (old new : PlainObject) (ws rest after : List ℕ) (word : ℕ) → begins number ws ≡ true → ws ≡ word ∷ rest
-    → (new ≡ (read_object (length old.slots) rest).0) × (after ≡ (read_object (length old.slots) rest).1)
-    → (new ≡ (object_step number old ws).0) × (after ≡ (object_step number old ws).1)
-step_reads number old new ws rest after word here is h =
-    let behind : behind_one ws ≡ rest = ap behind_one is in
-    rw (here, behind) h
+-- a thread without locals, with these holds, that is given its place, its dumps, what it has made, its fuel and its mode
+abbrev pub begun : List ℕ → ℕ → ℕ → ℕ → ℕ → Mode → ThreadState
+begun holds place dumps made fuel mode =
+    record { place = place; locals = []; fuel = fuel; holds = holds; dumps = dumps; made = made; mode = mode }
 
--- one that is
-pub step_renews : (number : ℕ) (old new : PlainObject) (ws : List ℕ) → begins number ws ≡ false → new ≡ new_object (length old.slots)
-    → (new ≡ (object_step number old ws).0) × (ws ≡ (object_step number old ws).1)
-step_renews number old new ws other is = rw other (is, refl)
-
--- a cleared thread that is given its place, its dumps, what it has made, its fuel and its mode
-abbrev pub begun : ℕ → ℕ → ℕ → ℕ → Mode → ThreadState
-begun place dumps made fuel mode =
-    record { place = place; locals = []; fuel = fuel; holds = []; dumps = dumps; made = made; mode = mode }
-
-pub thread_is : (fuel head rest made locals place dumps : ℕ) (all ws ws1 : List ℕ) (mode : Mode) (s0 s1 : ThreadState)
+pub thread_is : (holds : List ℕ) (fuel head rest made locals place dumps : ℕ) (all ws ws1 : List ℕ) (mode : Mode) (s0 s1 : ThreadState)
     → all ≡ head ∷ rest ∷ made ∷ locals ∷ ws → place ≡ head / 256 → dumps ≡ head / 32 % 8
-    → mode ≡ mode_with (Calling (Dump 0)) (head % 32) rest → s0 ≡ begun place dumps made fuel mode
+    → mode ≡ mode_with (Calling (Dump 0)) (head % 32) rest → s0 ≡ begun holds place dumps made fuel mode
     → s1 ≡ record s0 { locals = s0.locals ++ (read_values locals ws).0 } → ws1 ≡ (read_values locals ws).1
-    → (s1 ≡ unplaced fuel (read_thread all).0) × (ws1 ≡ (read_thread all).1)
-thread_is fuel head rest made locals place dumps all ws ws1 mode s0 s1 is is_place is_dumps is_mode e0 e1 f1 =
+    → (s1 ≡ unplaced fuel holds (read_thread all).0) × (ws1 ≡ (read_thread all).1)
+thread_is holds fuel head rest made locals place dumps all ws ws1 mode s0 s1 is is_place is_dumps is_mode e0 e1 f1 =
     rw (is, e1, f1, e0, is_place, is_dumps, is_mode) (refl, refl)
 
 -- the row of thread t has one class more, and no other has changed since the first ones

@@ -78,7 +78,7 @@ index_map f [] k x at = absurd (none-some x at)
 index_map f (y ∷ xs) zero x at = ap f (same_Some y x at)
 index_map f (y ∷ xs) (suc k) x at = index_map f xs k x at
 
-holds_are : (m : PlainMachine) (t : ℕ) (s : ThreadState) → IsReached m → slice_get m.threads t ≡ Some s → holds_in t m.objects ≡ s.holds
+pub holds_are : (m : PlainMachine) (t : ℕ) (s : ThreadState) → IsReached m → slice_get m.threads t ≡ Some s → holds_in t m.objects ≡ s.holds
 holds_are m t s h at =
     let own = (all_at (IsThreadOf m.program) m.threads t s h.threads at).state.holds in
     let count : length (holds_in t m.objects) ≡ length m.objects = length_map (λ x. standing x.monitor t) m.objects in

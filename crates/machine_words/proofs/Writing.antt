@@ -1,7 +1,9 @@
 -- Words that are written one after the other.
-use Rattle.std.proofs.Common.{◌≡◌, ℕ, ◌+◌, ◌<◌, if◌then◌else◌, List, [], ◌∷◌, ◌++◌, length, drop, get_or, sym, ap, ◌∙◌, append_assoc}
-use Rattle.std.proofs.lemmas.List.{drop_more}
-use Rattle.plain_monitor.specs.Objects.{PlainObject}
+use Rattle.std.proofs.Common.{◌≡◌, inl, inr, ℕ, zero, suc, ◌+◌, ◌<◌, ◌≤◌, if◌then◌else◌, Bool, true, List, [], ◌∷◌, ◌++◌, length, drop, get_or, slice_get, Some, refl, sym, ap, ◌∙◌, arith, append_assoc}
+use Rattle.std.proofs.lemmas.Bool.{cases_lt}
+use Rattle.std.proofs.lemmas.List.{drop_more, drop_all}
+use Rattle.std.proofs.lemmas.Option.{slice_get-get_or}
+use Rattle.plain_monitor.specs.Objects.{PlainObject, new_object}
 use Rattle.machine_words.specs.ObjectWords.{is_new, object_words, objects_words}
 
 -- three lists
@@ -30,6 +32,29 @@ objects_more objects i x before after total lt at inv a =
     let here : drop i objects ≡ x ∷ rest = drop_more objects i x lt ∙ ap (λ y. y ∷ rest) (sym at) in
     ap (λ z. z ++ objects_words (i + 1) rest) a ∙ append_assoc before ws (objects_words (i + 1) rest)
     ∙ ap (λ (zs : List PlainObject). before ++ objects_words i zs) (sym here) ∙ inv
+
+none_dropped : {A : Type 0} (xs : List A) (k : ℕ) → length xs ≤ k → (F : ℕ → List A → List ℕ) → ((j : ℕ) → F j [] ≡ []) → F k (drop k xs) ≡ []
+none_dropped xs k le F none = ap (F k) (drop_all k xs le) ∙ none k
+
+-- objects that are as at first have no words
+pub objects_skip : (objects : List PlainObject) (n k : ℕ)
+    → ((j : ℕ) (x : PlainObject) → k ≤ j → j < k + n → slice_get objects j ≡ Some x → is_new x ≡ true)
+    → objects_words k (drop k objects) ≡ objects_words (k + n) (drop (k + n) objects)
+objects_skip objects zero k new = let here : k ≡ k + 0 = omega arith in ap (λ (j : ℕ). objects_words j (drop j objects)) here
+objects_skip objects (suc n) k new = elim (cases_lt k (length objects)) [
+  | inl within ↦
+      let x = get_or objects k (new_object 0) in
+      let rest = drop (k + 1) objects in
+      let as_at_first : is_new x ≡ true = new k x (omega arith) (omega arith) (slice_get-get_or objects k (new_object 0) within) in
+      let none : objects_words k (x ∷ rest) ≡ objects_words (k + 1) rest =
+      ap (λ (b : Bool). (if b then [] else k ∷ object_words x) ++ objects_words (k + 1) rest) as_at_first in
+      let moved : k + 1 + n ≡ k + suc n = omega arith in
+      ap (objects_words k) (drop_more objects k (new_object 0) within) ∙ none
+      ∙ objects_skip objects n (k + 1) (λ j z le lt at. new j z (omega (arith, le)) (omega (arith, lt)) at)
+      ∙ ap (λ (j : ℕ). objects_words j (drop j objects)) moved
+  | inr past ↦
+      none_dropped objects k past objects_words (λ j. refl) ∙ sym (none_dropped objects (k + suc n) (omega (arith, past)) objects_words (λ j. refl))
+]
 
 -- five words, and three lists
 pub five_in_front : (o o1 o2 o3 o4 o5 o6 o7 o8 : List ℕ) (a b c d e : ℕ) (p q r : List ℕ) → o1 ≡ o ++ a ∷ [] → o2 ≡ o1 ++ b ∷ []

@@ -4,4 +4,5 @@ pub mod ThreadWords
 pub mod MadeWords
 pub mod ObjectWords
 pub mod MachineWords
+pub mod Untouched
 pub mod inner

@@ -5,10 +5,13 @@ ghost use Rattle.std.specs.List.{AllByRecursion, list_all};
 ghost use Rattle.plain_monitor.specs.Objects.{same_value};
 ghost use Rattle.plain_monitor.specs.ValueWords.{IsSpellable};
 ghost use Rattle.plain_monitor.specs.declared.entry.Value.TheVariants.{Int};
+ghost use Rattle.machine_laws.specs.Reached.{IsReached};
 ghost use Rattle.machine_words.specs.ObjectWords.{is_new, object_words, objects_words};
+ghost use Rattle.machine_words.specs.Untouched.{IsUntouched};
 
+use crate::numbers::behind_row;
 use crate::writer::{add, add_pairs, add_values, option_word};
-use plain_machine::Object;
+use plain_machine::{Machine, Object};
 use plain_monitor::{NoMemory, Value};
 
 /// Whether each value is the number 0.
@@ -77,13 +80,22 @@ fn add_changed(out: &mut Vec<u64>, number: u64, object: &Object) -> Result<(), N
     Ok(())
 }
 
-/// The words of objects by their numbers, of which the first is 0.
-pub(crate) fn add_objects(out: &mut Vec<u64>, objects: &[Object]) -> Result<(), NoMemory>
-    requires { AllByRecursion (λ x. AllByRecursion IsSpellable x.slots) objects.now }
-    ensures { OnOk result (out.new.items ≡ out.old.items ++ objects_words 0 objects.now) }
+/// The words of the machine's objects, by their numbers: of those that are there, as each other is as at first.
+pub(crate) fn add_objects(out: &mut Vec<u64>, machine: &Machine) -> Result<(), NoMemory>
+    requires reached { IsReached machine.now }
+    requires untouched { IsUntouched machine.now }
+    ensures { OnOk result (out.new.items ≡ out.old.items ++ objects_words 0 machine.now.objects) }
 {
-    for (number, object) in objects.iter().enumerate() {
-        add_changed(out, number as u64, object)?;
+    let objects = machine.objects();
+    let first = machine.program().declared_total() as usize;
+    let mut number = 0;
+    while number < objects.len() {
+        if machine.class_of(number as u32).is_some() {
+            add_changed(out, number as u64, &objects[number])?;
+            number += 1;
+        } else {
+            number = behind_row(first, number);
+        }
     }
     Ok(())
 }

@@ -1,13 +1,16 @@
 //! A machine by its words.
 
 ghost use Rattle.std.specs.Prelude.{◌≡◌, length, IfOk, OnOk};
+ghost use Rattle.object_program.specs.Program.{numbering_of};
 ghost use Rattle.machine_laws.specs.Reached.{IsReached};
 ghost use Rattle.plain_machine.specs.Sound.{IsSound};
 ghost use Rattle.machine_words.specs.MachineWords.{machine_of};
+ghost use Rattle.machine_words.specs.Untouched.{IsUntouched};
 
 use crate::place_thread::place_threads;
 use crate::read_object::read_objects;
 use crate::read_thread::{read_made, read_threads};
+use crate::renew::renew_all;
 use crate::unread::Unread;
 use object_program::Program;
 use plain_machine::{Machine, Object, Parts, Register, Thread};
@@ -16,6 +19,7 @@ use plain_machine::{Machine, Object, Parts, Register, Thread};
 /// where that has no room. Where memory is wanting, `NoMemory`, and where the words are no machine's, `NoMachine`: the machine is gone then.
 pub fn load(machine: Machine, words: &[u64], fuel: u32) -> Result<Machine, Unread>
     requires room { IsReached machine }
+    requires untouched { IsUntouched machine }
     requires sound { IsSound (machine_of machine.program fuel words.now) }
     ensures { IfOk result (λ m. m ≡ machine_of machine.program fuel words.now) }
 {
@@ -57,6 +61,13 @@ fn read_parts(
       made = register.old.made;
       threads = threads.old;
     }) }
+    requires untouched { IsUntouched (record {
+      program = program.now;
+      objects = objects.old;
+      made = register.old.made;
+      threads = threads.old;
+    }) }
+    requires numbering { register.old.numbering ≡ numbering_of program.now }
     requires sound { IsSound (machine_of program.now fuel words.now) }
     ensures machine { OnOk result (record {
       program = program.now;
@@ -68,10 +79,11 @@ fn read_parts(
     ensures threads { OnOk result (length threads.new ≡ length threads.old) }
     ensures numbering { register.new.numbering ≡ register.old.numbering }
 {
+    renew_all(program, register, objects, threads)?;
     let mut at = 0;
     read_threads(words, &mut at, fuel, threads)?;
     read_made(words, &mut at, register)?;
-    read_objects(words, &mut at, objects)?;
-    place_threads(program, objects, fuel, threads)?;
+    read_objects(words, &mut at, objects, threads)?;
+    place_threads(program, fuel, threads);
     Ok(())
 }

@@ -1,15 +1,14 @@
 //! Objects by their words.
 
-ghost use Rattle.std.specs.Prelude.{◌≡◌, ◌++◌, drop, OnOk};
-ghost use Rattle.plain_monitor.specs.Objects.{new_object};
+ghost use Rattle.std.specs.Prelude.{◌≡◌, ◌<◌, ◌^◌, ◌++◌, length, map, drop, OnOk};
 ghost use Rattle.machine_words.specs.Readers.{read_pairs, read_values};
-ghost use Rattle.machine_words.specs.ObjectWords.{begins, read_object};
-ghost use Rattle.machine_words.specs.inner.Reading.{walk, object_step};
+ghost use Rattle.machine_words.specs.ObjectWords.{behind_one, read_object};
+ghost use Rattle.machine_words.specs.inner.Reading.{walk, renewed, object_step, beside};
 
+use crate::place_object::place_object;
 use crate::reader::{option_of, take_number, take_word, value_of};
 use crate::unread::Unread;
-use plain_machine::Object;
-use plain_monitor::{NoMemory, Value};
+use plain_machine::{Object, Thread};
 
 /// So many threads that wait, each with its count.
 fn read_waiting(
@@ -96,52 +95,42 @@ fn read_object(
     Ok(())
 }
 
-/// The object as at first, with so many slots.
-fn renew(slots: usize, object: &mut Object) -> Result<(), NoMemory>
-    ensures { OnOk result (object.new ≡ new_object slots) }
-{
-    object.clear();
-    for _ in 0..slots {
-        object.add_slot(Value::Int(0))?;
-    }
-    Ok(())
-}
-
-/// Whether the words go on with this object.
-fn begins(number: usize, words: &[u64], at: usize) -> bool
-    ensures { result ≡ begins number (drop at words.now) }
-{
-    match words.get(at) {
-        Some(word) => *word == number as u64,
-        None => false,
-    }
-}
-
-/// The object with this number, with as many slots as it has.
-fn read_at(words: &[u64], at: &mut usize, number: usize, object: &mut Object) -> Result<(), Unread>
-    ensures object { OnOk result (object.new ≡ (object_step number object.old (drop at.old words.now)).0) }
-    ensures rest { OnOk result (drop at.new words.now ≡ (object_step number object.old (drop at.old words.now)).1) }
+/// The object whose number the words go on with, with as many slots as it has.
+fn read_at(words: &[u64], at: &mut usize, object: &mut Object) -> Result<(), Unread>
+    ensures object { OnOk result (object.new ≡ (read_object (length object.old.slots) (behind_one (drop at.old words.now))).0) }
+    ensures rest { OnOk result (drop at.new words.now ≡ (read_object (length object.old.slots) (behind_one (drop at.old words.now))).1) }
 {
     let slots = object.slots().len();
-    if !begins(number, words, *at) {
-        renew(slots, object)?;
-        return Ok(());
-    }
     take_word(words, at)?;
     read_object(words, at, slots, object)?;
     Ok(())
 }
 
-/// All objects, each with as many slots as it has.
+/// All objects, which are as at first, each with as many slots as it has, and the threads' holds of them. Where the words of an object don't
+/// stand behind those of the ones before it, `NoMachine`.
 pub(crate) fn read_objects(
     words: &[u64],
     at: &mut usize,
     objects: &mut [Object],
+    threads: &mut [Thread],
 ) -> Result<(), Unread>
-    ensures { OnOk result (objects.new ≡ (walk object_step 0 objects.old (drop at.old words.now)).0) }
+    requires new { objects.old ≡ map renewed objects.old }
+    requires few { length objects.old < 2 ^ 32 }
+    requires threads { length threads.old < 2 ^ 32 }
+    requires beside { threads.old ≡ beside objects.old 0 threads.old }
+    ensures objects { OnOk result (objects.new ≡ (walk object_step 0 objects.old (drop at.old words.now)).0) }
+    ensures threads { OnOk result (threads.new ≡ beside objects.new 0 threads.old) }
 {
-    for (number, object) in objects.iter_mut().enumerate() {
-        read_at(words, at, number, object)?;
+    let mut number = 0;
+    while *at < words.len() {
+        let next = words[*at];
+        if next < number as u64 || next >= objects.len() as u64 {
+            return Err(Unread::NoMachine);
+        }
+        number = next as usize;
+        read_at(words, at, &mut objects[number])?;
+        place_object(number as u32, &objects[number], threads)?;
+        number += 1;
     }
     Ok(())
 }

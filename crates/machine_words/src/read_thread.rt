@@ -82,9 +82,9 @@ fn read_locals(words: &[u64], at: &mut usize, count: u32, thread: &mut Thread) -
     Ok(())
 }
 
-/// A thread that has this much fuel.
+/// A thread that has this much fuel. Its holds stay.
 fn read_thread(words: &[u64], at: &mut usize, fuel: u32, thread: &mut Thread) -> Result<(), Unread>
-    ensures thread { OnOk result (thread.new ≡ unplaced fuel (read_thread (drop at.old words.now)).0) }
+    ensures thread { OnOk result (thread.new ≡ unplaced fuel thread.old.holds (read_thread (drop at.old words.now)).0) }
     ensures rest { OnOk result (drop at.new words.now ≡ (read_thread (drop at.old words.now)).1) }
 {
     let head = take_word(words, at)?;
@@ -94,13 +94,13 @@ fn read_thread(words: &[u64], at: &mut usize, fuel: u32, thread: &mut Thread) ->
     let place = number_of(head / 256)?;
     let dumps = (head / 32 % 8) as u32;
     let mode = mode_with(head % 32, rest);
-    thread.clear(place, dumps, made);
+    thread.restart(place, dumps, made);
     thread.stand(fuel, mode);
     read_locals(words, at, locals, thread)?;
     Ok(())
 }
 
-/// All threads, each with this much fuel.
+/// All threads, each with this much fuel. Their holds stay.
 pub(crate) fn read_threads(
     words: &[u64],
     at: &mut usize,

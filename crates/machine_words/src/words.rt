@@ -4,6 +4,7 @@ ghost use Rattle.std.specs.Prelude.{◌≡◌, ◌++◌, OnOk};
 ghost use Rattle.machine_laws.specs.Reached.{IsReached};
 ghost use Rattle.machine_words.specs.MadeWords.{made_words};
 ghost use Rattle.machine_words.specs.MachineWords.{words_of};
+ghost use Rattle.machine_words.specs.Untouched.{IsUntouched};
 
 use crate::object_words::add_objects;
 use crate::thread_words::add_threads;
@@ -25,11 +26,12 @@ fn add_made(out: &mut Vec<u64>, register: &Register) -> Result<(), NoMemory>
 
 /// Writes the words of a machine that entries of its program lead to, behind those that are there. Where memory is wanting, `NoMemory`.
 pub fn add_words(machine: &Machine, out: &mut Vec<u64>) -> Result<(), NoMemory>
-    requires { IsReached machine.now }
+    requires reached { IsReached machine.now }
+    requires untouched { IsUntouched machine.now }
     ensures { OnOk result (out.new.items ≡ out.old.items ++ words_of machine.now) }
 {
     add_threads(out, machine.threads())?;
     add_made(out, machine.register())?;
-    add_objects(out, machine.objects())?;
+    add_objects(out, machine)?;
     Ok(())
 }

@@ -231,6 +231,6 @@ pub fn publish(heap: &Heap, pass: &mut Pass, why: &Purpose, entry: Entry)
     let at = Name::Length {
         thread: pass.thread(),
     };
-    let length = pass.log().len() as u64 + 1;
+    let length = pass.length() + 1;
     heap.log_store(pass, why, Stage::Calm, at, length, entry);
 }

@@ -13,6 +13,7 @@ use Rattle.every_outcome.proofs.Refuelled.{reached_full}
 use Rattle.every_outcome.proofs.Standing.{all_stand_first, all_stand_behind, all_stand_full}
 use Rattle.machine_words.specs.MachineWords.{words_of, machine_of}
 use Rattle.machine_words.proofs.ReadBack.{read_back}
+use Rattle.machine_words.proofs.Untouched.{untouched_first, untouched_behind}
 use Rattle.outcome_search.specs.Settled.{settled}
 use Rattle.outcome_search.specs.Keys.{IsFound, IsKey}
 use Rattle.outcome_search.proofs.Chains.{settles}
@@ -27,6 +28,7 @@ found_behind p fuel m n t e some h takes =
       program = same_program m n t e takes ∙ h.program;
       reached = reached_full fuel n some (progress m n t e h.reached takes).reached;
       stand = all_stand_full fuel n (all_stand_behind m n t e h.stand takes);
+      untouched = untouched_behind m n t e h.untouched takes;
       full = ap (λ (ss : List _). record n { threads = ss }) (full_twice fuel n.threads);
     }
 
@@ -37,6 +39,7 @@ found_first p fuel valid some =
       program = refl;
       reached = reached_full fuel m some (first_is_reached p fuel valid);
       stand = all_stand_full fuel m (all_stand_first p fuel);
+      untouched = untouched_first p fuel;
       full = ap (λ (ss : List _). record m { threads = ss }) (full_twice fuel m.threads);
     }
 
@@ -54,4 +57,4 @@ kept_read p fuel key k = ap (machine_of p fuel) (sym k.words) ∙ found_read p f
 
 -- it is one of its own program
 pub found_own : (p : ProgramText) (fuel : ℕ) (m : PlainMachine) → IsFound p fuel m → IsFound m.program fuel m
-found_own p fuel m h = record { program = refl; reached = h.reached; stand = h.stand; full = h.full }
+found_own p fuel m h = record { program = refl; reached = h.reached; stand = h.stand; untouched = h.untouched; full = h.full }

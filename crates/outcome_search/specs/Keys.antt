@@ -7,12 +7,14 @@ use Rattle.machine_laws.specs.Reached.{IsReached}
 use Rattle.every_outcome.specs.Fuel.{refuelled}
 use Rattle.every_outcome.specs.Stands.{AllStand}
 use Rattle.machine_words.specs.MachineWords.{words_of}
+use Rattle.machine_words.specs.Untouched.{IsUntouched}
 
 -- a machine of the program, as entries lead to it where all threads have this much fuel again behind each
 pub record IsFound (p : ProgramText) (fuel : ℕ) (m : PlainMachine) : Type 0 where
   pub program : m.program ≡ p
   pub reached : IsReached m
   pub stand : AllStand m
+  pub untouched : IsUntouched m
   pub full : refuelled fuel m ≡ m
 
 abbrev pub IsKept : ProgramText → ℕ → PlainMachine → Type 0

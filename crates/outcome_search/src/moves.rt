@@ -5,6 +5,7 @@ ghost use Rattle.every_outcome.specs.Fuel.{is_spent, refuelled};
 ghost use Rattle.plain_machine.specs.Machine.{new_machine};
 ghost use Rattle.plain_machine.specs.Sound.{IsSound};
 ghost use Rattle.machine_words.specs.MachineWords.{words_of, machine_of};
+ghost use Rattle.machine_words.specs.Untouched.{IsUntouched};
 ghost use Rattle.machine_laws.specs.Reached.{IsReached};
 ghost use Rattle.outcome_search.specs.Settled.{settled};
 ghost use Rattle.outcome_search.specs.Ends.{end_of};
@@ -46,7 +47,8 @@ impl Model for MachineMoves {
 
 /// The words of a machine.
 fn words_of(alloc: Global, machine: &Machine, room: usize) -> Result<Vec<u64>, NoMemory>
-    requires { IsReached machine.now }
+    requires reached { IsReached machine.now }
+    requires untouched { IsUntouched machine.now }
     ensures { IfOk result (λ v. v.items ≡ words_of machine.now) }
 {
     let mut words = Vec::with_capacity(alloc, room).map_err(|_| NoMemory)?;
@@ -197,6 +199,7 @@ fn first_machine(
 /// The machine of a key, made of one that is at hand.
 fn machine_of(machine: Machine, key: &[u64], fuel: u32) -> Result<Machine, SearchError>
     requires room { IsReached machine }
+    requires untouched { IsUntouched machine }
     requires sound { IsSound (machine_of machine.program fuel key.now) }
     ensures { IfOk result (λ m. m ≡ machine_of machine.program fuel key.now) }
 {

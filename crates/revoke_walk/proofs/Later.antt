@@ -78,29 +78,6 @@ module _ (h : HeapSeen) (p q : PassSeen) (e : Purpose) (at : Name) (n : ℕ) (is
   pub load_settled : IsSettled q.known (λ l. seen_words l at) n
   load_settled = seen_word q.known at n load_saw
 
-  pub load_calm : q.known.stage ≡ Calm
-  load_calm = ap (λ (k : Known). k.stage) s.known
-
--- LENGTHS. No log is longer than its limit, nor its published length.
-module _ (h : HeapSeen) (p : PassSeen) (is_of : IsOf h p) where
-  stands : Stands h.heap p.known
-  stands =
-      let r = is_of.real in
-      record { world = r.world; objects = r.sound.valid.objects; is_of = r.is_of; knows = r.knew; within = is_of.within; valid = r.sound.valid.is }
-
-  module _ (reached : p.known.reached ≡ true) (calm : p.known.stage ≡ Calm) where
-    pub log_few : length p.known.log ≤ log_limit
-    log_few = home h.heap p.known stands (λ s y. length y.log ≤ log_limit) ((fits_reached h.heap p.known stands reached calm).lengths.few p.known.thread)
-
-    pub published_few : (u n : ℕ) → last_seen (Length u) p.known.seen_at_safepoint ≡ Some n → n ≤ log_limit
-    published_few u n saw =
-        let fits = fits_reached h.heap p.known stands reached calm in
-        let word : stands.world.words (Length u) ≡ n = is_as_seen h.heap p.known stands reached (Length u) n saw in
-        let a = fits.lengths.stored u in
-        let b = fits.lengths.most u in
-        let c = fits.lengths.few u in
-        omega (arith, a, b, c, word)
-
 -- THE CLASS of an object, found at the reached safepoint, stays the one that was seen.
 module _ (h : HeapSeen) (p q : PassSeen) (e : Purpose) (o c : ℕ) (is_of : IsOf h p) (reached : p.known.reached ≡ true)
     (run : HasRun h (class_steps e Calm h.heap.shape o) p q c) where

@@ -37,19 +37,19 @@ bare p = record p { cut = []; cells = [] }
 
 module _ (h : HeapSeen) (p : PassSeen) where
   pub bare_of : IsOf h p → IsOf h (bare p)
-  bare_of i = record { table = i.table; within = i.within; classes = i.classes; first = i.first; threads = i.threads; objects = i.objects; real = i.real }
+  bare_of i = record { table = i.table; room = i.room; within = i.within; classes = i.classes; first = i.first; threads = i.threads; objects = i.objects; real = i.real }
 
   pub of_bare : IsOf h (bare p) → IsOf h p
-  of_bare i = record { table = i.table; within = i.within; classes = i.classes; first = i.first; threads = i.threads; objects = i.objects; real = i.real }
+  of_bare i = record { table = i.table; room = i.room; within = i.within; classes = i.classes; first = i.first; threads = i.threads; objects = i.objects; real = i.real }
 
   -- a run of it, whatever became of the draft
   module _ (d : Todo (Unit {0})) (q : PassSeen) where
     pub shot_of_run : HasRun h (d) (bare p) (bare q) tt → HasShot h d p q
-    shot_of_run run = record { heap = record { table = run.heap.table; within = run.heap.within; classes = run.heap.classes; first = run.heap.first; threads = run.heap.threads; objects = run.heap.objects; real = run.heap.real }; limit = run.limit; ran = run.ran }
+    shot_of_run run = record { heap = record { table = run.heap.table; room = run.heap.room; within = run.heap.within; classes = run.heap.classes; first = run.heap.first; threads = run.heap.threads; objects = run.heap.objects; real = run.heap.real }; limit = run.limit; ran = run.ran }
 
     pub run_of_shot : HasShot h d p q → HasRun h d (bare p) (bare q) tt
     run_of_shot s = record {
-      heap = record { table = s.heap.table; within = s.heap.within; classes = s.heap.classes; first = s.heap.first; threads = s.heap.threads; objects = s.heap.objects; real = s.heap.real };
+      heap = record { table = s.heap.table; room = s.heap.room; within = s.heap.within; classes = s.heap.classes; first = s.heap.first; threads = s.heap.threads; objects = s.heap.objects; real = s.heap.real };
       limit = s.limit;
       cut = refl;
       cells = refl;
@@ -62,7 +62,7 @@ module _ (h : HeapSeen) (p : PassSeen) where
 -- what the pass is with another draft
 pub drafted : (h : HeapSeen) (q r : PassSeen) (cut : List ℕ) (cells : List (Option ℕ × ℕ)) → r ≡ record q { cut = cut; cells = cells } → IsOf h q → IsOf h r
 drafted h q r cut cells same i =
-    subst (IsOf h) (sym same) (record { table = i.table; within = i.within; classes = i.classes; first = i.first; threads = i.threads; objects = i.objects; real = i.real })
+    subst (IsOf h) (sym same) (record { table = i.table; room = i.room; within = i.within; classes = i.classes; first = i.first; threads = i.threads; objects = i.objects; real = i.real })
 
 -- ANY PART, of no step or of some: its first step, if it has one, is of this task
 abbrev pub IsOfTask : {A : Type 0} → Todo A → Task → Type 0

@@ -232,7 +232,7 @@ fn look_at_cell(heap: &Heap, pass: &mut Pass, why: &Purpose, object: u32) -> Cel
 }
 
 // How long the thread's log is: as it published it, and for the pass's own thread as it is.
-fn look_at_length(heap: &Heap, pass: &mut Pass, why: &Purpose, thread: u32) -> u32
+fn look_at_length(heap: &Heap, pass: &mut Pass, why: &Purpose, thread: u32) -> u64
     requires heap { IsOf heap.now pass.old }
     requires due { IsDueOn heap.now pass.old why.now.task (look_at_length why.now thread) }
     requires reached { pass.old.known.reached ≡ true }
@@ -242,9 +242,9 @@ fn look_at_length(heap: &Heap, pass: &mut Pass, why: &Purpose, thread: u32) -> u
 {
     let published = heap.load(pass, why, Stage::Calm, Name::Length { thread });
     if thread == pass.thread() {
-        pass.log().len() as u32
+        pass.length()
     } else {
-        published as u32
+        published
     }
 }
 

@@ -56,8 +56,8 @@ module _ (unused : Unused) (h : HeapSeen) (p : ProgramText) (fuel tick : ℕ) (i
   here : (t : ℕ) (r : RunnerSeen) → (t < h.heap.shape.threads) × (seated t ≡ r) → IsRunnerAt h p fuel t r
   here t r at = subst (IsRunnerAt h p fuel t) at.1 (new_at t at.0)
 
-  pub are_ready : AreReady h p fuel tick (map (runner_on fuel) (first_passes h (entries_for fuel) 0 h.heap.shape.threads))
-  are_ready =
+  pub are_ready : h.room ≡ entries_for fuel → AreReady h p fuel tick (map (runner_on fuel) (first_passes h (entries_for fuel) 0 h.heap.shape.threads))
+  are_ready room =
       record {
         runners = λ t r e.
             let at = runner_at h (entries_for fuel) fuel 0 h.heap.shape.threads t r e in
@@ -66,5 +66,6 @@ module _ (unused : Unused) (h : HeapSeen) (p : ProgramText) (fuel tick : ℕ) (i
         timed = λ t r e.
             subst (λ (x : RunnerSeen). IsTimed tick x.pass.known)
             (runner_at h (entries_for fuel) fuel 0 h.heap.shape.threads t r e).1 (record { calls = tt; counts = tt });
+        room = room;
         count = passes_many h (entries_for fuel) fuel 0 h.heap.shape.threads;
       }

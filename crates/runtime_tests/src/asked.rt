@@ -71,7 +71,7 @@ fn said_ended(pass: &Pass) -> bool
 fn is_short(pass: &Pass) -> bool
     ensures { result ≡ nat_lt (length pass.now.known.log) log_limit }
 {
-    pass.log().len() < 400066
+    pass.may_grow(1)
 }
 
 // Whether this waiting word says that its thread waits on the object.
@@ -109,7 +109,7 @@ fn is_short_for(pass: &Pass, most: u32) -> bool
     requires { most ≤ 2 }
     ensures { result ≡ nat_le (length pass.now.known.log + most) log_limit }
 {
-    pass.log().len() <= 400066 - most as usize
+    pass.may_grow(most)
 }
 
 fn may_operate(heap: &Heap, pass: &Pass, going: bool) -> bool

@@ -37,7 +37,7 @@ pub fn stop(heap: &Heap, pass: &mut Pass, why: &Purpose)
     ensures { HasRun heap.now (stop_steps why.now (local_of pass.old.known)) pass.old pass.new result }
 {
     let thread = pass.thread();
-    let length = pass.log().len() as u64;
+    let length = pass.length();
     let published = Name::Length { thread };
     heap.store(pass, why, Stage::Calm, published, length);
     heap.mask(pass, why, Name::Safepoint, all_but(thread));

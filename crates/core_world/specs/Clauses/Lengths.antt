@@ -1,11 +1,10 @@
 -- The published lengths of the logs.
-use Rattle.std.specs.Prelude.{◌≡◌, ℕ, ◌≤◌, Bool, false, List, length}
-use Rattle.plain_monitor.specs.Limits.{most_fuel, entries_for}
+use Rattle.std.specs.Prelude.{◌≡◌, ℕ, ◌≤◌, ◌^◌, Bool, false, List, length}
 use Rattle.plain_monitor.specs.declared.entry.Logged.{Logged}
 
--- what a log may have at most, of a thread with the most fuel
+-- what a log may have at most: the stamps of so many entries of each thread fit into a waiting word
 abbrev pub log_limit : ℕ
-log_limit = entries_for most_fuel
+log_limit = 2 ^ 41
 
 pub record LengthsFit (word published : ℕ → ℕ) (log : ℕ → List Logged) (running requesting : ℕ → Bool)
     (halted : Bool) : Type 0 where

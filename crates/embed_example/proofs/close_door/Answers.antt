@@ -1,5 +1,7 @@
 use Rattle.std.proofs.Common.{◌≡◌, [], ◌∷◌, true, false, List, length, All, sym, subst, inl, rules}
-use Rattle.heap_table.specs.Seen.{PassSeen, IsOf, InOrder, knowns}
+use Rattle.plain_monitor.specs.History.{LegalObjects}
+use Rattle.plain_history.specs.ExactStamps.{StampsAreExact}
+use Rattle.heap_table.specs.Seen.{PassSeen, IsOf, InOrder, knowns, logs_of}
 use Rattle.heap_table.proofs.AtLast.{both}
 use Rattle.embed_example.proofs.close_door.Goals as goal
 
@@ -7,7 +9,7 @@ use Rattle.embed_example.proofs.close_door.Goals as goal
 pub close-requires-clause-passes : goal.close-requires-clause-passes
 close-requires-clause-passes c =
     let two : c.of.result ≡ c.args.first ∷ c.args.second ∷ [] = search rules in
-    subst (All (IsOf c.args.heap)) (sym two) (both (IsOf c.args.heap) c.args.first c.args.second c.requires.first.0.is_of c.requires.second.0.is_of)
+    subst (All (IsOf c.args.heap)) (sym two) (both (IsOf c.args.heap) c.args.first c.args.second c.requires.first.rests.is_of c.requires.second.rests.is_of)
 
 pub close-requires-clause-order : goal.close-requires-clause-order
 close-requires-clause-order c =
@@ -19,9 +21,29 @@ close-requires-clause-order c =
 pub close-requires-clause-stopped : goal.close-requires-clause-stopped
 close-requires-clause-stopped c =
     let two : c.of.result ≡ c.args.first ∷ c.args.second ∷ [] = search rules in
-    subst (All (λ p. p.known.running ≡ false)) (sym two) (both (λ p. p.known.running ≡ false) c.args.first c.args.second c.requires.first.1.runs c.requires.second.1.runs)
+    subst (All (λ p. p.known.running ≡ false)) (sym two)
+    (both (λ p. p.known.running ≡ false) c.args.first c.args.second c.requires.first.stopped.runs c.requires.second.stopped.runs)
 
 pub close-requires-clause-quiet : goal.close-requires-clause-quiet
 close-requires-clause-quiet c =
     let two : c.of.result ≡ c.args.first ∷ c.args.second ∷ [] = search rules in
-    inl (subst (All (λ p. p.known.requesting ≡ false)) (sym two) (both (λ p. p.known.requesting ≡ false) c.args.first c.args.second c.requires.first.1.asks c.requires.second.1.asks))
+    inl (subst (All (λ p. p.known.requesting ≡ false)) (sym two)
+    (both (λ p. p.known.requesting ≡ false) c.args.first c.args.second c.requires.first.stopped.asks c.requires.second.stopped.asks))
+
+-- what is left are the whole logs
+pub returns-clause-legal : goal.returns-clause-legal
+returns-clause-legal c =
+    let room = c.args.heap.room in
+    let two : c.of.result ≡ c.args.first ∷ c.args.second ∷ [] = search rules in
+    let whole : c.close.result.logs ≡ logs_of c.of.result = c.close.ensures.whole (subst (All (λ (p : PassSeen). p.limit ≡ room)) (sym two)
+    (both (λ p. p.limit ≡ room) c.args.first c.args.second c.requires.first.whole c.requires.second.whole)) in
+    subst (λ b. LegalObjects b.shape.objects c.close.result.logs) (sym c.close.ensures.heap)
+    (subst (LegalObjects c.args.heap.heap.shape.objects) (sym whole) c.close.ensures.legal)
+
+pub returns-clause-stamps : goal.returns-clause-stamps
+returns-clause-stamps c =
+    let room = c.args.heap.room in
+    let two : c.of.result ≡ c.args.first ∷ c.args.second ∷ [] = search rules in
+    let whole : c.close.result.logs ≡ logs_of c.of.result = c.close.ensures.whole (subst (All (λ (p : PassSeen). p.limit ≡ room)) (sym two)
+    (both (λ p. p.limit ≡ room) c.args.first c.args.second c.requires.first.whole c.requires.second.whole)) in
+    subst StampsAreExact (sym whole) c.close.ensures.stamps

@@ -1,8 +1,9 @@
 -- Passes of one heap.
 use Rattle.std.specs.Prelude.{◌≡◌, List, [], ◌∷◌}
-use Rattle.heap_table.specs.Seen.{HeapSeen, PassSeen}
+use Rattle.atomic_table.specs.Seated.{TableId}
+use Rattle.heap_table.specs.Seen.{PassSeen}
 
--- passes of this heap
-abbrev pub AllOf : HeapSeen → List PassSeen → Type 0
-AllOf h [] = Unit {0}
-AllOf h (p ∷ ps) = (p.table ≡ h.table) × AllOf h ps
+-- passes of the heap with this table
+abbrev pub AllOf : TableId → List PassSeen → Type 0
+AllOf table [] = Unit {0}
+AllOf table (p ∷ ps) = (p.table ≡ table) × AllOf table ps

@@ -1,7 +1,6 @@
 //! A thread by its parts, so that it can be kept in another form and made again.
 
-ghost use Rattle.std.specs.Prelude.{◌≡◌, ◌+◌, ◌-◌, ◌≤◌, ◌<◌, ◌^◌, ◌++◌, ◌∷◌, [], sum, length, OnOk};
-ghost use Rattle.plain_monitor.specs.Limits.{most_holds};
+ghost use Rattle.std.specs.Prelude.{◌≡◌, ◌<◌, ◌^◌, ◌++◌, ◌∷◌, [], sum, length, slice_set, OnOk};
 ghost use Rattle.plain_monitor.specs.declared.entry.Ending.TheVariants.{Done};
 ghost use Rattle.plain_machine.specs.declared.call.Mode.TheVariants.{Unwinding};
 
@@ -17,14 +16,14 @@ impl Thread {
         self.locals.as_slice()
     }
 
-    /// Makes it a thread at this place that has made so many dumps and objects, without locals and holds, on the way to its end. It keeps
-    /// its room.
-    pub fn clear(&mut self, place: u32, dumps: u32, made: u32)
+    /// Makes it a thread at this place that has made so many dumps and objects, without locals, on the way to its end. Its holds stay, and it
+    /// keeps its room.
+    pub fn restart(&mut self, place: u32, dumps: u32, made: u32)
         ensures { self.new ≡ record {
           place = place;
           locals = [];
           fuel = self.old.fuel;
-          holds = [];
+          holds = self.old.holds;
           dumps = dumps;
           made = made;
           mode = Unwinding Done;
@@ -32,8 +31,6 @@ impl Thread {
     {
         self.place = place;
         self.locals.clear();
-        self.holds.clear();
-        self.depth = 0;
         self.dumps = dumps;
         self.made = made;
         self.mode = Mode::Unwinding {
@@ -48,23 +45,16 @@ impl Thread {
         self.locals.push(value).map_err(|_| NoMemory)
     }
 
-    /// It has no holds, and none for any object.
-    pub fn let_go(&mut self)
-        ensures { self.new ≡ record self.old { holds = [] } }
+    /// It holds the object so often.
+    pub fn set_holds(&mut self, object: u32, count: u32)
+        requires object { object < length self.old.holds }
+        requires few { sum (slice_set self.old.holds object count) < 2 ^ 32 }
+        ensures { self.new ≡ record self.old { holds = slice_set self.old.holds object count } }
     {
-        self.holds.clear();
-        self.depth = 0;
-    }
-
-    /// One more object, which it holds so often.
-    pub fn add_holds(&mut self, count: u32) -> Result<(), NoMemory>
-        requires few { sum self.old.holds + count ≤ most_holds }
-        requires objects { length self.old.holds < 2 ^ 32 - 1 }
-        ensures { OnOk result (self.new ≡ record self.old { holds = self.old.holds ++ count ∷ [] }) }
-    {
-        self.holds.push(count).map_err(|_| NoMemory)?;
+        let object = object as usize;
+        self.depth -= self.holds[object];
         self.depth += count;
-        Ok(())
+        self.holds[object] = count;
     }
 
     /// It has this much fuel.

@@ -35,6 +35,7 @@ no_heap =
     record {
       table = record { words = 0; slots = 0; views_name = 0; atom = 0; block = 0; offset = 0; slot_names = [] };
       heap = record { shape = record { threads = 0; classes = 0; declared = 0; objects = [] }; start = 0; biasing = false };
+      room = 0;
     }
 
 abbrev pub no_program : ProgramText

@@ -15,7 +15,7 @@ loop-thread-preserved c =
     let p = c.push_reserved.ensures in
     record {
       seat = (s.0 ∙ inv.seat.0, s.1);
-      made = p.items ∙ (λ i. inv.made i ++ c.in_ok-pass.ensures.pass i ∷ []) ∙ passes_more (record { table = c.in_ok-words.words.shared.table_id; heap = heap_in c.args.setting }) _ c.loop-thread.thread;
+      made = p.items ∙ (λ i. inv.made i ++ c.in_ok-pass.ensures.pass i ∷ []) ∙ passes_more (record { table = c.in_ok-words.words.shared.table_id; heap = heap_in c.args.setting; room = c.args.room }) _ c.loop-thread.thread;
       len = omega (arith, p.len, inv.len);
       room = omega (arith, p.capacity, inv.room);
     }
@@ -24,4 +24,4 @@ pub returns-clause-law : goal.returns-clause-law
 returns-clause-law c = c.requires.law c.threads-threads.ensures.limits
 
 pub returns-clause-fresh : goal.returns-clause-fresh
-returns-clause-fresh c = λ t within. fresh _ c.args.limit t (returns-clause-law c) within
+returns-clause-fresh c = λ t within. fresh _ c.args.room t (returns-clause-law c) within

@@ -8,7 +8,7 @@ abbrev pub invariant-loop-thread : goal.invariant-loop-thread
 invariant-loop-thread l =
     record {
       seat : (l.seat.table_id ≡ l.words.shared.table_id) × (l.seat.me ≡ (first_knowns l.thread (l.setting.shape.threads - l.thread), []));
-      made : l.passes.items ≡ first_passes (record { table = l.words.shared.table_id; heap = heap_in l.setting }) l.limit 0 l.thread;
+      made : l.passes.items ≡ first_passes (record { table = l.words.shared.table_id; heap = heap_in l.setting; room = l.room }) l.room 0 l.thread;
       len : vec_len l.passes ≡ l.thread;
       room : l.setting.shape.threads ≤ vec_capacity l.passes;
     }

@@ -1,4 +1,4 @@
-use Rattle.std.proofs.Common.{List, ap, ◌∙◌, arith}
+use Rattle.std.proofs.Common.{◌≡◌, ◌+◌, List, ap, ◌∙◌, arith}
 use Rattle.core_world.specs.Threads.Known.{Known}
 use Rattle.atomic_table.specs.Table.{Me}
 use Rattle.heap_table.proofs.Opens.{knowns_next, others_next, own_pass}
@@ -33,9 +33,11 @@ returns-clause-pass c =
     let knew = ap (λ (m : Me (Unit {0}) (List Known)). m.0) c.requires.seat.1 ∙ knowns_next t c.args.setting.now.shape.threads c.requires.thread in
     let table = own.3 ∙ c.requires.seat.0 in
     let known = ap (λ (m : Me (Unit {0}) (List Known)). only m.0) own.4 ∙ ap only knew in
-    let classes = fixed.1 ∙ c.classes.ensures in
-    let threads = ap (λ (z : Shots). z.threads) fixed.3 ∙ fresh.0 ∙ c.threads.ensures.same in
-    let objects = ap (λ (z : Shots). z.objects) fixed.3 ∙ fresh.1 ∙ c.objects.ensures in
-    let cut = ap (λ (z : Shots). z.draft.cut.items) fixed.3 ∙ fresh.3 in
-    let cells = ap (λ (z : Shots). cells_shown z.draft.cells.items) fixed.3 ∙ ap cells_shown fresh.4 in
-    λ i. record { table = table i; known = known i; limit = fixed.0 i; classes = classes i; first = fixed.2 i; threads = threads i; objects = objects i; cut = cut i; cells = cells i }
+    let mirror = c.in_ok-mirror.mirror in
+    let limit : mirror.given + mirror.room ≡ c.args.room = omega (arith, fixed.0, fixed.1) in
+    let classes = fixed.2 ∙ c.classes.ensures in
+    let threads = ap (λ (z : Shots). z.threads) fixed.4 ∙ fresh.0 ∙ c.threads.ensures.same in
+    let objects = ap (λ (z : Shots). z.objects) fixed.4 ∙ fresh.1 ∙ c.objects.ensures in
+    let cut = ap (λ (z : Shots). z.draft.cut.items) fixed.4 ∙ fresh.3 in
+    let cells = ap (λ (z : Shots). cells_shown z.draft.cells.items) fixed.4 ∙ ap cells_shown fresh.4 in
+    λ i. record { table = table i; known = known i; limit = limit i; room = fixed.0 i; classes = classes i; first = fixed.3 i; threads = threads i; objects = objects i; cut = cut i; cells = cells i }

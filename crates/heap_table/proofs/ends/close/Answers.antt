@@ -1,17 +1,16 @@
-use Rattle.std.proofs.Common.{◌≡◌, ℕ, List, sym, ap, ◌∙◌, subst, arith, rules, take, length, All}
+use Rattle.std.proofs.Common.{◌≡◌, ◌+◌, ℕ, List, [], ◌∷◌, ◌++◌, refl, sym, ap, ◌∙◌, subst, arith, rules, take, length}
 use Rattle.std.specs.Slots.{slots_items}
-use Rattle.plain_monitor.specs.declared.entry.Logged.{Logged}
-use Rattle.plain_monitor.specs.History.{LegalObjects}
-use Rattle.plain_history.specs.ExactStamps.{StampsAreExact}
 use Rattle.core_world.specs.Threads.Known.{Known}
 use Rattle.core_law.specs.Logic.{Heap}
 use Rattle.atomic_table.specs.Table.{Me}
 use Rattle.heap_table.specs.Layout.{word_count}
-use Rattle.heap_table.specs.Ruled.{heap_in}
-use Rattle.heap_table.specs.Seen.{HeapSeen, PassSeen, IsOf, LastWorld, knowns, logs_of}
+use mathlib.Core.List.{map-append}
+use Rattle.std.proofs.lemmas.Grind.{common_steps}
+use Rattle.heap_table.specs.Cells.{cells_shown}
+use Rattle.heap_table.specs.Ruled.{heap_in, only}
+use Rattle.heap_table.specs.Seen.{HeapSeen, PassSeen, LastWorld, knowns, page_of, pages_of}
 use Rattle.heap_table.specs.inner.Seen.{AllOf}
-use Rattle.heap_table.proofs.AtLast.{copies, final_as, law_as, all_yielded, all_of}
-use Rattle.heap_table.specs.BiasesAtEnd.{BiasesAtEnd}
+use Rattle.heap_table.proofs.AtLast.{copies, final_as, law_as, all_yielded, all_of, page_is, all_left}
 use Rattle.heap_table.proofs.BiasesAtEnd.{biases_ended, biases_stuck}
 use Rattle.heap_table.proofs.Legal.{logs_legal_at_last, stamps_exact_at_last, still_at_last}
 use Rattle.heap_table.proofs.Seats.{comes, joins}
@@ -22,12 +21,11 @@ load_new_seat-requires c = (omega (arith, c.heap.invariant.1), comes _ _ _)
 
 pub loop-pass-init : goal.loop-pass-init
 loop-pass-init c =
-    let h : HeapSeen = record { table = c.heap.inside.words.shared.table_id; heap = heap_in c.heap.inside.setting } in
-    let mine = all_of h c.args.passes (subst (λ (x : HeapSeen). All (IsOf x) c.args.passes) (sym c.heap.view_is) c.requires.passes) in
+    let mine = subst (λ (h : HeapSeen). AllOf h.table c.args.passes) (sym c.heap.view_is) (all_of c.args.heap c.args.passes c.requires.passes) in
     record {
       seat = search rules;
       whole = search rules;
-      mine = subst (AllOf h) (sym (c.into_iter-pass-iterator.ensures.into_iter_gives.0 ∙ c.into_vec-pass-items.ensures)) mine;
+      mine = subst (AllOf c.heap.inside.words.shared.table_id) (sym (c.into_iter-pass-iterator.ensures.into_iter_gives.0 ∙ c.into_vec-pass-items.ensures)) mine;
       logs = search rules;
       shots = search rules;
       counts = search rules;
@@ -39,8 +37,37 @@ pub join_seat-requires : goal.join_seat-requires
 join_seat-requires c =
     let inv = c.loop-pass.invariant in
     let step = c.in-Some.ensures.steps.0 in
-    let mine = subst (AllOf (record { table = c.heap.inside.words.shared.table_id; heap = heap_in c.heap.inside.setting })) step inv.mine in
+    let mine = subst (AllOf c.heap.inside.words.shared.table_id) step inv.mine in
     (inv.seat.0, ap (λ (p : PassSeen). p.table) c.pass.view_is ∙ mine.0, ap (λ (m : Me (Unit {0}) (List Known)). m.1) c.pass.invariant.0, omega (arith, c.heap.invariant.1), joins _ _ _ _ _)
+
+pub loop-pass-preserved : goal.loop-pass-preserved
+loop-pass-preserved c =
+    let inv = c.loop-pass.invariant in
+    let view = c.pass.view_is in
+    let m = c.pass.inside.mirror in
+    let page : page_of c.in-Some.pass ≡ m.log.items =
+    ap page_of (sym view) ∙ page_is m (record {
+      table = c.pass.inside.seat.table_id;
+      known = only c.pass.inside.seat.me.0;
+      limit = m.given + m.room;
+      room = m.room;
+      classes = m.classes;
+      first = m.first;
+      threads = m.shots.threads;
+      objects = m.shots.objects;
+      cut = m.shots.draft.cut.items;
+      cells = cells_shown m.shots.draft.cells.items;
+    }) c.pass.invariant.1 refl refl in
+    record {
+      seat = grind (arith, common_steps);
+      whole = grind (arith, common_steps);
+      mine = search rules;
+      logs = c.push_reserved.ensures.items ∙ (λ i. inv.logs i ++ (c.of.ensures ∙ sym page) i ∷ []) ∙ sym (map-append page_of c.loop-pass.yielded (c.in-Some.pass ∷ []));
+      shots = grind (arith, common_steps);
+      counts = grind (arith, common_steps);
+      len = grind (arith, common_steps);
+      room = search rules;
+    }
 
 pub loop-i-preserved : goal.loop-i-preserved
 loop-i-preserved c =
@@ -68,30 +95,27 @@ pub returns-clause-logs : goal.returns-clause-logs
 returns-clause-logs c =
     let inv = c.loop-pass.invariant in
     let y : c.loop-pass.yielded ≡ c.args.passes = (let ok = c.loop-pass.pass-iterator.rest.ok in let none = c.in-None.ensures.steps.0 in all_yielded _ _ _ inv.whole (omega (arith, ok, none))) in
-    c.of-3.ensures ∙ inv.logs ∙ ap logs_of y
+    c.of-3.ensures ∙ inv.logs ∙ ap pages_of y
+
+pub returns-clause-whole : goal.returns-clause-whole
+returns-clause-whole c = λ none. returns-clause-logs c ∙ all_left c.args.heap c.args.passes c.requires.passes none
 
 pub returns-clause-legal : goal.returns-clause-legal
-returns-clause-legal c =
-    let logs = logs_legal_at_last c.args.heap.heap _ c.args.passes (returns-clause-world c) c.requires.order.0 c.requires.order.1 in
-    subst (λ (l : List (List Logged)). LegalObjects c.args.heap.heap.shape.objects l) (sym (returns-clause-logs c)) logs
+returns-clause-legal c = logs_legal_at_last c.args.heap.heap _ c.args.passes (returns-clause-world c) c.requires.order.0 c.requires.order.1
 
 pub returns-clause-law : goal.returns-clause-law
 returns-clause-law c = law_as c.args.heap.heap _ _ _ _ _ (ap heap_in c.heap.invariant.0 ∙ ap (λ (h : HeapSeen). h.heap) c.heap.view_is) c.close_with-closed.ensures.values.2
 
 pub returns-clause-stamps : goal.returns-clause-stamps
-returns-clause-stamps c =
-    let stamps = stamps_exact_at_last c.args.heap.heap _ c.args.passes (returns-clause-world c) c.requires.order.0 c.requires.order.1 (returns-clause-law c) in
-    subst StampsAreExact (sym (returns-clause-logs c)) stamps
+returns-clause-stamps c = stamps_exact_at_last c.args.heap.heap _ c.args.passes (returns-clause-world c) c.requires.order.0 c.requires.order.1 (returns-clause-law c)
 
 pub returns-clause-still : goal.returns-clause-still
 returns-clause-still c = still_at_last c.args.heap.heap _ c.args.passes (returns-clause-world c) c.requires.order.0 c.requires.order.1 c.requires.stopped c.requires.quiet
 
 pub returns-clause-biases : goal.returns-clause-biases
 returns-clause-biases c = λ nothing.
-    subst (λ (l : List (List Logged)). BiasesAtEnd 0 c.args.heap.heap c.of-2.result l (knowns c.args.passes)) (sym (returns-clause-logs c))
-    (biases_ended c.args.heap.heap _ c.args.passes (returns-clause-world c) c.requires.order.0 c.requires.order.1 c.requires.quiet nothing)
+    biases_ended c.args.heap.heap _ c.args.passes (returns-clause-world c) c.requires.order.0 c.requires.order.1 c.requires.quiet nothing
 
 pub returns-clause-biases_stuck : goal.returns-clause-biases_stuck
 returns-clause-biases_stuck c = λ nothing.
-    subst (λ (l : List (List Logged)). BiasesAtEnd 1 c.args.heap.heap c.of-2.result l (knowns c.args.passes)) (sym (returns-clause-logs c))
-    (biases_stuck c.args.heap.heap _ c.args.passes (returns-clause-world c) c.requires.order.0 c.requires.order.1 c.requires.quiet nothing)
+    biases_stuck c.args.heap.heap _ c.args.passes (returns-clause-world c) c.requires.order.0 c.requires.order.1 c.requires.quiet nothing

@@ -1,7 +1,6 @@
 use Rattle.std.proofs.Common.{◌≡◌, ◌≤◌, length, take, vec_len, vec_capacity, ◌++◌, []}
 use Rattle.std.specs.Slots.{slots_items}
-use Rattle.heap_table.specs.Ruled.{heap_in}
-use Rattle.heap_table.specs.Seen.{knowns, logs_of, shots_of, counts_of_all}
+use Rattle.heap_table.specs.Seen.{knowns, pages_of, shots_of, counts_of_all}
 use Rattle.heap_table.specs.inner.Seen.{AllOf}
 use Rattle.heap_table.proofs.ends.close.Given as goal
 
@@ -10,8 +9,8 @@ invariant-loop-pass l =
     record {
       seat : (l.all.table_id ≡ l.words.shared.table_id) × (l.all.me ≡ (knowns l.yielded, []));
       whole : l.yielded ++ l.pass-iterator.rest.items ≡ l.fn.passes;
-      mine : AllOf (record { table = l.words.shared.table_id; heap = heap_in l.setting }) l.pass-iterator.rest.items;
-      logs : l.logs.items ≡ logs_of l.yielded;
+      mine : AllOf l.words.shared.table_id l.pass-iterator.rest.items;
+      logs : l.logs.items ≡ pages_of l.yielded;
       shots : l.shots.items ≡ shots_of l.yielded;
       counts : l.counts.items ≡ counts_of_all l.yielded;
       len : (vec_len l.logs ≡ length l.yielded) × (vec_len l.shots ≡ length l.yielded) × (vec_len l.counts ≡ length l.yielded);

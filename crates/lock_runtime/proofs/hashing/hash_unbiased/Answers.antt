@@ -5,7 +5,7 @@ use Rattle.core_world.specs.Threads.Known.{local_of, draw_of}
 use Rattle.core_world.specs.Trees.HashSteps.{hash_header_steps}
 use Rattle.core_world.specs.Trees.Todo.{Todo}
 use Rattle.heap_table.specs.Parts.{IsDueOn, HasRun}
-use Rattle.lock_runtime.proofs.Hashed.{few_draws}
+use Rattle.lock_runtime.proofs.FewDraws.{few_draws}
 use Rattle.lock_runtime.proofs.hashing.hash_unbiased.Goals as goal
 
 pub overflow_cast-number : goal.overflow_cast-number

@@ -4,6 +4,5 @@ use Rattle.machine_words.proofs.place_thread.place_thread.Goals as goal
 
 pub returns : goal.returns
 returns c =
-    placed_is c.args.program.now (code_of c.args.program.now c.args.t) c.args.fuel c.args.t c.args.objects.now c.args.thread.now c.stand.new.self
-    c.hold_all.new.thread c.stand-2.new.self c.mode-mode.result c.placed_mode-placed.result c.mode-mode.ensures c.stand.ensures c.in_ok-hold_all.ensures
-    c.placed_mode-placed.ensures c.stand-2.ensures
+    placed_is c.args.program.now (code_of c.args.program.now c.args.t) c.args.fuel c.args.thread.now c.stand.new.self c.stand-2.new.self c.mode-mode.result
+    c.placed_mode-placed.result c.mode-mode.ensures c.stand.ensures c.placed_mode-placed.ensures c.stand-2.ensures

@@ -1,6 +1,13 @@
-use Rattle.std.proofs.Common.{drop}
-use Rattle.machine_words.specs.inner.Reading.{Walks, object_step}
+use Rattle.std.proofs.Common.{◌≡◌, ◌-◌, ◌≤◌, drop, length}
+use Rattle.machine_words.specs.inner.Reading.{Walks, object_step, beside}
 use Rattle.machine_words.proofs.read_object.read_objects.Given as goal
 
-abbrev pub invariant-loop-number : goal.invariant-loop-number
-invariant-loop-number l = Walks object_step l.initial.objects (drop l.initial.at l.words) l.number l.objects (drop l.at l.words)
+abbrev pub invariant-loop-at : goal.invariant-loop-at
+invariant-loop-at l = record {
+  within : l.number ≤ length l.initial.objects;
+  walks : Walks object_step l.initial.objects (drop l.initial.at l.words) l.number l.objects (drop l.at l.words);
+  threads : l.threads ≡ beside l.objects 0 l.initial.threads;
+}
+
+abbrev pub decreases-loop-at : goal.decreases-loop-at
+decreases-loop-at l = length l.objects - l.number

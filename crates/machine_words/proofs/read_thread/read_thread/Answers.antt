@@ -14,10 +14,11 @@ returns c =
     ∙ ap (λ xs. c.in_ok-made.made ∷ xs) c.in_ok-locals.ensures)) in
     let mode = c.mode_with-mode.result in
     let dumps : ℕ = c.in_ok-head.head / 32 % 8 in
-    let stands : c.stand.new.self ≡ begun c.in_ok-place.place dumps c.in_ok-made.made c.args.fuel mode =
-    c.stand.ensures ∙ ap (λ (s : ThreadState). record s { fuel = c.args.fuel; mode = mode }) c.clear.ensures in
+    let stands : c.stand.new.self ≡ begun c.args.thread.now.holds c.in_ok-place.place dumps c.in_ok-made.made c.args.fuel mode =
+    c.stand.ensures ∙ ap (λ (s : ThreadState). record s { fuel = c.args.fuel; mode = mode }) c.restart.ensures in
     let is =
-    thread_is c.args.fuel c.in_ok-head.head c.in_ok-rest.rest c.in_ok-made.made c.in_ok-locals.locals c.in_ok-place.place dumps (drop c.args.at.now ws)
+    thread_is c.args.thread.now.holds c.args.fuel
+    c.in_ok-head.head c.in_ok-rest.rest c.in_ok-made.made c.in_ok-locals.locals c.in_ok-place.place dumps (drop c.args.at.now ws)
     (drop c.take_number-3.new.at ws) (drop c.read_locals.new.at ws) mode c.stand.new.self c.read_locals.new.thread all c.in_ok-place.ensures refl
     c.mode_with-mode.ensures stands c.in_ok-read_locals.ensures.thread c.in_ok-read_locals.ensures.rest in
     record { thread = is.0; rest = is.1 }

@@ -1,13 +1,11 @@
-use Rattle.std.proofs.Common.{◌≡◌, ℕ, ◌+◌, ◌++◌, Some, List, sym, ap, ◌∙◌, subst, slice_get, arith}
+use Rattle.std.proofs.Common.{ℕ, ◌++◌, List, sym, ap, ◌∙◌, subst}
 use Rattle.std.specs.List.{AllByRecursion}
-use Rattle.plain_monitor.specs.Objects.{PlainObject}
 use Rattle.plain_monitor.specs.ValueWords.{IsSpellable}
 use Rattle.plain_machine.specs.Thread.{ThreadState}
-use Rattle.machine_laws.specs.Reached.{HasSlots}
 use Rattle.machine_words.specs.ThreadWords.{threads_words}
 use Rattle.machine_words.specs.MadeWords.{made_words}
 use Rattle.machine_words.specs.ObjectWords.{objects_words}
-use Rattle.machine_words.proofs.ReadBack.{threads_spelled, objects_spelled}
+use Rattle.machine_words.proofs.ReadBack.{threads_spelled}
 use Rattle.machine_words.proofs.Writing.{three_written}
 use Rattle.machine_words.proofs.words.add_words.Goals as goal
 
@@ -15,15 +13,7 @@ pub add_threads-requires : goal.add_threads-requires
 add_threads-requires c =
     let m = c.args.machine.now in
     subst (AllByRecursion (λ (s : ThreadState). AllByRecursion IsSpellable s.locals)) (sym c.threads.ensures)
-    (threads_spelled m.program m.threads c.requires.program c.requires.threads)
-
-pub add_objects-requires : goal.add_objects-requires
-add_objects-requires c =
-    let m = c.args.machine.now in
-    let each : (j : ℕ) (x : PlainObject) → slice_get m.objects j ≡ Some x → HasSlots m.program (0 + j) x =
-    λ j x at. let here : j ≡ 0 + j = omega arith in subst (λ (o : ℕ). HasSlots m.program o x) here (c.requires.slots j x at) in
-    subst (AllByRecursion (λ (x : PlainObject). AllByRecursion IsSpellable x.slots)) (sym c.objects.ensures)
-    (objects_spelled m.program 0 m.objects c.requires.program each)
+    (threads_spelled m.program m.threads c.requires.reached.program c.requires.reached.threads)
 
 pub returns : goal.returns
 returns c =
@@ -34,4 +24,4 @@ returns c =
     three_written o o1 o2 c.add_objects.new.out.items (threads_words m.threads) (made_words m.made) (objects_words 0 m.objects)
     (c.in_ok-add_threads.ensures ∙ ap (λ (ss : List ThreadState). o ++ threads_words ss) c.threads.ensures)
     (c.in_ok-add_made.ensures ∙ ap (λ (rows : List (List ℕ)). o1 ++ made_words rows) c.register.ensures.made)
-    (c.in_ok-add_objects.ensures ∙ ap (λ (xs : List PlainObject). o2 ++ objects_words 0 xs) c.objects.ensures)
+    c.in_ok-add_objects.ensures

@@ -14,6 +14,6 @@ log_store-requires c =
     let e = a.why.now in
     let k = a.pass.now.known in
     let plan = publish_plan e k.thread a.entry (length k.log + 1) in
-    let same : log_store_plan e Calm (Length c.thread.result) (length c.log.result.now + 1) a.entry ≡ plan =
-    λ i. log_store_plan e Calm (Length (c.thread.ensures.same i)) (length (c.log.ensures i) + 1) a.entry in
+    let same : log_store_plan e Calm (Length c.thread.result) (c.length-length.result + 1) a.entry ≡ plan =
+    λ i. log_store_plan e Calm (Length (c.thread.ensures.same i)) (c.length-length.ensures.same i + 1) a.entry in
     subst (CanStep h a.pass.now) (sym same) (can h a.pass.now e.task plan _ c.requires.due refl c.requires.heap c.requires.room refl)

@@ -9,6 +9,9 @@ use Rattle.outcome_search.proofs.moves.look_at.Goals as goal
 pub machine_of-requires-clause-room : goal.machine_of-requires-clause-room
 machine_of-requires-clause-room c = c.requires.kept.0.reached
 
+pub machine_of-requires-clause-untouched : goal.machine_of-requires-clause-untouched
+machine_of-requires-clause-untouched c = c.requires.kept.0.untouched
+
 pub machine_of-requires-clause-sound : goal.machine_of-requires-clause-sound
 machine_of-requires-clause-sound c =
     let k = c.requires.key in

@@ -23,8 +23,10 @@ returns-then-not-make_next-clause-found c =
 pub words_of-requires : goal.words_of-requires
 words_of-requires c =
     let m = c.args.machine.now in
-    (found_next m.program c.args.fuel c.args.steps c.args.t m c.make_next.new.machine c.settle.new.machine c.requires.some c.requires.found
-    (sym c.make_next.ensures.made ∙ c.if-not-make_next.false) c.make_next.ensures.machine c.settle.ensures).reached
+    let found =
+    found_next m.program c.args.fuel c.args.steps c.args.t m c.make_next.new.machine c.settle.new.machine c.requires.some c.requires.found
+    (sym c.make_next.ensures.made ∙ c.if-not-make_next.false) c.make_next.ensures.machine c.settle.ensures in
+    record { reached = found.reached; untouched = found.untouched }
 
 pub returns-in_err-words-clause-found : goal.returns-in_err-words-clause-found
 returns-in_err-words-clause-found c =

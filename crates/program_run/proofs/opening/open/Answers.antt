@@ -24,6 +24,7 @@ returns-clause-runners c =
     let fuel = c.args.settings.now.fuel in
     let heap = c.in_ok-heap.ensures.heap in
     c.in_ok-runners.ensures h c.args.program.now c.args.settings.now.tick (returns-clause-program c) (record {
+      room = c.in_ok-heap.ensures.room;
       are = c.in_ok-heap.ensures.passes ∙ ap (λ (b : Heap). first_passes h (entries_for fuel) 0 b.shape.threads) (sym heap);
       fresh = subst (λ (b : Heap). (t : ℕ) → t < b.shape.threads → IsFresh h t (first_pass h (entries_for fuel) t)) (sym heap) c.in_ok-heap.ensures.fresh;
     })

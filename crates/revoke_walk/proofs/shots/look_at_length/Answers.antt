@@ -1,38 +1,16 @@
-use Rattle.std.proofs.Common.{◌≡◌, ◌==◌, false, cond, length, refl, sym, ap, ◌∙◌, arith, ne_eqb}
+use Rattle.std.proofs.Common.{◌≡◌, ◌==◌, false, cond, length, refl, sym, ap, ◌∙◌, ne_eqb}
 use Rattle.core_world.specs.declared.name.Name.TheVariants.{Length}
 use Rattle.core_world.specs.Steps.{seen_words}
 use Rattle.core_world.specs.Threads.Known.{Local}
 use Rattle.core_world.specs.Trees.Plans.{load}
 use Rattle.heap_table.proofs.Parts.{can}
-use Rattle.revoke_walk.proofs.Later.{load_later, load_saw, load_settled, load_calm, log_few, published_few}
+use Rattle.revoke_walk.proofs.Later.{load_later, load_settled}
 use Rattle.revoke_walk.proofs.shots.look_at_length.Goals as goal
 
 pub load-published-requires : goal.load-published-requires
 load-published-requires c =
     let a = c.args in
     can a.heap.now a.pass.now a.why.now.task (load a.why.now (Length a.thread)) _ c.requires.due refl c.requires.heap tt refl
-
-pub overflow_cast-result : goal.overflow_cast-result
-overflow_cast-result c =
-    let a = c.args in
-    let s = c.load-published.ensures in
-    let q = c.load-published.new.pass in
-    let later = load_later a.heap.now a.pass.now q a.why.now (Length a.thread) c.load-published.result c.requires.heap c.requires.reached s in
-    let calm = load_calm a.heap.now a.pass.now q a.why.now (Length a.thread) c.load-published.result c.requires.heap c.requires.reached s in
-    let few = log_few a.heap.now q s.heap (later.reached ∙ c.requires.reached) calm in
-    omega (arith, few, ap (λ l. length l) c.log.ensures)
-
-pub overflow_cast-result-else-thread : goal.overflow_cast-result-else-thread
-overflow_cast-result-else-thread c =
-    let a = c.args in
-    let s = c.load-published.ensures in
-    let q = c.load-published.new.pass in
-    let n = c.load-published.result in
-    let later = load_later a.heap.now a.pass.now q a.why.now (Length a.thread) n c.requires.heap c.requires.reached s in
-    let saw = load_saw a.heap.now a.pass.now q a.why.now (Length a.thread) n c.requires.heap c.requires.reached s in
-    let calm = load_calm a.heap.now a.pass.now q a.why.now (Length a.thread) n c.requires.heap c.requires.reached s in
-    let few = published_few a.heap.now q s.heap (later.reached ∙ c.requires.reached) calm a.thread n saw in
-    omega (arith, few)
 
 pub returns-then-thread-clause-later : goal.returns-then-thread-clause-later
 returns-then-thread-clause-later c =

@@ -8,4 +8,4 @@ pub returns : goal.returns
 returns c = λ h p tick is first.
     let fuel = c.args.fuel in
     let same = c.of.ensures ∙ c.in_ok-runners.ensures ∙ ap (map (runner_on fuel)) first.are in
-    subst (AreReady h p fuel tick) (sym same) (are_ready c.unused_passes_are_on.ensures h p fuel tick is c.requires first.fresh)
+    subst (AreReady h p fuel tick) (sym same) (are_ready c.unused_passes_are_on.ensures h p fuel tick is c.requires first.fresh first.room)

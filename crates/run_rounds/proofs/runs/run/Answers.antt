@@ -1,10 +1,13 @@
 use Rattle.std.proofs.Common.{◌≡◌, ◌⊎◌, List, length, sym, ap, ◌∙◌, subst, All, Any, true, false}
 use Rattle.std.proofs.lemmas.List.{length-map}
+use Rattle.plain_monitor.specs.History.{LegalObjects}
+use Rattle.plain_history.specs.ExactStamps.{StampsAreExact}
+use Rattle.heap_table.specs.BiasesAtEnd.{BiasesAtEnd}
 use Rattle.heap_table.specs.Seen.{PassSeen, IsOf, InOrder, knowns, logs_of}
 use Rattle.object_program.specs.Program.{shape_of}
 use Rattle.run_rounds.specs.Rounds.{AreRunners, AreTimed}
 use Rattle.run_rounds.proofs.Closing.{IsClosed, has_run}
-use Rattle.run_rounds.proofs.Ending.{passes, all_of, all_still, ordered, quiet}
+use Rattle.run_rounds.proofs.Ending.{passes, all_of, all_whole, all_still, ordered, quiet}
 use Rattle.run_rounds.proofs.Over.{Laws}
 use Rattle.run_rounds.proofs.runs.run.Goals as goal
 
@@ -59,17 +62,21 @@ returns g c =
     let logs = logs_of (passes rs) in
     let same : c.of.result ≡ passes rs = c.of.ensures ∙ c.into_passes-passes.ensures in
     let many : length rs ≡ c.args.heap.heap.shape.threads = done.many ∙ ap length c.into_vec-runners.ensures ∙ c.requires.runners.count in
+    let heap = c.args.heap in
+    let whole : c.close.result.logs ≡ logs_of c.of.result =
+    c.close.ensures.whole (subst (All (λ (p : PassSeen). p.limit ≡ heap.room)) (sym same) (all_whole heap p c.args.fuel rs done.runners c.requires.runners.room)) in
     let closed : IsClosed c.args.heap c.of.result c.close.result = record {
       heap = c.close.ensures.heap;
       law = c.close.ensures.law;
       world = c.close.ensures.world;
-      logs = c.close.ensures.logs;
+      logs = whole;
       shots = c.close.ensures.shots;
       counts = c.close.ensures.counts;
-      legal = c.close.ensures.legal;
-      stamps = c.close.ensures.stamps;
-      biases = c.close.ensures.biases;
-      biases_stuck = c.close.ensures.biases_stuck;
+      legal = subst (LegalObjects heap.heap.shape.objects) (sym whole) c.close.ensures.legal;
+      stamps = subst StampsAreExact (sym whole) c.close.ensures.stamps;
+      biases = λ nothing. subst (λ l. BiasesAtEnd 0 heap.heap c.close.result.words l (knowns c.of.result)) (sym whole) (c.close.ensures.biases nothing);
+      biases_stuck = λ nothing.
+          subst (λ l. BiasesAtEnd 1 heap.heap c.close.result.words l (knowns c.of.result)) (sym whole) (c.close.ensures.biases_stuck nothing);
     } in
     let laws : Laws p c.args.fuel logs = record {
       objects = c.the_machine_is_what_the_logs_make_it.ensures.objects p c.args.fuel logs;

@@ -12,8 +12,8 @@ pub store-requires : goal.store-requires
 store-requires c =
     let e = c.args.why.now in
     let thread = sym c.thread-thread.ensures.same in
-    let log = sym c.log.ensures in
-    subst (CanStep c.args.heap.now c.args.pass.now) (λ i. publish_log_plan e (thread i) (length (log i)))
+    let length_is = sym c.length-length.ensures.same in
+    subst (CanStep c.args.heap.now c.args.pass.now) (λ i. publish_log_plan e (thread i) (length_is i))
     (can _ _ _ _ _ c.requires.due refl c.requires.heap tt refl)
 
 pub mask-requires : goal.mask-requires
@@ -24,9 +24,9 @@ mask-requires c =
     let q = c.store.new.pass in
     let found = c.store.result in
     let thread = c.thread-thread.ensures.same in
-    let log = c.log.ensures in
+    let length_is = c.length-length.ensures.same in
     let publishes = publish_log_plan e p.known.thread (length p.known.log) in
-    let made = subst (λ (x : StepPlan). HasStepped h p q x found) (λ i. publish_log_plan e (thread i) (length (log i))) c.store.ensures in
+    let made = subst (λ (x : StepPlan). HasStepped h p q x found) (λ i. publish_log_plan e (thread i) (length_is i)) c.store.ensures in
     let due = rest_due h p e.task publishes _ c.requires.due refl q found made in
     let bits : c.all_but.result ≡ all_but p.known.thread = c.all_but.ensures ∙ ap all_but thread in
     subst (λ (b : ℕ). CanStep h q (quiet_plan e Safepoint (Mask b))) (sym bits)

@@ -6,10 +6,11 @@ use Rattle.core_world.specs.There.{HasPlace}
 use Rattle.core_law.specs.Logic.{Heap}
 use Rattle.heap_table.specs.Cells.{cells_shown}
 use Rattle.heap_table.specs.Drafts.{IsLeft}
+use Rattle.heap_table.specs.Kept.{HasRoom}
 use Rattle.heap_table.specs.Ruled.{only, Stepped}
 use Rattle.heap_table.specs.inner.Ruled.{MayStep}
 use Rattle.heap_table.specs.Seen.{HeapSeen, PassSeen}
-use Rattle.heap_table.proofs.Follow.{few_made}
+use Rattle.heap_table.proofs.Follow.{few_made, few_installed, room_in_page}
 use Rattle.heap_table.proofs.Knows.{same_thread, goes_on, is_there, real_after}
 use Rattle.heap_table.proofs.Places.{placed}
 use Rattle.heap_table.proofs.Stamps.{stamp_fits}
@@ -37,6 +38,13 @@ follow-requires-clause-stamp c = stamp_fits _ _ _ _ _ c.step-found.ensures.stepp
 pub follow-requires-clause-made : goal.follow-requires-clause-made
 follow-requires-clause-made c = few_made _ _ c.pass.invariant.1
 
+pub follow-requires-clause-draws : goal.follow-requires-clause-draws
+follow-requires-clause-draws c = few_installed _ _ c.pass.invariant.1
+
+pub follow-requires-clause-room : goal.follow-requires-clause-room
+follow-requires-clause-room c =
+    room_in_page _ _ _ _ _ c.pass.invariant.1.log (subst (λ (p : PassSeen). HasRoom c.args.plan.note p.known.log p.limit) (sym c.pass.view_is) c.requires.room)
+
 pub returns : goal.returns
 returns c =
     let h : Heap = c.args.self.now.heap in
@@ -51,14 +59,15 @@ returns c =
     let t = ap (λ (x : Known). x.thread) known ∙ same_thread h.shape h.start c.args.plan c.step-found.result k in record {
       heap = record {
         table = c.step-found.ensures.seat.0 ∙ ap (λ (p : PassSeen). p.table) view ∙ c.requires.heap.table;
+        room = fixed.0 ∙ ap (λ (p : PassSeen). p.room) view ∙ c.requires.heap.room;
         within = subst (λ (n : ℕ). n < h.shape.threads) (sym t) c.requires.heap.within;
-        classes = fixed.1 ∙ ap (λ (p : PassSeen). p.classes) view ∙ c.requires.heap.classes;
-        first = fixed.2 ∙ ap (λ (p : PassSeen). p.first) view ∙ c.requires.heap.first ∙ ap (λ (n : ℕ). (h.start + n) % 2 ^ 32) (sym t);
-        threads = fixed.3 ∙ ap (λ (p : PassSeen). p.threads) view ∙ c.requires.heap.threads;
-        objects = fixed.4 ∙ ap (λ (p : PassSeen). p.objects) view ∙ c.requires.heap.objects;
+        classes = fixed.2 ∙ ap (λ (p : PassSeen). p.classes) view ∙ c.requires.heap.classes;
+        first = fixed.3 ∙ ap (λ (p : PassSeen). p.first) view ∙ c.requires.heap.first ∙ ap (λ (n : ℕ). (h.start + n) % 2 ^ 32) (sym t);
+        threads = fixed.4 ∙ ap (λ (p : PassSeen). p.threads) view ∙ c.requires.heap.threads;
+        objects = fixed.5 ∙ ap (λ (p : PassSeen). p.objects) view ∙ c.requires.heap.objects;
         real = real_after h k c.args.plan c.step-found.result _ c.requires.heap.real stepped known;
       };
-      limit = fixed.0 ∙ ap (λ (p : PassSeen). p.limit) view;
+      limit = (λ i. fixed.1 i + fixed.0 i) ∙ ap (λ (p : PassSeen). p.limit) view;
       draft = subst (λ (p : PassSeen). IsLeft c.args.plan.own p.cut p.cells c.follow.new.self.shots.draft.cut.items (cells_shown c.follow.new.self.shots.draft.cells.items)) view c.follow.ensures.draft;
       known = known;
       stepped = stepped;

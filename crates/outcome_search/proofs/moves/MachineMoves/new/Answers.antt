@@ -4,8 +4,11 @@ use Rattle.machine_words.specs.MachineWords.{words_of}
 use Rattle.outcome_search.specs.Keys.{IsKept}
 use Rattle.outcome_search.proofs.moves.MachineMoves.new.Goals as goal
 
-pub words_of-requires : goal.words_of-requires
-words_of-requires c = c.in_ok-machine.ensures.kept.0.reached
+pub words_of-requires-clause-reached : goal.words_of-requires-clause-reached
+words_of-requires-clause-reached c = c.in_ok-machine.ensures.kept.0.reached
+
+pub words_of-requires-clause-untouched : goal.words_of-requires-clause-untouched
+words_of-requires-clause-untouched c = c.in_ok-machine.ensures.kept.0.untouched
 
 pub invariant_of-moves : goal.invariant_of-moves
 invariant_of-moves c =

@@ -1,0 +1,9 @@
+mod AsBox
+mod Begins
+mod Exits
+mod Keeps
+mod LogRoom
+mod MayBegin
+mod Threads
+mod Closed
+mod Seated

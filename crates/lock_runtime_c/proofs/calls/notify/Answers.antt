@@ -1,0 +1,4 @@
+use Rattle.lock_runtime_c.proofs.calls.notify.Goals as goal
+
+pub returns-clause-made : goal.returns-clause-made
+returns-clause-made c = (c.notify.result, c.woke.ensures, c.notify.ensures.run.ran, c.notify.ensures.says)

@@ -1,0 +1,10 @@
+use Rattle.std.proofs.Common.{sym, subst}
+use Rattle.lock_runtime_c.specs.ByHandle.{IsNeverFull}
+use Rattle.lock_runtime_c.proofs.Exits.{never_full}
+use Rattle.lock_runtime_c.proofs.exports.biasrun_exit.Goals as goal
+
+pub returns-clause-full : goal.returns-clause-full
+returns-clause-full c =
+    let before = c.args.at.now in
+    let by = c.make_by.ensures in
+    subst (IsNeverFull before) (sym c.answered.ensures) (never_full before c.make_by.new.at c.args.object c.make_by.result by)

@@ -1,0 +1,51 @@
+-- What a call of C says, by what its handle had.
+use Rattle.std.specs.Prelude.{◌≡◌, ◌≢◌, ◌≤◌, Some}
+use Rattle.core_world.specs.declared.task.Task.{Task}
+use Rattle.heap_table.specs.Kept.{all_holds}
+use Rattle.lock_runtime_c.specs.declared.answers.Answer.{Answer}
+use Rattle.lock_runtime_c.specs.declared.handle.Slot.{Slot}
+use Rattle.lock_runtime_c.specs.declared.inner.Inner.{Inner}
+use Rattle.lock_runtime_c.specs.declared.inner.Inner.TheVariants as inner
+use Rattle.lock_runtime_c.specs.declared.inner.Seat.{Seat}
+use Rattle.lock_runtime_c.specs.declared.outcome.Misuse.TheVariants.{Empty, OtherKind}
+use Rattle.lock_runtime_c.specs.declared.outcome.Outcome.{Outcome}
+use Rattle.lock_runtime_c.specs.declared.outcome.Outcome.TheVariants.{Misused}
+use Rattle.lock_runtime_c.specs.LogRoom.{KeepsRoom}
+use Rattle.lock_runtime_c.specs.Numbers.{answered}
+use Rattle.lock_runtime_c.specs.Told.{Told}
+
+-- Of a thread's pass: it stays one of the same heap, and this is what became of it. Its log had room for an exit of each hold: so an exit is full only
+-- where nothing is held. Of anything else: nothing could begin, and it stays so.
+abbrev pub Within : Inner → Inner → Task → Outcome → Type 0
+Within (inner.Seat s) after task out =
+    (z : Seat) × (after ≡ inner.Seat z) × (z.room ≡ s.room) × KeepsRoom s.lent.thing
+    × Told s.room.value.heap task s.lent.thing z.lent.thing out
+Within before after task out = (after ≡ before) × (out ≡ Misused OtherKind)
+
+-- By a handle that has something: it has still something, and that is told of it. By an empty one nothing could begin.
+pub record ByHandleOf (Became : Inner → Inner → Outcome → Type 0) (before after : Slot) (out : Outcome) : Type 0 where
+  pub had : (x : Inner) → before.live ≡ 1 → before.handle.held ≡ Some x
+      → (y : Inner) × (after.live ≡ 1) × (after.handle.held ≡ Some y) × Became x y out
+  pub empty : (before.live ≡ 1 → ⊥) → out ≡ Misused Empty
+
+-- the same of the answer that C gets
+pub record AnswersOf (Became : Inner → Inner → Outcome → Type 0) (before after : Slot) (a : Answer) : Type 0 where
+  pub outcome : Outcome
+  pub is : a ≡ answered outcome
+  pub by_handle : ByHandleOf Became before after outcome
+
+-- so of the call of a task
+abbrev pub ByHandle : Slot → Slot → Task → Outcome → Type 0
+ByHandle before after task out = ByHandleOf (λ x y o. Within x y task o) before after out
+
+abbrev pub Answers : Slot → Slot → Task → Answer → Type 0
+Answers before after task a = AnswersOf (λ x y o. Within x y task o) before after a
+
+-- what the handle has is looked at, and stays; of a call that is done this is said of it
+pub record Reads (Has : Inner → Type 0) (before after : Slot) (a : Answer) : Type 0 where
+  pub had : (x : Inner) → before.live ≡ 1 → before.handle.held ≡ Some x → (after.live ≡ 1) × (after.handle.held ≡ Some x) × (a.kind ≡ 0 → Has x)
+  pub empty : (before.live ≡ 1 → ⊥) → a ≡ answered (Misused Empty)
+
+-- an exit by a thread that holds something is never full
+abbrev pub IsNeverFull : Slot → Answer → Type 0
+IsNeverFull before a = (s : Seat) → before.live ≡ 1 → before.handle.held ≡ Some (inner.Seat s) → 1 ≤ all_holds s.lent.thing.known.holds → a.kind ≢ 4

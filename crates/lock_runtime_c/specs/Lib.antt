@@ -1,0 +1,11 @@
+pub mod ByHandle
+pub mod Numbers
+pub mod OfValues
+pub mod Outcomes
+pub mod Rest
+pub mod LogRoom
+pub mod Told
+pub mod Pages
+pub mod Closing
+pub mod Left
+pub mod inner

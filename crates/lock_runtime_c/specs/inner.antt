@@ -1,0 +1,3 @@
+-- What only the private contracts and the proofs of this crate cite.
+pub mod Held
+pub mod Parting

@@ -1,0 +1,221 @@
+//! The calls on a pass, by their tasks.
+ghost use Rattle.std.specs.Prelude.{◌≡◌};
+ghost use Rattle.core_world.specs.declared.task.Task.TheVariants as task;
+ghost use Rattle.heap_table.specs.Resting.{MayCall, MayOperate, Rests};
+ghost use Rattle.lock_runtime_c.specs.LogRoom.{KeepsRoom};
+ghost use Rattle.lock_runtime_c.specs.Told.{IsMade, IsUnmade, Told};
+
+use crate::asked::{has_room, may_begin};
+use crate::outcome::{Misuse, Outcome, Said};
+use crate::reasons::reason;
+use crate::told::{checked, dumped, entered, got, hashed, owned, stored, turned, woke, woke_all};
+use core_world::Task;
+use heap_table::{Heap, Pass};
+use lock_runtime as runtime;
+use plain_monitor::{Ending, Value};
+
+fn enter(heap: &Heap, pass: &mut Pass, object: u32, now: u64) -> Outcome
+    requires { MayOperate heap.now pass.old (task.Enter object now) }
+    ensures rests { Rests heap.now pass.new }
+    ensures limit { pass.new.limit ≡ pass.old.limit }
+    ensures made { IsMade heap.now (task.Enter object now) pass.old pass.new result }
+{
+    entered(runtime::enter(heap, pass, object, now))
+}
+
+fn exit(heap: &Heap, pass: &mut Pass, object: u32) -> Outcome
+    requires { MayOperate heap.now pass.old (task.Exit object) }
+    ensures rests { Rests heap.now pass.new }
+    ensures limit { pass.new.limit ≡ pass.old.limit }
+    ensures made { IsMade heap.now (task.Exit object) pass.old pass.new result }
+{
+    owned(runtime::exit(heap, pass, object))
+}
+
+fn wait(heap: &Heap, pass: &mut Pass, object: u32, now: u64) -> Outcome
+    requires { MayOperate heap.now pass.old (task.Wait object now) }
+    ensures rests { Rests heap.now pass.new }
+    ensures limit { pass.new.limit ≡ pass.old.limit }
+    ensures made { IsMade heap.now (task.Wait object now) pass.old pass.new result }
+{
+    owned(runtime::wait(heap, pass, object, now))
+}
+
+fn notify(heap: &Heap, pass: &mut Pass, object: u32, now: u64) -> Outcome
+    requires { MayOperate heap.now pass.old (task.Notify object now) }
+    ensures rests { Rests heap.now pass.new }
+    ensures limit { pass.new.limit ≡ pass.old.limit }
+    ensures made { IsMade heap.now (task.Notify object now) pass.old pass.new result }
+{
+    woke(runtime::notify(heap, pass, object, now))
+}
+
+fn notify_all(heap: &Heap, pass: &mut Pass, object: u32, now: u64) -> Outcome
+    requires { MayOperate heap.now pass.old (task.NotifyAll object now) }
+    ensures rests { Rests heap.now pass.new }
+    ensures limit { pass.new.limit ≡ pass.old.limit }
+    ensures made { IsMade heap.now (task.NotifyAll object now) pass.old pass.new result }
+{
+    woke_all(runtime::notify_all(heap, pass, object, now))
+}
+
+fn hash(heap: &Heap, pass: &mut Pass, object: u32, now: u64) -> Outcome
+    requires { MayOperate heap.now pass.old (task.Hash object now) }
+    ensures rests { Rests heap.now pass.new }
+    ensures limit { pass.new.limit ≡ pass.old.limit }
+    ensures made { IsMade heap.now (task.Hash object now) pass.old pass.new result }
+{
+    hashed(runtime::hash(heap, pass, object, now))
+}
+
+fn get(heap: &Heap, pass: &mut Pass, object: u32, slot: u32) -> Outcome
+    requires { MayOperate heap.now pass.old (task.Get object slot) }
+    ensures rests { Rests heap.now pass.new }
+    ensures limit { pass.new.limit ≡ pass.old.limit }
+    ensures made { IsMade heap.now (task.Get object slot) pass.old pass.new result }
+{
+    got(runtime::get(heap, pass, object, slot))
+}
+
+fn put(heap: &Heap, pass: &mut Pass, object: u32, slot: u32, value: Value) -> Outcome
+    requires { MayOperate heap.now pass.old (task.Put object slot value) }
+    ensures rests { Rests heap.now pass.new }
+    ensures limit { pass.new.limit ≡ pass.old.limit }
+    ensures made { IsMade heap.now (task.Put object slot value) pass.old pass.new result }
+{
+    stored(runtime::put(heap, pass, object, slot, value))
+}
+
+fn print(heap: &Heap, pass: &mut Pass, value: Value) -> Outcome
+    requires { MayOperate heap.now pass.old (task.Print value) }
+    ensures rests { Rests heap.now pass.new }
+    ensures limit { pass.new.limit ≡ pass.old.limit }
+    ensures made { IsMade heap.now (task.Print value) pass.old pass.new result }
+{
+    runtime::print(heap, pass, value);
+    Outcome::Done(Said::Nothing)
+}
+
+fn dump(heap: &Heap, pass: &mut Pass) -> Outcome
+    requires { MayOperate heap.now pass.old task.Dump }
+    ensures rests { Rests heap.now pass.new }
+    ensures limit { pass.new.limit ≡ pass.old.limit }
+    ensures made { IsMade heap.now task.Dump pass.old pass.new result }
+{
+    dumped(runtime::dump(heap, pass))
+}
+
+fn finish(heap: &Heap, pass: &mut Pass, ending: Ending) -> Outcome
+    requires { MayOperate heap.now pass.old (task.Finish ending) }
+    ensures rests { Rests heap.now pass.new }
+    ensures limit { pass.new.limit ≡ pass.old.limit }
+    ensures made { IsMade heap.now (task.Finish ending) pass.old pass.new result }
+{
+    runtime::finish(heap, pass, ending);
+    Outcome::Done(Said::Nothing)
+}
+
+fn poll(heap: &Heap, pass: &mut Pass) -> Outcome
+    requires { MayCall heap.now pass.old task.Poll }
+    ensures rests { Rests heap.now pass.new }
+    ensures limit { pass.new.limit ≡ pass.old.limit }
+    ensures made { IsMade heap.now task.Poll pass.old pass.new result }
+{
+    turned(runtime::poll(heap, pass))
+}
+
+fn stop(heap: &Heap, pass: &mut Pass) -> Outcome
+    requires { MayCall heap.now pass.old task.Stop }
+    ensures rests { Rests heap.now pass.new }
+    ensures limit { pass.new.limit ≡ pass.old.limit }
+    ensures made { IsMade heap.now task.Stop pass.old pass.new result }
+{
+    runtime::stop(heap, pass);
+    Outcome::Done(Said::Nothing)
+}
+
+fn resume(heap: &Heap, pass: &mut Pass) -> Outcome
+    requires { MayCall heap.now pass.old task.Resume }
+    ensures rests { Rests heap.now pass.new }
+    ensures limit { pass.new.limit ≡ pass.old.limit }
+    ensures made { IsMade heap.now task.Resume pass.old pass.new result }
+{
+    turned(runtime::resume(heap, pass))
+}
+
+fn check_stuck(heap: &Heap, pass: &mut Pass) -> Outcome
+    requires { MayCall heap.now pass.old task.Check }
+    ensures rests { Rests heap.now pass.new }
+    ensures limit { pass.new.limit ≡ pass.old.limit }
+    ensures made { IsMade heap.now task.Check pass.old pass.new result }
+{
+    checked(runtime::check_stuck(heap, pass))
+}
+
+// An operation, for which the log has room.
+fn operate(heap: &Heap, pass: &mut Pass, task: Task) -> Outcome
+    requires { MayOperate heap.now pass.old task }
+    ensures rests { Rests heap.now pass.new }
+    ensures limit { pass.new.limit ≡ pass.old.limit }
+    ensures told { Told heap.now task pass.old pass.new result }
+{
+    match task {
+        Task::Enter { object, now } => enter(heap, pass, object, now),
+        Task::Exit { object } => exit(heap, pass, object),
+        Task::Wait { object, now } => wait(heap, pass, object, now),
+        Task::Notify { object, now } => notify(heap, pass, object, now),
+        Task::NotifyAll { object, now } => notify_all(heap, pass, object, now),
+        Task::Hash { object, now } => hash(heap, pass, object, now),
+        Task::Get { object, slot } => get(heap, pass, object, slot),
+        Task::Put {
+            object,
+            slot,
+            value,
+        } => put(heap, pass, object, slot, value),
+        Task::Print { value } => print(heap, pass, value),
+        Task::Dump => dump(heap, pass),
+        Task::Finish { ending } => finish(heap, pass, ending),
+        _ => Outcome::Misused(Misuse::OtherKind),
+    }
+}
+
+// Why the call can't begin. Where there is no other reason, the log is as long as any log may be.
+fn unmade(heap: &Heap, pass: &Pass, task: Task) -> Outcome
+    ensures { IsUnmade task pass.now pass.now result }
+{
+    match reason(heap, pass, task) {
+        Some(why) => Outcome::Misused(why),
+        None => {
+            if has_room(pass, task) {
+                Outcome::Misused(Misuse::OtherKind)
+            } else {
+                Outcome::Full
+            }
+        }
+    }
+}
+
+/// Makes the call of this task, where it may begin.
+pub fn make(heap: &Heap, pass: &mut Pass, task: Task) -> Outcome
+    requires { Rests heap.now pass.old }
+    ensures rests { Rests heap.now pass.new }
+    ensures told { Told heap.now task pass.old pass.new result }
+    ensures room { KeepsRoom pass.old → KeepsRoom pass.new }
+{
+    if !may_begin(heap, pass, task) {
+        return unmade(heap, pass, task);
+    }
+    match task {
+        Task::Poll => poll(heap, pass),
+        Task::Stop => stop(heap, pass),
+        Task::Resume => resume(heap, pass),
+        Task::Check => check_stuck(heap, pass),
+        _ => {
+            if has_room(pass, task) {
+                operate(heap, pass, task)
+            } else {
+                Outcome::Full
+            }
+        }
+    }
+}

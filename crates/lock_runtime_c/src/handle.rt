@@ -1,0 +1,111 @@
+//! What C holds: the pointer of a box, or nothing.
+ghost use Rattle.std.specs.Prelude.{◌≡◌, false, None, Some, IsSome, IfSome};
+ghost use Rattle.std.specs.Prelude.{Option};
+ghost use Rattle.lock_runtime_c.specs.declared.inner.Inner.{Inner};
+ghost use Rattle.lock_runtime_c.specs.Rest.{RestsWithin};
+ghost use Rattle.lock_runtime_c.specs.inner.Held.{held_coded, held_owns};
+
+mod parts;
+
+use crate::inner::Inner;
+use parts::Parts;
+use std::alloc::Global;
+use std::marker::Model;
+use std::mem;
+
+/// The pointer of a box of `Inner`, or none. C keeps it, and never reads it.
+#[repr(C)]
+pub struct Handle {
+    pub(crate) ptr: *mut u8,
+    pub(crate) alloc: Global,
+    pub ghost held: { Option Inner } by { held_coded },
+}
+
+impl Model for Handle {
+    ghost also_owns = { λ h. held_owns h.alloc h.ptr h.held };
+}
+
+// C may give a handle to another thread.
+unsafe impl Send for Handle {}
+
+impl Handle {
+    fn none(alloc: Global) -> Handle
+        ensures { result.held ≡ None }
+    {
+        Handle {
+            ptr: std::ptr::null_mut(),
+            alloc,
+        }
+    }
+
+    // An empty handle needs nothing.
+    fn forget(self) {
+        let Handle { ptr: _, alloc: _ } = self;
+    }
+
+    fn of_parts(parts: Parts<Inner, Global>) -> Handle
+        requires { RestsWithin parts.value }
+        ensures { result.held ≡ Some parts.value }
+    {
+        let Parts { ptr, alloc } = parts;
+        Handle {
+            ptr: ptr as *mut u8,
+            alloc,
+        }
+    }
+
+    fn into_parts(self) -> Parts<Inner, Global>
+        requires { IsSome self.held }
+        ensures { (self.held ≡ Some result.value) × RestsWithin result.value }
+    {
+        let Handle { ptr, alloc } = self;
+        Parts {
+            ptr: ptr as *mut Inner,
+            alloc,
+        }
+    }
+}
+
+/// A handle, and whether it has something. A zeroed one is empty.
+#[repr(C)]
+pub struct Slot {
+    pub handle: Handle,
+    pub live: u64,
+    pub ghost agrees: { live ≡ 1 → IsSome handle.held },
+}
+
+impl Slot {
+    pub fn is_live(&self) -> bool
+        ensures { result ≡ false → self.now.live ≡ 0 }
+    {
+        self.live != 0
+    }
+
+    /// What it has. It is empty then.
+    pub fn take(&mut self, alloc: Global) -> Option<Box<Inner>>
+        ensures live { self.new.live ≡ 0 }
+        ensures rests { IfSome result (λ b. RestsWithin b.value) }
+        ensures held { IfSome result (λ b. (self.old.live ≡ 1) × (self.old.handle.held ≡ Some b.value)) }
+        ensures empty { result ≡ None → self.old.live ≡ 1 → ⊥ }
+    {
+        if self.live != 1 {
+            self.live = 0;
+            return None;
+        }
+        self.live = 0;
+        let handle = mem::replace(&mut self.handle, Handle::none(alloc));
+        Some(handle.into_parts().into_box())
+    }
+
+    /// Gives it something. It is empty.
+    pub fn put(&mut self, alloc: Global, held: Box<Inner>)
+        requires empty { self.old.live ≡ 0 }
+        requires rests { RestsWithin held.value }
+        ensures live { self.new.live ≡ 1 }
+        ensures held { self.new.handle.held ≡ Some held.value }
+    {
+        let empty = mem::replace(&mut self.handle, Handle::of_parts(Parts::of(held)));
+        empty.forget();
+        self.live = 1;
+    }
+}

@@ -1,0 +1,40 @@
+//! The pages of a thread's log, and what is left of a heap's logs, as C reads them.
+ghost use Rattle.std.specs.Prelude.{◌≡◌, IfErr, IfOk};
+ghost use Rattle.lock_runtime_c.specs.Numbers.{IsEntry};
+ghost use Rattle.lock_runtime_c.specs.Pages.{HandsOut};
+ghost use Rattle.lock_runtime_c.specs.Rest.{IsSeated};
+
+use crate::inner::Seat;
+use crate::numbers::{Row, row_of};
+use crate::outcome::Misuse;
+use plain_monitor::{Logged, NoMemory};
+use std::alloc::Global;
+use std::mem;
+
+/// Hands out the entries that the thread logged since its last page, which lie in the seat until the next page is handed out; and how
+/// many they are. The first time it takes memory, for one more page. Where there is none, the page before can't be read any more.
+pub fn take_page(alloc: Global, seat: &mut Seat) -> Result<u64, NoMemory>
+    requires { IsSeated seat.old.room.value.heap seat.old.lent.place seat.old.lent.thing }
+    ensures seated { IsSeated seat.new.room.value.heap seat.new.lent.place seat.new.lent.thing }
+    ensures room { seat.new.room ≡ seat.old.room }
+    ensures page { IfOk result (λ count. HandsOut seat.old.lent.thing seat.new.lent.thing seat.new.page.items count) }
+    ensures same { IfErr result (λ _. seat.new.lent.thing ≡ seat.old.lent.thing) }
+{
+    let mut empty = mem::replace(&mut seat.page, Vec::new(alloc));
+    empty.clear();
+    if empty.reserve(seat.room.heap.room() as usize).is_err() {
+        return Err(NoMemory);
+    }
+    seat.page = seat.lent.thing.take_page(&seat.room.heap, empty);
+    Ok(seat.page.len() as u64)
+}
+
+/// The entry with this number, from 0.
+pub fn entry_at(entries: &[Logged], number: u64) -> Result<Row, Misuse>
+    ensures { IfOk result (IsEntry entries.now number) }
+{
+    match entries.get(number as usize) {
+        Some(logged) => Ok(row_of(*logged)),
+        None => Err(Misuse::NoEntry),
+    }
+}

@@ -1,0 +1,67 @@
+//! How a heap begins, and how threads get their passes.
+ghost use Rattle.std.specs.Prelude.{◌≡◌, ◌≤◌, IfOk, vec_len};
+ghost use Rattle.plain_monitor.specs.Limits.{most_threads};
+ghost use Rattle.lending.specs.Lending.{AreAt};
+ghost use Rattle.lock_runtime_c.specs.Rest.{IsHome, IsInLimits, IsSeated};
+
+use crate::inner::{Plan, Room, Seat};
+use crate::outcome::{Misuse, Outcome};
+use crate::store::Passes;
+use heap_table::{Heap, HeapShape, Pass};
+use lawful_heap::new_heap;
+use plain_monitor::NoMemory;
+use std::alloc::Global;
+use std::sync::Arc;
+
+// The planned heap, and its passes, which are all at home.
+fn begin(alloc: Global, plan: &Plan) -> Result<(Heap, Vec<Pass>), NoMemory>
+    requires { IsInLimits plan.now }
+    ensures home { IfOk result (λ r. AreAt (IsHome r.0) r.1.items) }
+    ensures count { IfOk result (λ r. vec_len r.1 ≡ r.0.heap.shape.threads) }
+    ensures few { IfOk result (λ r. r.0.heap.shape.threads ≤ most_threads) }
+{
+    let objects = plan.classes.len() as u32;
+    let shape = HeapShape::of(
+        alloc,
+        plan.threads,
+        plan.slots.as_slice(),
+        plan.classes.as_slice(),
+        objects,
+    )?;
+    let (heap, passes) = new_heap(alloc, shape, plan.fuel, plan.start, plan.biased)?;
+    Ok((heap, passes.into_vec()))
+}
+
+/// The planned heap, with a pass for each thread.
+pub fn open(alloc: Global, plan: &Plan) -> Result<Arc<Room, Global>, NoMemory>
+    requires { IsInLimits plan.now }
+{
+    let (heap, passes) = begin(alloc, plan)?;
+    let Ok(passes) = Passes::new(alloc, &heap, passes) else {
+        return Err(NoMemory);
+    };
+    match Arc::new(alloc, Room { heap, passes }) {
+        Ok(room) => Ok(room),
+        Err(_) => Err(NoMemory),
+    }
+}
+
+/// The thread's pass, where it is at home.
+pub fn seat_of(alloc: Global, room: &Arc<Room, Global>, thread: u32) -> Result<Seat, Outcome>
+    ensures { IfOk result (λ s. IsSeated s.room.value.heap s.lent.place s.lent.thing) }
+{
+    let Ok(own) = Arc::try_clone(room) else {
+        return Err(Outcome::NoMemory);
+    };
+    if thread >= own.passes.count() {
+        return Err(Outcome::Misused(Misuse::NoThread));
+    }
+    match own.passes.take(thread) {
+        Some(lent) => Ok(Seat {
+            room: own,
+            lent,
+            page: Vec::new(alloc),
+        }),
+        None => Err(Outcome::Misused(Misuse::PassTaken)),
+    }
+}

@@ -1,6 +1,0 @@
-use Rattle.std.proofs.Common.{◌≡◌, ◌+◌, drop}
-use Rattle.plain_monitor.specs.Listed.{counts_in}
-use Rattle.machine_words.proofs.place_thread.counts_in.Given as goal
-
-abbrev pub invariant-loop-thread : goal.invariant-loop-thread
-invariant-loop-thread l = l.counts + counts_in (drop l.thread-index l.list) l.t ≡ counts_in l.list l.t

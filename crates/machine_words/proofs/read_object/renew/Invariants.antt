@@ -1,6 +1,0 @@
-use Rattle.std.proofs.Common.{◌≡◌}
-use Rattle.plain_monitor.specs.Objects.{new_object}
-use Rattle.machine_words.proofs.read_object.renew.Given as goal
-
-abbrev pub invariant-loop : goal.invariant-loop
-invariant-loop l = l.object ≡ new_object l.counter
