@@ -12,7 +12,7 @@ use Rattle.lock_runtime_c.specs.LogRoom.{KeepsRoom}
 use Rattle.lock_runtime_c.specs.Rest.{IsHome}
 
 first_keeps : (h : HeapSeen) (limit t : ℕ) → KeepsRoom (first_pass h limit t)
-first_keeps h limit t = let none : all_holds (first_known t).holds ≡ 0 = refl in omega (arith, none)
+first_keeps h limit t = let none : all_holds (first_known t).holds ≡ 0 = refl in record { page = omega (arith, none); stamps = omega (arith, none) }
 
 first_home : (h : HeapSeen) (limit t : ℕ) → IsFresh h t (first_pass h limit t) → IsHome h t (first_pass h limit t)
 first_home h limit t fresh = record {

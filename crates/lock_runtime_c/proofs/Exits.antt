@@ -1,19 +1,25 @@
 -- An exit by a thread that holds something is never full.
-use Rattle.std.proofs.Common.{◌≡◌, ℕ, ◌≤◌, Result, Ok, Err, ap, arith, inl, inr}
+use Rattle.std.proofs.Common.{◌≡◌, ℕ, ◌+◌, ◌≤◌, ◌&&◌, not, nat_le, Bool, true, false, Option, Some, None, length, Result, Ok, Err, refl, sym, ap, ◌∙◌, arith, le-leb}
+use Rattle.std.specs.Prelude.{if◌then◌else◌, option_map}
+use Rattle.std.proofs.lemmas.Bool.{and_from}
+use Rattle.std.proofs.lemmas.Option.{same_Some}
+use Rattle.core_world.specs.Clauses.Lengths.{log_limit}
 use Rattle.core_world.specs.declared.answer.IllegalMonitorState.{IllegalMonitorState}
 use Rattle.core_world.specs.declared.answer.Turn.{Turn}
 use Rattle.core_world.specs.declared.answer.Turn.TheVariants.{Done, Pending}
 use Rattle.core_world.specs.declared.task.Task.TheVariants.{Exit}
-use Rattle.heap_table.specs.Kept.{all_holds}
 use Rattle.heap_table.specs.Seen.{HeapSeen, PassSeen}
 use Rattle.lock_runtime_c.specs.ByHandle.{ByHandle, IsNeverFull}
-use Rattle.lock_runtime_c.specs.LogRoom.{KeepsRoom}
+use Rattle.lock_runtime_c.specs.LogRoom.{Fits, is_full}
 use Rattle.lock_runtime_c.specs.Numbers.{answered}
 use Rattle.lock_runtime_c.specs.Outcomes.{nothing, of_result, of_turn}
-use Rattle.lock_runtime_c.specs.Told.{Told}
+use Rattle.lock_runtime_c.specs.Reasons.{first_reason, or_else}
+use Rattle.lock_runtime_c.specs.Told.{barred, ToldBy}
 use Rattle.lock_runtime_c.specs.declared.handle.Slot.{Slot}
 use Rattle.lock_runtime_c.specs.declared.inner.Inner.TheVariants as inner
+use Rattle.lock_runtime_c.specs.declared.outcome.Misuse.{Misuse}
 use Rattle.lock_runtime_c.specs.declared.outcome.Outcome.{Outcome}
+use Rattle.lock_runtime_c.specs.declared.outcome.Outcome.TheVariants.{Full, Misused}
 use Rattle.lock_runtime_c.specs.declared.outcome.Refusal.TheVariants.{NotOwner}
 
 abbrev kind : Outcome → ℕ
@@ -25,15 +31,27 @@ made_not out (Ok (Done x)) is full = let a : kind out ≡ 0 = ap kind is in absu
 made_not out (Ok (Pending why)) is full = let a : kind out ≡ 1 = ap kind is in absurd (omega (arith, a, full))
 made_not out (Err e) is full = let a : kind out ≡ 2 = ap kind is in absurd (omega (arith, a, full))
 
-told_not : (h : HeapSeen) (p q : PassSeen) (o : ℕ) (out : Outcome) → KeepsRoom p → 1 ≤ all_holds p.known.holds → Told h (Exit o) p q out
+-- a log with that room isn't full
+roomy : (n : ℕ) (p : PassSeen) → Fits p n → 1 ≤ n → (nat_le (length p.known.log + 1) p.limit && nat_le (length p.known.log + 1) log_limit) ≡ true
+roomy n p kept some =
+    let (page, stamps) = (kept.page, kept.stamps) in
+    and_from _ _ (le-leb (length p.known.log + 1) p.limit (omega (arith, page, some))) (le-leb (length p.known.log + 1) log_limit (omega (arith, stamps, some)))
+
+-- what bars the exit is a misuse
+barred_not : (b : Bool) (why : Option Misuse) (out : Outcome) → b ≡ false → or_else (option_map Misused why) (if b then Some Full else None) ≡ Some out
     → kind out ≡ 4 → ⊥
-told_not h p q o out kept some (inl u) full = elim u.0 [
-  | inl m ↦ let a : kind out ≡ 3 = ap kind m.1 in absurd (omega (arith, a, full))
-  | inr f ↦ let less = f.1 in absurd (omega (arith, kept, some, less))
-]
-told_not h p q o out kept some (inr m) full = made_not out m.0 m.1 full
+barred_not b (Some why) out no is full = let a : kind out ≡ 3 = ap kind (sym (same_Some _ _ is)) in absurd (omega (arith, a, full))
+barred_not false None out no is full = absurd (cc is)
+barred_not true None out no is full = absurd (cc no)
+
+told_not : (h : HeapSeen) (p q : PassSeen) (o : ℕ) (out : Outcome) (by : Option Outcome) → barred h p (Exit o) ≡ by → is_full p (Exit o) ≡ false
+    → ToldBy by h (Exit o) p q out → kind out ≡ 4 → ⊥
+told_not h p q o out (Some why) by room told full =
+    barred_not (is_full p (Exit o)) (first_reason h.heap.shape p.known (Exit o)) out room (by ∙ ap Some (sym told.0)) full
+told_not h p q o out None by room told full = made_not out told.0 told.1 full
 
 pub never_full : (before after : Slot) (o : ℕ) (out : Outcome) → ByHandle before after (Exit o) out → IsNeverFull before (answered out)
 never_full before after o out by s live held some full =
     let w = (by.had (inner.Seat s) live held).3 in
-    told_not s.room.value.heap s.lent.thing w.0.lent.thing o out w.3 some w.4 full
+    let room = ap not (roomy _ s.lent.thing w.3 some) in
+    told_not s.room.value.heap s.lent.thing w.0.lent.thing o out _ refl room w.4 full

@@ -1,5 +1,5 @@
 -- Each call leaves the room that the log has to keep.
-use Rattle.std.proofs.Common.{◌≡◌, ℕ, zero, suc, ◌+◌, ◌≤◌, ◌==◌, not, cond, ltb-true, Bool, true, false, List, [], ◌∷◌, length, slice_index, Ok, Err, sym, ap, ◌∙◌, subst, arith, inl, inr}
+use Rattle.std.proofs.Common.{◌≡◌, ℕ, zero, suc, ◌+◌, ◌≤◌, ◌==◌, not, cond, ltb-true, Bool, true, false, List, [], ◌∷◌, length, slice_index, Ok, Err, None, refl, sym, ap, ◌∙◌, subst, arith, inl, inr}
 use Rattle.std.proofs.lemmas.Bool.{and_parts}
 use Rattle.mark_word.specs.Hold.{read_hold}
 use Rattle.plain_monitor.specs.declared.entry.Entry.{Entry}
@@ -17,7 +17,6 @@ use Rattle.core_world.specs.Clauses.WordForms.{IsHold}
 use Rattle.core_world.specs.Locks.{hold_count}
 use Rattle.core_world.specs.Threads.Known.{Known, StepMade, Start}
 use Rattle.core_world.specs.Threads.References.{has_reference}
-use Rattle.core_world.specs.Trees.Calls.{may_begin}
 use Rattle.core_world.specs.Words.Forms.{waits_on}
 use Rattle.core_world.specs.Words.Shape.{Shape}
 use Rattle.core_world.specs.declared.answer.Turn.TheVariants.{Done, Pending}
@@ -29,8 +28,11 @@ use Rattle.heap_table.specs.Seen.{HeapSeen, PassSeen}
 use Rattle.own_logs.proofs.HoldSums.{all_named}
 use Rattle.own_logs.proofs.OwnHolds.{own_number}
 use Rattle.own_logs.proofs.Settled.{Settled, settled}
-use Rattle.lock_runtime_c.specs.LogRoom.{KeepsRoom, room_for}
-use Rattle.lock_runtime_c.specs.Told.{IsMade, Told}
+use Rattle.core_world.specs.Clauses.Lengths.{log_limit}
+use Rattle.lock_runtime_c.specs.LogRoom.{Fits, is_full, KeepsRoom, needs_room, room_for}
+use Rattle.lock_runtime_c.specs.inner.MayMake.{MayMake}
+use Rattle.lock_runtime_c.proofs.MayBegin.{fits, not_barred}
+use Rattle.lock_runtime_c.specs.Told.{barred, IsMade}
 use Rattle.lock_runtime_c.specs.declared.outcome.Outcome.{Outcome}
 use Rattle.lock_runtime_c.proofs.LogRoom.{sizes, grows, exits}
 
@@ -47,7 +49,7 @@ held_sum h p rests =
     ∙ ap (λ f. sum_below (length h.heap.shape.objects) f) (λ i o. own_number h p o rests i)
 
 -- HOW MUCH each call logs
-pub said : (n : ℕ) (es : List Entry) (ms : List StepMade) → entries_of ms ≡ es → sizes es ≤ n → sizes (entries_of ms) ≤ n
+said : (n : ℕ) (es : List Entry) (ms : List StepMade) → entries_of ms ≡ es → sizes es ≤ n → sizes (entries_of ms) ≤ n
 said n es ms is le = subst (λ (x : List Entry). sizes x ≤ n) (sym is) le
 
 silent : (n : ℕ) (ms : List StepMade) → ms ≡ [] → sizes (entries_of ms) ≤ n
@@ -105,22 +107,22 @@ end_logs (ending.Trap f index) = omega arith
 end_logs ending.Spent = omega arith
 end_logs ending.Done = omega arith
 
-pub poll_logs : (k : Start) (ms : List StepMade) (r : _) → PollSays k ms r → sizes (entries_of ms) ≤ 0
+poll_logs : (k : Start) (ms : List StepMade) (r : _) → PollSays k ms r → sizes (entries_of ms) ≤ 0
 poll_logs k ms (Done x) s = said 0 _ ms s.0.entries (omega arith)
 poll_logs k ms (Pending why) s = said 0 _ ms s.0.entries (omega arith)
 
-pub resume_logs : (k : Start) (ms : List StepMade) (r : _) → ResumeSays k ms r → sizes (entries_of ms) ≤ 0
+resume_logs : (k : Start) (ms : List StepMade) (r : _) → ResumeSays k ms r → sizes (entries_of ms) ≤ 0
 resume_logs k ms (Done x) s = said 0 _ ms s.0.entries (omega arith)
 resume_logs k ms (Pending why) s = said 0 _ ms s.0.entries (omega arith)
 
-pub check_logs : (k : Start) (ms : List StepMade) (r : _) → CheckSays k ms r → sizes (entries_of ms) ≤ 0
+check_logs : (k : Start) (ms : List StepMade) (r : _) → CheckSays k ms r → sizes (entries_of ms) ≤ 0
 check_logs k ms (Done x) s = said 0 _ ms s.0.entries (omega arith)
 check_logs k ms (Pending why) s = said 0 _ ms s.0.entries (omega arith)
 
--- WHAT IS LEFT. The pass was p, and is q.
-module _ (h : HeapSeen) (p q : PassSeen) (rp : Rests h p) (rq : Rests h q) (limit : q.limit ≡ p.limit) where
-  pub keeps : (P : List StepMade → Type 0) (t : Tells p.known q.known P) (m : ℕ) → sizes (entries_of t.steps) ≤ m
-      → length p.known.log + (all_holds p.known.holds + m) ≤ p.limit → KeepsRoom q
+-- WHAT IS LEFT, of a bound on the log's length. The pass was p, and is q.
+module _ (bound : ℕ) (h : HeapSeen) (p q : PassSeen) (rp : Rests h p) (rq : Rests h q) where
+  keeps : (P : List StepMade → Type 0) (t : Tells p.known q.known P) (m : ℕ) → sizes (entries_of t.steps) ≤ m
+      → length p.known.log + (all_holds p.known.holds + m) ≤ bound → length q.known.log + all_holds q.known.holds ≤ bound
   keeps P t m few room =
       let n = length h.heap.shape.objects in
       let a = grows n p.known.log t.new in
@@ -128,10 +130,10 @@ module _ (h : HeapSeen) (p q : PassSeen) (rp : Rests h p) (rq : Rests h q) (limi
       let c = held_sum h q rq in
       let d = ap (λ (log : List Logged). length log + sum_below n (held_by nothing_held log)) t.log in
       let e = ap sizes t.entries in
-      omega (arith, a, b, c, d, e, few, room, limit)
+      omega (arith, a, b, c, d, e, few, room)
 
   exit_keeps : (o : ℕ) (r : _) (t : Tells p.known q.known (λ ms. ExitSays (start_now h p) o ms r)) → has_reference h.heap.shape p.known o ≡ true
-      → KeepsRoom p → KeepsRoom q
+      → length p.known.log + all_holds p.known.holds ≤ bound → length q.known.log + all_holds q.known.holds ≤ bound
   exit_keeps o (Ok (Done x)) t known kept =
       let n = length h.heap.shape.objects in
       let within = ltb-true o n (and_parts _ _ known).0 in
@@ -141,7 +143,7 @@ module _ (h : HeapSeen) (p q : PassSeen) (rp : Rests h p) (rq : Rests h q) (limi
       let b = held_sum h p rp in
       let c = held_sum h q rq in
       let d = ap (λ (log : List Logged). length log + sum_below n (held_by nothing_held log)) t.log in
-      omega (arith, a, b, c, d, kept, limit)
+      omega (arith, a, b, c, d, kept)
     where
       positive : (a b : ℕ) → a ≡ b → (a == 0) ≡ false → 1 ≤ b
       positive zero b is some = absurd (cc some)
@@ -150,32 +152,60 @@ module _ (h : HeapSeen) (p q : PassSeen) (rp : Rests h p) (rq : Rests h q) (limi
       keeps (λ ms. ExitSays (start_now h p) o ms (Ok (Pending why))) t 0 (said 0 _ t.steps t.says.1.0.entries (omega arith)) (omega (arith, kept))
   exit_keeps o (Err e) t known kept = keeps (λ ms. ExitSays (start_now h p) o ms (Err e)) t 0 (silent 0 t.steps t.says.1) (omega (arith, kept))
 
-  pub made_keeps : (t : Task) (out : Outcome) → may_begin h.heap.shape h.heap.biasing p.known t ≡ true
-      → length p.known.log + room_for p t ≤ p.limit → KeepsRoom p → IsMade h t p q out → KeepsRoom q
-  made_keeps (task.Enter o now) out may room kept m = keeps _ m.3 2 (enter_logs (start_now h p) o m.3.steps m.0 m.3.says) (omega (arith, room))
-  made_keeps (task.Exit o) out may room kept m = exit_keeps o m.0 m.3 (and_parts _ _ may).0 kept
-  made_keeps (task.Wait o now) out may room kept m =
-      keeps _ m.3 (cond (waits_on p.known.wait o) 1 3) (wait_logs (start_now h p) o m.3.steps m.0 m.3.says) (omega (arith, room))
-  made_keeps (task.Notify o now) out may room kept m = keeps _ m.3 1 (notify_logs (start_now h p) o m.3.steps m.0 m.3.says) (omega (arith, room))
-  made_keeps (task.NotifyAll o now) out may room kept m = keeps _ m.3 1 (notify_all_logs (start_now h p) o m.3.steps m.0 m.3.says) (omega (arith, room))
-  made_keeps (task.Hash o now) out may room kept m = keeps _ m.3 1 (hash_logs (start_now h p) o m.3.steps m.0 m.3.says) (omega (arith, room))
-  made_keeps (task.Get o slot) out may room kept m = keeps _ m.3 1 (get_logs (start_now h p) o slot m.3.steps m.0 m.3.says) (omega (arith, room))
-  made_keeps (task.Put o slot v) out may room kept m = keeps _ m.3 1 (put_logs (start_now h p) o slot v m.3.steps m.0 m.3.says) (omega (arith, room))
-  made_keeps (task.Print v) out may room kept m = keeps _ m.3 1 (said 1 _ m.3.steps m.3.says.entries (omega arith)) (omega (arith, room))
-  made_keeps task.Dump out may room kept m = keeps _ m.3 1 (dump_logs (start_now h p) m.3.steps m.0 m.3.says) (omega (arith, room))
-  made_keeps (task.Create c) out may room kept m = absurd m
-  made_keeps (task.Finish e) out may room kept m = keeps _ m.3 1 (said 1 _ m.3.steps m.3.says.entries (end_logs e)) (omega (arith, room))
+  made_keeps : (t : Task) (out : Outcome) → MayMake h p t → (needs_room t ≡ true → length p.known.log + room_for p t ≤ bound)
+      → length p.known.log + all_holds p.known.holds ≤ bound → IsMade h t p q out → length q.known.log + all_holds q.known.holds ≤ bound
+  made_keeps (task.Enter o now) out may room kept m = let r = room refl in keeps _ m.3 2 (enter_logs (start_now h p) o m.3.steps m.0 m.3.says) (omega (arith, r))
+  made_keeps (task.Notify o now) out may room kept m = let r = room refl in keeps _ m.3 1 (notify_logs (start_now h p) o m.3.steps m.0 m.3.says) (omega (arith, r))
+  made_keeps (task.NotifyAll o now) out may room kept m = let r = room refl in keeps _ m.3 1 (notify_all_logs (start_now h p) o m.3.steps m.0 m.3.says) (omega (arith, r))
+  made_keeps (task.Hash o now) out may room kept m = let r = room refl in keeps _ m.3 1 (hash_logs (start_now h p) o m.3.steps m.0 m.3.says) (omega (arith, r))
+  made_keeps (task.Get o slot) out may room kept m = let r = room refl in keeps _ m.3 1 (get_logs (start_now h p) o slot m.3.steps m.0 m.3.says) (omega (arith, r))
+  made_keeps (task.Put o slot v) out may room kept m = let r = room refl in keeps _ m.3 1 (put_logs (start_now h p) o slot v m.3.steps m.0 m.3.says) (omega (arith, r))
+  made_keeps (task.Print v) out may room kept m = let r = room refl in keeps _ m.3 1 (said 1 _ m.3.steps m.3.says.entries (omega arith)) (omega (arith, r))
+  made_keeps task.Dump out may room kept m = let r = room refl in keeps _ m.3 1 (dump_logs (start_now h p) m.3.steps m.0 m.3.says) (omega (arith, r))
+  made_keeps (task.Finish e) out may room kept m = let r = room refl in keeps _ m.3 1 (said 1 _ m.3.steps m.3.says.entries (end_logs e)) (omega (arith, r))
+  made_keeps (task.Wait o now) out may room kept m = let r = room refl in keeps _ m.3 (cond (waits_on p.known.wait o) 1 3) (wait_logs (start_now h p) o m.3.steps m.0 m.3.says) (omega (arith, r))
   made_keeps task.Poll out may room kept m = keeps _ m.3 0 (poll_logs (start_now h p) m.3.steps m.0 m.3.says) (omega (arith, kept))
   made_keeps task.Stop out may room kept m = keeps _ m.3 0 (said 0 _ m.3.steps m.3.says.0.entries (omega arith)) (omega (arith, kept))
   made_keeps task.Resume out may room kept m = keeps _ m.3 0 (resume_logs (start_now h p) m.3.steps m.0 m.3.says) (omega (arith, kept))
   made_keeps task.Check out may room kept m = keeps _ m.3 0 (check_logs (start_now h p) m.3.steps m.0 m.3.says) (omega (arith, kept))
+  made_keeps (task.Exit o) out may room kept m = exit_keeps o m.0 m.3 (and_parts _ _ may.call.may).0 kept
+  made_keeps (task.Create c) out may room kept m = absurd m
   made_keeps (task.StackEnter o mark) out may room kept m = absurd m
   made_keeps (task.StackExit o) out may room kept m = absurd m
   made_keeps task.Request out may room kept m = absurd m
   made_keeps task.Reached out may room kept m = absurd m
   made_keeps task.Release out may room kept m = absurd m
 
-  pub told_keeps : (t : Task) (out : Outcome) → may_begin h.heap.shape h.heap.biasing p.known t ≡ true
-      → length p.known.log + room_for p t ≤ p.limit → KeepsRoom p → Told h t p q out → KeepsRoom q
-  told_keeps t out may room kept (inl unmade) = subst KeepsRoom (sym unmade.1) kept
-  told_keeps t out may room kept (inr made) = made_keeps t out may room kept made
+module _ (h : HeapSeen) (p q : PassSeen) (rp : Rests h p) (rq : Rests h q) (limit : q.limit ≡ p.limit) where
+  roomy : (t : Task) → is_full p t ≡ false → needs_room t ≡ true → Fits p (room_for p t)
+  roomy (task.Enter o now) full needs = fits p _ full
+  roomy (task.Exit o) full needs = fits p _ full
+  roomy (task.Wait o now) full needs = fits p _ full
+  roomy (task.Notify o now) full needs = fits p _ full
+  roomy (task.NotifyAll o now) full needs = fits p _ full
+  roomy (task.Hash o now) full needs = fits p _ full
+  roomy (task.Get o slot) full needs = fits p _ full
+  roomy (task.Put o slot v) full needs = fits p _ full
+  roomy (task.Print v) full needs = fits p _ full
+  roomy task.Dump full needs = fits p _ full
+  roomy (task.Create c) full needs = fits p _ full
+  roomy (task.Finish e) full needs = fits p _ full
+  roomy (task.StackEnter o mark) full needs = fits p _ full
+  roomy (task.StackExit o) full needs = fits p _ full
+  roomy task.Request full needs = fits p _ full
+  roomy task.Reached full needs = fits p _ full
+  roomy task.Release full needs = fits p _ full
+  roomy task.Poll full needs = absurd (cc needs)
+  roomy task.Stop full needs = absurd (cc needs)
+  roomy task.Resume full needs = absurd (cc needs)
+  roomy task.Check full needs = absurd (cc needs)
+
+  -- a call that wasn't barred leaves the room that the log has to keep
+  pub begun_keeps : (t : Task) (out : Outcome) → MayMake h p t → barred h p t ≡ None → KeepsRoom p → IsMade h t p q out → KeepsRoom q
+  begun_keeps t out may none kept made =
+      let full = (not_barred h p t none).1 in
+      let page = made_keeps p.limit h p q rp rq t out may (λ needs. (roomy t full needs).page) kept.page made in
+      record {
+        page = omega (arith, page, limit);
+        stamps = made_keeps log_limit h p q rp rq t out may (λ needs. (roomy t full needs).stamps) kept.stamps made;
+      }

@@ -7,3 +7,4 @@ mod MayBegin
 mod Threads
 mod Closed
 mod Seated
+mod ByHandle

@@ -1,5 +1,5 @@
 -- A call is of one thread.
-use Rattle.std.proofs.Common.{◌≡◌, ℕ, List, ap, ◌∙◌, inl, inr}
+use Rattle.std.proofs.Common.{◌≡◌, ℕ, List, Option, Some, None, ap, ◌∙◌}
 use Rattle.core_world.specs.Due.{Runs}
 use Rattle.core_world.specs.Steps.{known_after}
 use Rattle.core_world.specs.Threads.Known.{Known, StepMade}
@@ -9,7 +9,7 @@ use Rattle.core_world.specs.declared.task.Task.{Task}
 use Rattle.core_world.specs.declared.task.Task.TheVariants as task
 use Rattle.heap_table.specs.Seen.{HeapSeen, PassSeen}
 use Rattle.heap_table.proofs.Knows.{same_thread}
-use Rattle.lock_runtime_c.specs.Told.{HasResult, IsMade, Told}
+use Rattle.lock_runtime_c.specs.Told.{barred, HasResult, IsMade, Told, ToldBy}
 use Rattle.lock_runtime_c.specs.declared.outcome.Outcome.{Outcome}
 
 steps_thread : {A : Type 0} (s : Shape) (start : ℕ) (d : Todo A) (k l : Known) (a : A) → Runs s start d k l a → l.thread ≡ k.thread
@@ -18,33 +18,36 @@ steps_thread s start never k l a run = absurd run
 steps_thread s start (step p f) k l a run = steps_thread s start (f run.0) (known_after s start p run.0 k) l a run.1 ∙ same_thread s start p run.0 k
 
 module _ (h : HeapSeen) (p q : PassSeen) (out : Outcome) where
-  of_result : {R : Type 0} (d : Todo R) (says : List StepMade → R → Type 0) (told : R → Outcome) → HasResult h d says told p q out
+  of_result : {R : Type 0} (d : Todo R) (says : List StepMade → R → Type 0) (leaves : R → Type 0) (told : R → Outcome) → HasResult h d says leaves told p q out
       → q.known.thread ≡ p.known.thread
-  of_result d says told m = steps_thread h.heap.shape h.heap.start d p.known q.known m.0 m.2.by
+  of_result d says leaves told m = steps_thread h.heap.shape h.heap.start d p.known q.known m.0 m.2.by
 
   made_thread : (t : Task) → IsMade h t p q out → q.known.thread ≡ p.known.thread
-  made_thread (task.Enter o now) m = of_result _ _ _ m
-  made_thread (task.Exit o) m = of_result _ _ _ m
-  made_thread (task.Wait o now) m = of_result _ _ _ m
-  made_thread (task.Notify o now) m = of_result _ _ _ m
-  made_thread (task.NotifyAll o now) m = of_result _ _ _ m
-  made_thread (task.Hash o now) m = of_result _ _ _ m
-  made_thread (task.Get o slot) m = of_result _ _ _ m
-  made_thread (task.Put o slot v) m = of_result _ _ _ m
-  made_thread (task.Print v) m = of_result _ _ _ m
-  made_thread task.Dump m = of_result _ _ _ m
+  made_thread (task.Enter o now) m = of_result _ _ _ _ m
+  made_thread (task.Exit o) m = of_result _ _ _ _ m
+  made_thread (task.Wait o now) m = of_result _ _ _ _ m
+  made_thread (task.Notify o now) m = of_result _ _ _ _ m
+  made_thread (task.NotifyAll o now) m = of_result _ _ _ _ m
+  made_thread (task.Hash o now) m = of_result _ _ _ _ m
+  made_thread (task.Get o slot) m = of_result _ _ _ _ m
+  made_thread (task.Put o slot v) m = of_result _ _ _ _ m
+  made_thread (task.Print v) m = of_result _ _ _ _ m
+  made_thread task.Dump m = of_result _ _ _ _ m
   made_thread (task.Create c) m = absurd m
-  made_thread (task.Finish e) m = of_result _ _ _ m
-  made_thread task.Poll m = of_result _ _ _ m
-  made_thread task.Stop m = of_result _ _ _ m
-  made_thread task.Resume m = of_result _ _ _ m
-  made_thread task.Check m = of_result _ _ _ m
+  made_thread (task.Finish e) m = of_result _ _ _ _ m
+  made_thread task.Poll m = of_result _ _ _ _ m
+  made_thread task.Stop m = of_result _ _ _ _ m
+  made_thread task.Resume m = of_result _ _ _ _ m
+  made_thread task.Check m = of_result _ _ _ _ m
   made_thread (task.StackEnter o mark) m = absurd m
   made_thread (task.StackExit o) m = absurd m
   made_thread task.Request m = absurd m
   made_thread task.Reached m = absurd m
   made_thread task.Release m = absurd m
 
+  told_by : (why : Option Outcome) (t : Task) → ToldBy why h t p q out → q.known.thread ≡ p.known.thread
+  told_by (Some why) t told = ap (λ (x : PassSeen). x.known.thread) told.1
+  told_by None t told = made_thread t told
+
   pub told_thread : (t : Task) → Told h t p q out → q.known.thread ≡ p.known.thread
-  told_thread t (inl unmade) = ap (λ (x : PassSeen). x.known.thread) unmade.1
-  told_thread t (inr made) = made_thread t made
+  told_thread t told = told_by (barred h p t) t told

@@ -28,13 +28,13 @@ pub record IsLeftOf (h : HeapSeen) (c : ClosedSeen) : Type 0 where
   pub stamps : StampsAreExact (logs_of passes)
   pub biases : All (λ (p : PassSeen). p.known.unfinished ≡ None) passes → BiasesAtEnd 0 h.heap c.words (logs_of passes) (knowns passes)
 
--- a heap is closed, or stays where a thread has a pass still or memory is wanting
+-- a heap is closed, or stays where a thread has a pass still or memory is wanting; where a pass was lost nothing is left of it
 abbrev pub ClosesHeap : HeapSeen → Inner → Inner → Outcome → Type 0
 ClosesHeap h before after out =
     ((out ≡ Done Nothing) × (c : ClosedSeen) × (after ≡ inner.Closed c) × IsLeftOf h c)
     ⊎ ((out ≡ Misused InUse) × (after ≡ before))
     ⊎ ((out ≡ NoMemory) × (after ≡ before))
-    ⊎ (out ≡ Misused PassLost)
+    ⊎ ((out ≡ Misused PassLost) × (after ≡ inner.Gone))
 
 -- anything else isn't
 abbrev pub Closes : Inner → Inner → Outcome → Type 0

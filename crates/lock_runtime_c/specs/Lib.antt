@@ -9,3 +9,7 @@ pub mod Pages
 pub mod Closing
 pub mod Left
 pub mod inner
+pub mod Reasons
+pub mod Planning
+pub mod Opening
+pub mod Leaving

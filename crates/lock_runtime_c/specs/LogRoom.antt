@@ -1,14 +1,20 @@
 -- The room that a thread's log keeps.
-use Rattle.std.specs.Prelude.{ℕ, ◌+◌, ◌≤◌, length, if◌then◌else◌}
+use Rattle.std.specs.Prelude.{ℕ, ◌+◌, ◌≤◌, ◌&&◌, nat_le, not, Bool, true, false, length, if◌then◌else◌}
 use Rattle.core_world.specs.declared.task.Task.{Task}
-use Rattle.core_world.specs.declared.task.Task.TheVariants.{Enter, Exit, Wait, Finish}
+use Rattle.core_world.specs.declared.task.Task.TheVariants.{Enter, Exit, Wait, Finish, Poll, Stop, Resume, Check}
+use Rattle.core_world.specs.Clauses.Lengths.{log_limit}
 use Rattle.core_world.specs.Words.Forms.{waits_on}
 use Rattle.heap_table.specs.Kept.{all_holds}
-use Rattle.heap_table.specs.Seen.{PassSeen}
+use Rattle.heap_table.specs.Seen.{HeapSeen, PassSeen}
+
+-- so many entries more fit into the page, and into what stamps allow a log
+pub record Fits (p : PassSeen) (entries : ℕ) : Type 0 where
+  pub page : length p.known.log + entries ≤ p.limit
+  pub stamps : length p.known.log + entries ≤ log_limit
 
 -- the log has room for an exit of each hold
 abbrev pub KeepsRoom : PassSeen → Type 0
-KeepsRoom p = length p.known.log + all_holds p.known.holds ≤ p.limit
+KeepsRoom p = Fits p (all_holds p.known.holds)
 
 -- For how many entries it has to have room before the call. An exit only takes up what its hold had kept. All else
 -- leaves the room that each hold needs for its exit, and but for an end and a wait that has let go it leaves one more, for these; an enter is a hold
@@ -19,3 +25,15 @@ room_for p (Finish ending) = all_holds p.known.holds + 1
 room_for p (Wait o now) = all_holds p.known.holds + (if waits_on p.known.wait o then 1 else 3)
 room_for p (Enter o now) = all_holds p.known.holds + 3
 room_for p _ = all_holds p.known.holds + 2
+
+-- calls that log nothing need none
+abbrev pub needs_room : Task → Bool
+needs_room Poll = false
+needs_room Stop = false
+needs_room Resume = false
+needs_room Check = false
+needs_room t = true
+
+-- the log hasn't that room
+abbrev pub is_full : PassSeen → Task → Bool
+is_full p t = needs_room t && not (nat_le (length p.known.log + room_for p t) p.limit && nat_le (length p.known.log + room_for p t) log_limit)

@@ -1,5 +1,5 @@
 -- The numbers by which C is told.
-use Rattle.std.specs.Prelude.{◌≡◌, ℕ, List, slice_get, pos, Bool, true, false, Option, Some, None, if◌then◌else◌, ◌==◌}
+use Rattle.std.specs.Prelude.{ℕ, pos, Bool, true, false, Option, Some, None, if◌then◌else◌, ◌==◌}
 use Rattle.plain_monitor.specs.declared.entry.Entry.{Entry}
 use Rattle.plain_monitor.specs.declared.entry.Entry.TheVariants as entry
 use Rattle.plain_monitor.specs.declared.entry.Fault.{Fault}
@@ -126,10 +126,6 @@ row_of l = record {
   number = (parts_of l.entry).3;
   value = cell_of (value_in l.entry);
 }
-
--- the row of the log's entry with this number
-abbrev pub IsEntry : List Logged → ℕ → Row → Type 0
-IsEntry log number row = (logged : Logged) × (slice_get log number ≡ Some logged) × (row ≡ row_of logged)
 
 -- ANSWERS
 abbrev pub with_kind : ℕ → ℕ → ℕ → Answer

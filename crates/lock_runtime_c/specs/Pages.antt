@@ -1,7 +1,12 @@
 -- A page of a thread's log, as it is handed out.
-use Rattle.std.specs.Prelude.{◌≡◌, ◌⊎◌, ℕ, ◌+◌, List, length}
+use Rattle.std.specs.Prelude.{◌≡◌, ◌⊎◌, ℕ, ◌+◌, List, length, Option, Some, None}
+use Rattle.core_world.specs.declared.task.Unfinished.{Unfinished}
 use Rattle.plain_monitor.specs.declared.entry.Logged.{Logged}
 use Rattle.heap_table.specs.Seen.{PassSeen, page_of}
+use Rattle.lock_runtime_c.specs.Left.{entry_answer, entry_row}
+use Rattle.lock_runtime_c.specs.Numbers.{misused, op_number, plain, with_kind}
+use Rattle.lock_runtime_c.specs.declared.answers.Answer.{Answer}
+use Rattle.lock_runtime_c.specs.declared.numbers.Row.{Row}
 use Rattle.lock_runtime_c.specs.declared.inner.Inner.{Inner}
 use Rattle.lock_runtime_c.specs.declared.inner.Inner.TheVariants as inner
 use Rattle.lock_runtime_c.specs.declared.inner.Seat.{Seat}
@@ -24,7 +29,25 @@ TakesPage (inner.Seat s) after out =
     ⊎ ((out ≡ NoMemory) × (z.lent.thing ≡ s.lent.thing)))
 TakesPage before after out = (after ≡ before) × (out ≡ Misused OtherKind)
 
--- so many entries the thread's log has
-abbrev pub HasLength : Inner → ℕ → Type 0
-HasLength (inner.Seat s) count = count ≡ length s.lent.thing.known.log
-HasLength _ count = ⊥
+-- how many entries the thread's log has
+abbrev pub length_answer : Inner → Answer
+length_answer (inner.Seat s) = with_kind 0 0 (length s.lent.thing.known.log)
+length_answer _ = misused OtherKind
+
+-- an entry of the page that lies in the handle
+abbrev pub page_answer : Inner → ℕ → Answer
+page_answer (inner.Seat s) number = entry_answer s.page.items number
+page_answer _ number = misused OtherKind
+
+abbrev pub page_row : Inner → ℕ → Option Row
+page_row (inner.Seat s) number = entry_row s.page.items number
+page_row _ number = None
+
+-- the operation of the thread that is unfinished, with its object
+abbrev pub left_answer : Option Unfinished → Answer
+left_answer None = plain 0
+left_answer (Some u) = with_kind 0 (op_number u.op) u.object
+
+abbrev pub unfinished_answer : Inner → Answer
+unfinished_answer (inner.Seat s) = left_answer s.lent.thing.known.unfinished
+unfinished_answer _ = misused OtherKind

@@ -1,13 +1,13 @@
 //! The calls on a pass, by their tasks.
-ghost use Rattle.std.specs.Prelude.{◌≡◌};
+ghost use Rattle.std.specs.Prelude.{◌≡◌, None};
 ghost use Rattle.core_world.specs.declared.task.Task.TheVariants as task;
 ghost use Rattle.heap_table.specs.Resting.{MayCall, MayOperate, Rests};
 ghost use Rattle.lock_runtime_c.specs.LogRoom.{KeepsRoom};
-ghost use Rattle.lock_runtime_c.specs.Told.{IsMade, IsUnmade, Told};
+ghost use Rattle.lock_runtime_c.specs.Told.{barred, IsMade, Told};
+ghost use Rattle.lock_runtime_c.specs.inner.MayMake.{MayMake};
 
-use crate::asked::{has_room, may_begin};
 use crate::outcome::{Misuse, Outcome, Said};
-use crate::reasons::reason;
+use crate::reasons::{first_reason, is_full};
 use crate::told::{checked, dumped, entered, got, hashed, owned, stored, turned, woke, woke_all};
 use core_world::Task;
 use heap_table::{Heap, Pass};
@@ -152,14 +152,33 @@ fn check_stuck(heap: &Heap, pass: &mut Pass) -> Outcome
     checked(runtime::check_stuck(heap, pass))
 }
 
-// An operation, for which the log has room.
-fn operate(heap: &Heap, pass: &mut Pass, task: Task) -> Outcome
-    requires { MayOperate heap.now pass.old task }
+// What can't begin: a misuse, or the log has no room for it.
+fn barred(heap: &Heap, pass: &Pass, task: Task) -> Option<Outcome>
+    requires { Rests heap.now pass.now }
+    ensures why { result ≡ barred heap.now pass.now task }
+    ensures may { result ≡ None → MayMake heap.now pass.now task }
+{
+    if let Some(why) = first_reason(heap, pass, task) {
+        return Some(Outcome::Misused(why));
+    }
+    if is_full(pass, task) {
+        return Some(Outcome::Full);
+    }
+    None
+}
+
+// The call of this task, which may begin.
+fn begin(heap: &Heap, pass: &mut Pass, task: Task) -> Outcome
+    requires { MayMake heap.now pass.old task }
     ensures rests { Rests heap.now pass.new }
     ensures limit { pass.new.limit ≡ pass.old.limit }
-    ensures told { Told heap.now task pass.old pass.new result }
+    ensures made { IsMade heap.now task pass.old pass.new result }
 {
     match task {
+        Task::Poll => poll(heap, pass),
+        Task::Stop => stop(heap, pass),
+        Task::Resume => resume(heap, pass),
+        Task::Check => check_stuck(heap, pass),
         Task::Enter { object, now } => enter(heap, pass, object, now),
         Task::Exit { object } => exit(heap, pass, object),
         Task::Wait { object, now } => wait(heap, pass, object, now),
@@ -175,23 +194,8 @@ fn operate(heap: &Heap, pass: &mut Pass, task: Task) -> Outcome
         Task::Print { value } => print(heap, pass, value),
         Task::Dump => dump(heap, pass),
         Task::Finish { ending } => finish(heap, pass, ending),
+        // no such call may begin
         _ => Outcome::Misused(Misuse::OtherKind),
-    }
-}
-
-// Why the call can't begin. Where there is no other reason, the log is as long as any log may be.
-fn unmade(heap: &Heap, pass: &Pass, task: Task) -> Outcome
-    ensures { IsUnmade task pass.now pass.now result }
-{
-    match reason(heap, pass, task) {
-        Some(why) => Outcome::Misused(why),
-        None => {
-            if has_room(pass, task) {
-                Outcome::Misused(Misuse::OtherKind)
-            } else {
-                Outcome::Full
-            }
-        }
     }
 }
 
@@ -202,20 +206,8 @@ pub fn make(heap: &Heap, pass: &mut Pass, task: Task) -> Outcome
     ensures told { Told heap.now task pass.old pass.new result }
     ensures room { KeepsRoom pass.old → KeepsRoom pass.new }
 {
-    if !may_begin(heap, pass, task) {
-        return unmade(heap, pass, task);
-    }
-    match task {
-        Task::Poll => poll(heap, pass),
-        Task::Stop => stop(heap, pass),
-        Task::Resume => resume(heap, pass),
-        Task::Check => check_stuck(heap, pass),
-        _ => {
-            if has_room(pass, task) {
-                operate(heap, pass, task)
-            } else {
-                Outcome::Full
-            }
-        }
+    match barred(heap, pass, task) {
+        Some(why) => why,
+        None => begin(heap, pass, task),
     }
 }

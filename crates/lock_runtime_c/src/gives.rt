@@ -1,11 +1,13 @@
 //! How passes and heaps are given back, and how a heap is closed, for C.
 ghost use Rattle.std.specs.Prelude.{◌≡◌, ◌≤◌, [], IfErr, IfOk, None, vec_capacity};
 ghost use Rattle.lock_runtime_c.specs.ByHandle.{AnswersOf, ByHandleOf};
+ghost use Rattle.lock_runtime_c.specs.Leaving.{Empties, leave_reason, not_freed, not_left};
 ghost use Rattle.lock_runtime_c.specs.Closing.{Closes, ClosesHeap, IsLeftOf};
 ghost use Rattle.lock_runtime_c.specs.Rest.{IsHome, IsSeated, RestsWithin};
 ghost use Rattle.lock_runtime_c.specs.inner.Parting.{MayLeave};
 ghost use Rattle.lock_runtime_c.specs.declared.inner.Inner.TheVariants as inner;
 ghost use Rattle.lock_runtime_c.specs.declared.outcome.Misuse.TheVariants as misuse;
+ghost use Rattle.lock_runtime_c.specs.declared.outcome.Outcome.TheVariants.{Misused};
 
 use crate::answers::{Answer, answered};
 use crate::handle::Slot;
@@ -20,7 +22,8 @@ use std::sync::Arc;
 // Why the pass may not be given back. That of a halted run may, whatever its thread holds.
 fn may_not_leave(seat: &Seat) -> Option<Misuse>
     requires { IsSeated seat.now.room.value.heap seat.now.lent.place seat.now.lent.thing }
-    ensures { result ≡ None → IsHome seat.now.room.value.heap seat.now.lent.place seat.now.lent.thing }
+    ensures why { result ≡ leave_reason seat.now.lent.thing }
+    ensures home { result ≡ None → IsHome seat.now.room.value.heap seat.now.lent.place seat.now.lent.thing }
 {
     let pass = &seat.lent.thing;
     if pass.running() {
@@ -43,7 +46,8 @@ fn may_not_leave(seat: &Seat) -> Option<Misuse>
 
 fn may_not_go(held: &Inner) -> Option<Misuse>
     requires { RestsWithin held.now }
-    ensures { result ≡ None → MayLeave held.now }
+    ensures why { result ≡ not_left held.now }
+    ensures home { result ≡ None → MayLeave held.now }
 {
     match held {
         Inner::Seat(seat) => may_not_leave(seat),
@@ -66,14 +70,16 @@ fn go_home(held: Inner)
 
 /// Gives the thread's pass back. Its handle is empty then.
 #[unsafe(no_mangle)]
-pub extern "C" fn biasrun_leave(alloc: Global, at: &mut Slot) -> Answer {
+pub extern "C" fn biasrun_leave(alloc: Global, at: &mut Slot) -> Answer
+    ensures { Empties not_left at.old at.new result }
+{
     let Some(held) = at.take(alloc) else {
         return answered(Outcome::Misused(Misuse::Empty));
     };
     match may_not_go(&*held) {
-        Some(misuse) => {
+        Some(why) => {
             at.put(alloc, held);
-            answered(Outcome::Misused(misuse))
+            answered(Outcome::Misused(why))
         }
         None => {
             go_home(Box::into_inner(held));
@@ -138,7 +144,7 @@ fn close_within(alloc: Global, held: &mut Inner) -> Outcome
 }
 
 fn close_by(alloc: Global, at: &mut Slot) -> Outcome
-    ensures { ByHandleOf Closes at.old at.new result }
+    ensures { ByHandleOf Closes (Misused misuse.Empty) at.old at.new result }
 {
     let Some(mut held) = at.take(alloc) else {
         return Outcome::Misused(Misuse::Empty);
@@ -156,16 +162,28 @@ pub extern "C" fn biasrun_close(alloc: Global, at: &mut Slot) -> Answer
     answered(close_by(alloc, at))
 }
 
+fn may_not_be_freed(held: &Inner) -> Option<Misuse>
+    ensures { result ≡ not_freed held.now }
+{
+    match held {
+        Inner::Seat(_) => Some(Misuse::OtherKind),
+        _ => None,
+    }
+}
+
 /// Gives back what the handle has, but for a pass. Its handle is empty then. Passes that were taken stay.
 #[unsafe(no_mangle)]
-pub extern "C" fn biasrun_free(alloc: Global, at: &mut Slot) -> Answer {
+pub extern "C" fn biasrun_free(alloc: Global, at: &mut Slot) -> Answer
+    ensures { Empties not_freed at.old at.new result }
+{
     let Some(held) = at.take(alloc) else {
         return answered(Outcome::Misused(Misuse::Empty));
     };
-    let is_pass = matches!(&*held, Inner::Seat(_));
-    if is_pass {
-        at.put(alloc, held);
-        return answered(Outcome::Misused(Misuse::OtherKind));
+    match may_not_be_freed(&*held) {
+        Some(why) => {
+            at.put(alloc, held);
+            answered(Outcome::Misused(why))
+        }
+        None => answered(Outcome::Done(Said::Nothing)),
     }
-    answered(Outcome::Done(Said::Nothing))
 }

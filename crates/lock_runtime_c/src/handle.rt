@@ -1,5 +1,5 @@
 //! What C holds: the pointer of a box, or nothing.
-ghost use Rattle.std.specs.Prelude.{◌≡◌, false, None, Some, IsSome, IfSome};
+ghost use Rattle.std.specs.Prelude.{◌≡◌, ◌==◌, not, None, Some, IsSome, IfSome};
 ghost use Rattle.std.specs.Prelude.{Option};
 ghost use Rattle.lock_runtime_c.specs.declared.inner.Inner.{Inner};
 ghost use Rattle.lock_runtime_c.specs.Rest.{RestsWithin};
@@ -76,7 +76,7 @@ pub struct Slot {
 
 impl Slot {
     pub fn is_live(&self) -> bool
-        ensures { result ≡ false → self.now.live ≡ 0 }
+        ensures { result ≡ not (self.now.live == 0) }
     {
         self.live != 0
     }

@@ -1,15 +1,19 @@
 //! What is left of a closed heap, for C.
-ghost use Rattle.std.specs.Prelude.{◌≡◌, IfSome, slice_get, Some};
-ghost use Rattle.lock_runtime_c.specs.ByHandle.{Reads};
-ghost use Rattle.lock_runtime_c.specs.Left.{HasCell, HasCounts, HasCut, HasRest, HasRestEntry, WasHalted, owner_word};
+ghost use Rattle.std.specs.Prelude.{◌≡◌, Err, IfErr, IfOk, Ok, option_map, slice_get, unwrap_or};
+ghost use Rattle.heap_table.specs.declared.shots.Cell.{Cell};
+ghost use Rattle.lock_runtime_c.specs.ByHandle.{Reads, ReadsInto};
+ghost use Rattle.lock_runtime_c.specs.Left as left;
+ghost use Rattle.lock_runtime_c.specs.Numbers.{misused};
 
 use crate::answers::{Answer, answered, done_with};
 use crate::handle::Slot;
 use crate::inner::Inner;
-use crate::logs::entry_at;
+use crate::logs::read_entry;
+use crate::nth::nth;
 use crate::numbers::{Row, bool_number};
 use crate::outcome::{Misuse, Outcome, Said};
-use heap_table::{Cell, Shot};
+use heap_table::{Cell, ClassCounts, Shot};
+use plain_monitor::List;
 use std::alloc::Global;
 
 /// The verdicts on a class that a thread carried out, as `heap_table::ClassCounts` has them.
@@ -26,19 +30,19 @@ pub struct Counts {
     pub reset: u64,
 }
 
-fn misuse(misuse: Misuse) -> Answer
-    ensures { result.kind ≡ 3 }
+fn misuse(why: Misuse) -> Answer
+    ensures { result ≡ misused why }
 {
-    answered(Outcome::Misused(misuse))
+    answered(Outcome::Misused(why))
 }
 
 fn length_in(held: &Inner, thread: u32) -> Answer
-    ensures { result.kind ≡ 0 → HasRest held.now thread result.word }
+    ensures { result ≡ left.rest_answer held.now thread }
 {
     let Inner::Closed(closed) = held else {
         return misuse(Misuse::OtherKind);
     };
-    match closed.logs().items().get(thread as usize) {
+    match nth(closed.logs().items(), thread as u64) {
         Some(log) => done_with(log.items().len() as u64),
         None => misuse(Misuse::NoThread),
     }
@@ -47,7 +51,7 @@ fn length_in(held: &Inner, thread: u32) -> Answer
 /// How many entries of the thread's log no page had.
 #[unsafe(no_mangle)]
 pub extern "C" fn biasrun_rest_length(alloc: Global, at: &mut Slot, thread: u32) -> Answer
-    ensures { Reads (λ x. HasRest x thread result.word) at.old at.new result }
+    ensures { Reads (λ x. left.rest_answer x thread) at.old at.new result }
 {
     let Some(held) = at.take(alloc) else {
         return answered(Outcome::Misused(Misuse::Empty));
@@ -58,20 +62,15 @@ pub extern "C" fn biasrun_rest_length(alloc: Global, at: &mut Slot, thread: u32)
 }
 
 fn entry_in(held: &Inner, thread: u32, number: u64, out: &mut Row) -> Answer
-    ensures { result.kind ≡ 0 → HasRestEntry held.now thread number out.new }
+    ensures answer { result ≡ left.rest_entry_answer held.now thread number }
+    ensures found { out.new ≡ unwrap_or (left.rest_row held.now thread number) out.old }
 {
     let Inner::Closed(closed) = held else {
         return misuse(Misuse::OtherKind);
     };
-    let Some(log) = closed.logs().items().get(thread as usize) else {
-        return misuse(Misuse::NoThread);
-    };
-    match entry_at(log.items(), number) {
-        Ok(row) => {
-            *out = row;
-            answered(Outcome::Done(Said::Nothing))
-        }
-        Err(why) => misuse(why),
+    match nth(closed.logs().items(), thread as u64) {
+        Some(log) => read_entry(log.items(), number, out),
+        None => misuse(Misuse::NoThread),
     }
 }
 
@@ -84,7 +83,8 @@ pub extern "C" fn biasrun_rest_entry(
     number: u64,
     out: &mut Row,
 ) -> Answer
-    ensures { Reads (λ x. HasRestEntry x thread number out.new) at.old at.new result }
+    ensures { ReadsInto (λ x. left.rest_entry_answer x thread number) (λ x. left.rest_row x thread number)
+        at.old at.new out.old out.new result }
 {
     let Some(held) = at.take(alloc) else {
         return answered(Outcome::Misused(Misuse::Empty));
@@ -94,16 +94,11 @@ pub extern "C" fn biasrun_rest_entry(
     answer
 }
 
-fn counts_in(held: &Inner, thread: u32, class: u32, out: &mut Counts) -> Answer
-    ensures { result.kind ≡ 0 → HasCounts held.now thread class out.new }
+fn counts_at(all: &[ClassCounts], class: u32, out: &mut Counts) -> Answer
+    ensures answer { result ≡ left.class_answer all.now class }
+    ensures found { out.new ≡ unwrap_or (left.class_counts all.now class) out.old }
 {
-    let Inner::Closed(closed) = held else {
-        return misuse(Misuse::OtherKind);
-    };
-    let Some(all) = closed.counts().items().get(thread as usize) else {
-        return misuse(Misuse::NoThread);
-    };
-    match all.items().get(class as usize) {
+    match nth(all, class as u64) {
         Some(counts) => {
             *out = Counts {
                 single: counts.single,
@@ -117,6 +112,19 @@ fn counts_in(held: &Inner, thread: u32, class: u32, out: &mut Counts) -> Answer
     }
 }
 
+fn counts_in(held: &Inner, thread: u32, class: u32, out: &mut Counts) -> Answer
+    ensures answer { result ≡ left.counts_answer held.now thread class }
+    ensures found { out.new ≡ unwrap_or (left.counts_found held.now thread class) out.old }
+{
+    let Inner::Closed(closed) = held else {
+        return misuse(Misuse::OtherKind);
+    };
+    match nth(closed.counts().items(), thread as u64) {
+        Some(all) => counts_at(all.items(), class, out),
+        None => misuse(Misuse::NoThread),
+    }
+}
+
 /// The verdicts on the class that the thread carried out. `out` is as it was where there is no such thread or class.
 #[unsafe(no_mangle)]
 pub extern "C" fn biasrun_class_counts(
@@ -126,7 +134,8 @@ pub extern "C" fn biasrun_class_counts(
     class: u32,
     out: &mut Counts,
 ) -> Answer
-    ensures { Reads (λ x. HasCounts x thread class out.new) at.old at.new result }
+    ensures { ReadsInto (λ x. left.counts_answer x thread class) (λ x. left.counts_found x thread class)
+        at.old at.new out.old out.new result }
 {
     let Some(held) = at.take(alloc) else {
         return answered(Outcome::Misused(Misuse::Empty));
@@ -136,21 +145,38 @@ pub extern "C" fn biasrun_class_counts(
     answer
 }
 
+fn cut_of(shot: &Shot, other: u32) -> Answer
+    ensures { result ≡ left.shot_cut other shot.now }
+{
+    match nth(shot.cut.items(), other as u64) {
+        Some(entries) => done_with(*entries),
+        None => misuse(Misuse::NoThread),
+    }
+}
+
+// The dump of the thread with this number, from 0, or why there is none.
+fn shot_in(shots: &List<List<Shot>>, thread: u32, dump: u32) -> Result<&Shot, Misuse>
+    ensures found { IfOk result (λ s. left.shot_at shots.now thread dump ≡ Ok s.now) }
+    ensures none { IfErr result (λ why. left.shot_at shots.now thread dump ≡ Err why) }
+{
+    match nth(shots.items(), thread as u64) {
+        None => Err(Misuse::NoThread),
+        Some(shots) => match nth(shots.items(), dump as u64) {
+            None => Err(Misuse::NoDump),
+            Some(shot) => Ok(shot),
+        },
+    }
+}
+
 fn cut_in(held: &Inner, thread: u32, dump: u32, other: u32) -> Answer
-    ensures { result.kind ≡ 0 → HasCut held.now thread dump other result.word }
+    ensures { result ≡ left.cut_answer held.now thread dump other }
 {
     let Inner::Closed(closed) = held else {
         return misuse(Misuse::OtherKind);
     };
-    let Some(shots) = closed.shots().items().get(thread as usize) else {
-        return misuse(Misuse::NoThread);
-    };
-    let Some(shot) = shots.items().get(dump as usize) else {
-        return misuse(Misuse::NoDump);
-    };
-    match shot.cut.items().get(other as usize) {
-        Some(entries) => done_with(*entries),
-        None => misuse(Misuse::NoThread),
+    match shot_in(closed.shots(), thread, dump) {
+        Ok(shot) => cut_of(shot, other),
+        Err(why) => misuse(why),
     }
 }
 
@@ -163,7 +189,7 @@ pub extern "C" fn biasrun_dump_cut(
     dump: u32,
     other: u32,
 ) -> Answer
-    ensures { Reads (λ x. HasCut x thread dump other result.word) at.old at.new result }
+    ensures { Reads (λ x. left.cut_answer x thread dump other) at.old at.new result }
 {
     let Some(held) = at.take(alloc) else {
         return answered(Outcome::Misused(Misuse::Empty));
@@ -175,16 +201,16 @@ pub extern "C" fn biasrun_dump_cut(
 
 // What the dump shows of the object.
 fn cell_at(shot: &Shot, object: u32) -> Option<Cell>
-    ensures { IfSome result (λ c. slice_get shot.now.cells object ≡ Some (c.owner, c.count)) }
+    ensures { option_map (λ (c : Cell). (c.owner, c.count)) result ≡ slice_get shot.now.cells object }
 {
-    match shot.cells.items().get(object as usize) {
+    match nth(shot.cells.items(), object as u64) {
         Some(cell) => Some(*cell),
         None => None,
     }
 }
 
 fn owner_word(owner: Option<u32>) -> u64
-    ensures { result ≡ owner_word owner }
+    ensures { result ≡ left.owner_word owner }
 {
     match owner {
         Some(thread) => thread as u64,
@@ -192,18 +218,9 @@ fn owner_word(owner: Option<u32>) -> u64
     }
 }
 
-fn cell_in(held: &Inner, thread: u32, dump: u32, object: u32) -> Answer
-    ensures { result.kind ≡ 0 → HasCell held.now thread dump object result.detail result.word }
+fn cell_of(shot: &Shot, object: u32) -> Answer
+    ensures { result ≡ left.shot_cell object shot.now }
 {
-    let Inner::Closed(closed) = held else {
-        return misuse(Misuse::OtherKind);
-    };
-    let Some(shots) = closed.shots().items().get(thread as usize) else {
-        return misuse(Misuse::NoThread);
-    };
-    let Some(shot) = shots.items().get(dump as usize) else {
-        return misuse(Misuse::NoDump);
-    };
     match cell_at(shot, object) {
         Some(cell) => Answer {
             kind: 0,
@@ -211,6 +228,18 @@ fn cell_in(held: &Inner, thread: u32, dump: u32, object: u32) -> Answer
             word: owner_word(cell.owner),
         },
         None => misuse(Misuse::NoObject),
+    }
+}
+
+fn cell_in(held: &Inner, thread: u32, dump: u32, object: u32) -> Answer
+    ensures { result ≡ left.cell_answer held.now thread dump object }
+{
+    let Inner::Closed(closed) = held else {
+        return misuse(Misuse::OtherKind);
+    };
+    match shot_in(closed.shots(), thread, dump) {
+        Ok(shot) => cell_of(shot, object),
+        Err(why) => misuse(why),
     }
 }
 
@@ -223,7 +252,7 @@ pub extern "C" fn biasrun_dump_cell(
     dump: u32,
     object: u32,
 ) -> Answer
-    ensures { Reads (λ x. HasCell x thread dump object result.detail result.word) at.old at.new result }
+    ensures { Reads (λ x. left.cell_answer x thread dump object) at.old at.new result }
 {
     let Some(held) = at.take(alloc) else {
         return answered(Outcome::Misused(Misuse::Empty));
@@ -234,7 +263,7 @@ pub extern "C" fn biasrun_dump_cell(
 }
 
 fn halted_in(held: &Inner) -> Answer
-    ensures { result.kind ≡ 0 → WasHalted held.now result.detail }
+    ensures { result ≡ left.halted_answer held.now }
 {
     match held {
         Inner::Closed(closed) => Answer {
@@ -249,7 +278,7 @@ fn halted_in(held: &Inner) -> Answer
 /// Whether the run was halted.
 #[unsafe(no_mangle)]
 pub extern "C" fn biasrun_was_halted(alloc: Global, at: &mut Slot) -> Answer
-    ensures { Reads (λ x. WasHalted x result.detail) at.old at.new result }
+    ensures { Reads left.halted_answer at.old at.new result }
 {
     let Some(held) = at.take(alloc) else {
         return answered(Outcome::Misused(Misuse::Empty));

@@ -6,7 +6,6 @@
 
 mod access;
 mod answers;
-mod asked;
 mod calls;
 mod exports;
 mod gives;
@@ -15,6 +14,7 @@ mod inner;
 mod left;
 mod logs;
 mod makes;
+mod nth;
 mod numbers;
 mod opens;
 mod outcome;

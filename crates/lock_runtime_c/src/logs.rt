@@ -1,12 +1,14 @@
 //! The pages of a thread's log, and what is left of a heap's logs, as C reads them.
-ghost use Rattle.std.specs.Prelude.{◌≡◌, IfErr, IfOk};
-ghost use Rattle.lock_runtime_c.specs.Numbers.{IsEntry};
+ghost use Rattle.std.specs.Prelude.{◌≡◌, IfErr, IfOk, unwrap_or};
+ghost use Rattle.lock_runtime_c.specs.Left.{entry_answer, entry_row};
 ghost use Rattle.lock_runtime_c.specs.Pages.{HandsOut};
 ghost use Rattle.lock_runtime_c.specs.Rest.{IsSeated};
 
+use crate::answers::{Answer, answered};
 use crate::inner::Seat;
+use crate::nth::nth;
 use crate::numbers::{Row, row_of};
-use crate::outcome::Misuse;
+use crate::outcome::{Misuse, Outcome, Said};
 use plain_monitor::{Logged, NoMemory};
 use std::alloc::Global;
 use std::mem;
@@ -29,12 +31,16 @@ pub fn take_page(alloc: Global, seat: &mut Seat) -> Result<u64, NoMemory>
     Ok(seat.page.len() as u64)
 }
 
-/// The entry with this number, from 0.
-pub fn entry_at(entries: &[Logged], number: u64) -> Result<Row, Misuse>
-    ensures { IfOk result (IsEntry entries.now number) }
+/// The entry with this number, from 0. `out` is as it was where there is none.
+pub fn read_entry(entries: &[Logged], number: u64, out: &mut Row) -> Answer
+    ensures answer { result ≡ entry_answer entries.now number }
+    ensures found { out.new ≡ unwrap_or (entry_row entries.now number) out.old }
 {
-    match entries.get(number as usize) {
-        Some(logged) => Ok(row_of(*logged)),
-        None => Err(Misuse::NoEntry),
+    match nth(entries, number) {
+        Some(logged) => {
+            *out = row_of(*logged);
+            answered(Outcome::Done(Said::Nothing))
+        }
+        None => answered(Outcome::Misused(Misuse::NoEntry)),
     }
 }

@@ -2,7 +2,9 @@
 ghost use Rattle.std.specs.Prelude.{◌≡◌, ◌≤◌, IfOk, vec_len};
 ghost use Rattle.plain_monitor.specs.Limits.{most_threads};
 ghost use Rattle.lending.specs.Lending.{AreAt};
-ghost use Rattle.lock_runtime_c.specs.Rest.{IsHome, IsInLimits, IsSeated};
+ghost use Rattle.lock_runtime_c.specs.Opening.{IsPlanned};
+ghost use Rattle.lock_runtime_c.specs.Rest.{IsHome, IsInLimits};
+ghost use Rattle.lock_runtime_c.specs.inner.Seats.{SeatOf};
 
 use crate::inner::{Plan, Room, Seat};
 use crate::outcome::{Misuse, Outcome};
@@ -16,6 +18,7 @@ use std::sync::Arc;
 // The planned heap, and its passes, which are all at home.
 fn begin(alloc: Global, plan: &Plan) -> Result<(Heap, Vec<Pass>), NoMemory>
     requires { IsInLimits plan.now }
+    ensures planned { IfOk result (λ r. IsPlanned plan.now r.0) }
     ensures home { IfOk result (λ r. AreAt (IsHome r.0) r.1.items) }
     ensures count { IfOk result (λ r. vec_len r.1 ≡ r.0.heap.shape.threads) }
     ensures few { IfOk result (λ r. r.0.heap.shape.threads ≤ most_threads) }
@@ -35,6 +38,7 @@ fn begin(alloc: Global, plan: &Plan) -> Result<(Heap, Vec<Pass>), NoMemory>
 /// The planned heap, with a pass for each thread.
 pub fn open(alloc: Global, plan: &Plan) -> Result<Arc<Room, Global>, NoMemory>
     requires { IsInLimits plan.now }
+    ensures { IfOk result (λ r. IsPlanned plan.now r.value.heap) }
 {
     let (heap, passes) = begin(alloc, plan)?;
     let Ok(passes) = Passes::new(alloc, &heap, passes) else {
@@ -48,7 +52,7 @@ pub fn open(alloc: Global, plan: &Plan) -> Result<Arc<Room, Global>, NoMemory>
 
 /// The thread's pass, where it is at home.
 pub fn seat_of(alloc: Global, room: &Arc<Room, Global>, thread: u32) -> Result<Seat, Outcome>
-    ensures { IfOk result (λ s. IsSeated s.room.value.heap s.lent.place s.lent.thing) }
+    ensures { SeatOf room.now.value.heap thread result }
 {
     let Ok(own) = Arc::try_clone(room) else {
         return Err(Outcome::NoMemory);

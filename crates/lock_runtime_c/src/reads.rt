@@ -1,29 +1,37 @@
 //! What a thread's pass tells, and the pages of its log, for C.
-ghost use Rattle.std.specs.Prelude.{◌≡◌};
-ghost use Rattle.lock_runtime_c.specs.ByHandle.{AnswersOf, ByHandleOf, Reads};
-ghost use Rattle.lock_runtime_c.specs.Pages.{HasLength, TakesPage};
+ghost use Rattle.std.specs.Prelude.{◌≡◌, unwrap_or};
+ghost use Rattle.lock_runtime_c.specs.ByHandle.{AnswersOf, ByHandleOf, Reads, ReadsInto};
+ghost use Rattle.lock_runtime_c.specs.Pages.{length_answer, page_answer, page_row, TakesPage, unfinished_answer};
 ghost use Rattle.lock_runtime_c.specs.Rest.{RestsWithin};
+ghost use Rattle.lock_runtime_c.specs.declared.outcome.Misuse.TheVariants.{Empty};
+ghost use Rattle.lock_runtime_c.specs.declared.outcome.Outcome.TheVariants.{Misused};
 
 use crate::answers::{Answer, answered, done_with};
 use crate::handle::Slot;
-use crate::inner::{Inner, Seat};
-use crate::logs::{entry_at, take_page};
+use crate::inner::Inner;
+use crate::logs::{read_entry, take_page};
 use crate::numbers::{Row, op_number};
 use crate::outcome::{Misuse, Outcome, Said};
 use std::alloc::Global;
 
+fn length_in(held: &Inner) -> Answer
+    ensures { result ≡ length_answer held.now }
+{
+    match held {
+        Inner::Seat(seat) => done_with(seat.lent.thing.length()),
+        _ => answered(Outcome::Misused(Misuse::OtherKind)),
+    }
+}
+
 /// How many entries the thread has logged, with those that it has handed out.
 #[unsafe(no_mangle)]
 pub extern "C" fn biasrun_log_length(alloc: Global, at: &mut Slot) -> Answer
-    ensures { Reads (λ x. HasLength x result.word) at.old at.new result }
+    ensures { Reads length_answer at.old at.new result }
 {
     let Some(held) = at.take(alloc) else {
         return answered(Outcome::Misused(Misuse::Empty));
     };
-    let answer = match &*held {
-        Inner::Seat(seat) => done_with(seat.lent.thing.length()),
-        _ => answered(Outcome::Misused(Misuse::OtherKind)),
-    };
+    let answer = length_in(&*held);
     at.put(alloc, held);
     answer
 }
@@ -43,7 +51,7 @@ fn page_within(alloc: Global, held: &mut Inner) -> Outcome
 }
 
 fn page_by(alloc: Global, at: &mut Slot) -> Outcome
-    ensures { ByHandleOf TakesPage at.old at.new result }
+    ensures { ByHandleOf TakesPage (Misused Empty) at.old at.new result }
 {
     let Some(mut held) = at.take(alloc) else {
         return Outcome::Misused(Misuse::Empty);
@@ -61,14 +69,13 @@ pub extern "C" fn biasrun_take_page(alloc: Global, at: &mut Slot) -> Answer
     answered(page_by(alloc, at))
 }
 
-// What was read, where there was something.
-fn read_row(row: Result<Row, Misuse>, out: &mut Row) -> Answer {
-    match row {
-        Ok(row) => {
-            *out = row;
-            answered(Outcome::Done(Said::Nothing))
-        }
-        Err(misuse) => answered(Outcome::Misused(misuse)),
+fn page_entry_in(held: &Inner, number: u64, out: &mut Row) -> Answer
+    ensures answer { result ≡ page_answer held.now number }
+    ensures found { out.new ≡ unwrap_or (page_row held.now number) out.old }
+{
+    match held {
+        Inner::Seat(seat) => read_entry(seat.page.as_slice(), number, out),
+        _ => answered(Outcome::Misused(Misuse::OtherKind)),
     }
 }
 
@@ -79,20 +86,23 @@ pub extern "C" fn biasrun_page_entry(
     at: &mut Slot,
     number: u64,
     out: &mut Row,
-) -> Answer {
+) -> Answer
+    ensures { ReadsInto (λ x. page_answer x number) (λ x. page_row x number) at.old at.new out.old out.new result }
+{
     let Some(held) = at.take(alloc) else {
         return answered(Outcome::Misused(Misuse::Empty));
     };
-    let row = match &*held {
-        Inner::Seat(seat) => entry_at(seat.page.as_slice(), number),
-        _ => Err(Misuse::OtherKind),
-    };
+    let answer = page_entry_in(&*held, number, out);
     at.put(alloc, held);
-    read_row(row, out)
+    answer
 }
 
-// Which operation of the thread is unfinished, and its object.
-fn unfinished_of(seat: &Seat) -> Answer {
+fn unfinished_in(held: &Inner) -> Answer
+    ensures { result ≡ unfinished_answer held.now }
+{
+    let Inner::Seat(seat) = held else {
+        return answered(Outcome::Misused(Misuse::OtherKind));
+    };
     match seat.lent.thing.unfinished() {
         Some(left) => Answer {
             kind: 0,
@@ -103,16 +113,15 @@ fn unfinished_of(seat: &Seat) -> Answer {
     }
 }
 
-/// Which operation is unfinished, and its object.
+/// Which operation of the thread is unfinished, and its object.
 #[unsafe(no_mangle)]
-pub extern "C" fn biasrun_unfinished(alloc: Global, at: &mut Slot) -> Answer {
+pub extern "C" fn biasrun_unfinished(alloc: Global, at: &mut Slot) -> Answer
+    ensures { Reads unfinished_answer at.old at.new result }
+{
     let Some(held) = at.take(alloc) else {
         return answered(Outcome::Misused(Misuse::Empty));
     };
-    let answer = match &*held {
-        Inner::Seat(seat) => unfinished_of(seat),
-        _ => answered(Outcome::Misused(Misuse::OtherKind)),
-    };
+    let answer = unfinished_in(&*held);
     at.put(alloc, held);
     answer
 }

@@ -1,12 +1,38 @@
 //! Why a call can't begin: the first reason, in the order in which they are tried here.
+ghost use Rattle.std.specs.Prelude.{◌≡◌, ◌+◌, ◌≤◌, ◌&&◌, nat_le, nat_lt, if◌then◌else◌, length, Some};
+ghost use Rattle.core_world.specs.Clauses.Lengths.{log_limit};
+ghost use Rattle.core_world.specs.Threads.References.{is_value_over};
+ghost use Rattle.core_world.specs.Trees.Operations.{same_op};
+ghost use Rattle.core_world.specs.Words.Forms.{says_ended, waits_on};
+ghost use Rattle.lock_runtime_c.specs.LogRoom.{is_full, room_for};
+ghost use Rattle.lock_runtime_c.specs.Reasons as reasons;
+
 use crate::outcome::Misuse;
-use core_world::{Op, Task};
+use core_world::{Op, Task, Unfinished};
 use heap_table::{Heap, Pass, wait_of_word};
 use mark_word::WaitForm;
 use plain_monitor::Value;
 
-// The operation that the task makes, and its object.
-fn operation(task: Task) -> Option<(Op, u32)> {
+fn same_op(one: Op, other: Op) -> bool
+    ensures { result ≡ same_op one other }
+{
+    match (one, other) {
+        (Op::Enter, Op::Enter) => true,
+        (Op::Exit, Op::Exit) => true,
+        (Op::Wait, Op::Wait) => true,
+        (Op::Notify, Op::Notify) => true,
+        (Op::NotifyAll, Op::NotifyAll) => true,
+        (Op::Hash, Op::Hash) => true,
+        (Op::Dump, Op::Dump) => true,
+        (Op::Create, Op::Create) => true,
+        _ => false,
+    }
+}
+
+// The operation that the call makes, and its object.
+fn operation(task: Task) -> Option<(Op, u32)>
+    ensures { result ≡ reasons.operation task }
+{
     match task {
         Task::Enter { object, .. } => Some((Op::Enter, object)),
         Task::Exit { object } => Some((Op::Exit, object)),
@@ -19,29 +45,56 @@ fn operation(task: Task) -> Option<(Op, u32)> {
     }
 }
 
-// The operation that is unfinished, where this task doesn't go on with it.
-fn other_operation(pass: &Pass, task: Task) -> Option<Op> {
-    match (pass.unfinished(), operation(task)) {
-        (None, _) => None,
-        (Some(left), Some((op, object))) if left.op == op && left.object == object => None,
-        (Some(left), _) => Some(left.op),
+// Whether it goes on with what is unfinished.
+fn goes_on(made: Option<(Op, u32)>, left: Unfinished) -> bool
+    ensures { result ≡ reasons.goes_on made (Some left) }
+{
+    match made {
+        Some((op, object)) => same_op(left.op, op) && left.object == object,
+        None => false,
     }
 }
 
-fn has_ended(pass: &Pass) -> bool {
-    matches!(wait_of_word(pass.wait_word()), Some(WaitForm::Ended))
+fn other_operation(made: Option<(Op, u32)>, left: Option<Unfinished>) -> Option<Misuse>
+    ensures { result ≡ reasons.other_operation made left }
+{
+    match left {
+        None => None,
+        Some(left) => {
+            if goes_on(made, left) {
+                None
+            } else {
+                Some(Misuse::IsUnfinished(left.op))
+            }
+        }
+    }
+}
+
+// Whether the thread ended, by its waiting word.
+fn has_ended(pass: &Pass) -> bool
+    ensures { result ≡ says_ended pass.now.known.wait }
+{
+    match wait_of_word(pass.wait_word()) {
+        Some(form) => match form {
+            WaitForm::Ended => true,
+            _ => false,
+        },
+        None => false,
+    }
 }
 
 // How the thread stands, for an operation.
-fn of_standing(pass: &Pass, task: Task) -> Option<Misuse> {
+fn of_standing(pass: &Pass, made: Option<(Op, u32)>) -> Option<Misuse>
+    ensures { result ≡ reasons.of_standing pass.now.known made }
+{
     if has_ended(pass) {
         return Some(Misuse::Ended);
     }
     if pass.checking() {
         return Some(Misuse::CheckIsUnfinished);
     }
-    if let Some(op) = other_operation(pass, task) {
-        return Some(Misuse::IsUnfinished(op));
+    if let Some(why) = other_operation(made, pass.unfinished()) {
+        return Some(why);
     }
     if pass.running() || (pass.requesting() && pass.unfinished().is_some()) {
         None
@@ -50,7 +103,10 @@ fn of_standing(pass: &Pass, task: Task) -> Option<Misuse> {
     }
 }
 
-fn of_object(heap: &Heap, object: u32) -> Option<Misuse> {
+// Each object of the heap is a declared one.
+fn of_object(heap: &Heap, object: u32) -> Option<Misuse>
+    ensures { result ≡ reasons.of_object heap.now.heap.shape object }
+{
     if object < heap.shape().declared() {
         None
     } else {
@@ -58,7 +114,9 @@ fn of_object(heap: &Heap, object: u32) -> Option<Misuse> {
     }
 }
 
-fn of_slot(heap: &Heap, object: u32, slot: u32) -> Option<Misuse> {
+fn of_slot(heap: &Heap, object: u32, slot: u32) -> Option<Misuse>
+    ensures { result ≡ reasons.of_slot heap.now.heap.shape object slot }
+{
     if object >= heap.shape().declared() {
         return Some(Misuse::NoObject);
     }
@@ -69,76 +127,213 @@ fn of_slot(heap: &Heap, object: u32, slot: u32) -> Option<Misuse> {
     }
 }
 
-fn of_value(heap: &Heap, value: Value) -> Option<Misuse> {
-    let is_one = match value {
+fn is_value(heap: &Heap, value: Value) -> bool
+    ensures { result ≡ is_value_over (λ o. nat_lt o heap.now.heap.shape.declared) value }
+{
+    match value {
         Value::Nil => true,
         Value::Int(number) => Value::LEAST <= number && number <= Value::GREATEST,
         Value::Ref(object) => object < heap.shape().declared(),
-    };
-    if is_one { None } else { Some(Misuse::NoValue) }
+    }
+}
+
+fn of_value(heap: &Heap, value: Value) -> Option<Misuse>
+    ensures { result ≡ reasons.of_value heap.now.heap.shape value }
+{
+    if is_value(heap, value) {
+        None
+    } else {
+        Some(Misuse::NoValue)
+    }
+}
+
+// What is wrong with what a put writes.
+fn of_put(heap: &Heap, object: u32, slot: u32, value: Value) -> Option<Misuse>
+    ensures { result ≡ reasons.or_else (reasons.of_slot heap.now.heap.shape object slot)
+        (reasons.of_value heap.now.heap.shape value) }
+{
+    match of_slot(heap, object, slot) {
+        Some(why) => Some(why),
+        None => of_value(heap, value),
+    }
+}
+
+// A thread ends without holds.
+fn of_holds(pass: &Pass) -> Option<Misuse>
+    ensures { result ≡ reasons.of_holds pass.now.known }
+{
+    if pass.holds() == 0 {
+        None
+    } else {
+        Some(Misuse::IsHolding)
+    }
 }
 
 // What is wrong with the operands of an operation.
-fn of_operands(heap: &Heap, pass: &Pass, task: Task) -> Option<Misuse> {
+fn of_operands(heap: &Heap, pass: &Pass, task: Task) -> Option<Misuse>
+    ensures { result ≡ reasons.of_operands heap.now.heap.shape pass.now.known task }
+{
     match task {
-        Task::Enter { object, .. }
-        | Task::Exit { object }
-        | Task::Wait { object, .. }
-        | Task::Notify { object, .. }
-        | Task::NotifyAll { object, .. }
-        | Task::Hash { object, .. } => of_object(heap, object),
+        Task::Enter { object, .. } => of_object(heap, object),
+        Task::Exit { object } => of_object(heap, object),
+        Task::Wait { object, .. } => of_object(heap, object),
+        Task::Notify { object, .. } => of_object(heap, object),
+        Task::NotifyAll { object, .. } => of_object(heap, object),
+        Task::Hash { object, .. } => of_object(heap, object),
         Task::Get { object, slot } => of_slot(heap, object, slot),
         Task::Put {
             object,
             slot,
             value,
-        } => match of_slot(heap, object, slot) {
-            Some(misuse) => Some(misuse),
-            None => of_value(heap, value),
-        },
+        } => of_put(heap, object, slot, value),
         Task::Print { value } => of_value(heap, value),
-        Task::Finish { .. } if pass.holds() != 0 => Some(Misuse::IsHolding),
+        Task::Finish { .. } => of_holds(pass),
         _ => None,
     }
 }
 
 // Poll and stop are for a thread that runs.
-fn of_running(pass: &Pass) -> Misuse {
-    if pass.requesting() {
-        Misuse::IsAsking
+fn of_running(pass: &Pass) -> Option<Misuse>
+    ensures { result ≡ reasons.of_running pass.now.known }
+{
+    if pass.running() {
+        None
+    } else if pass.requesting() {
+        Some(Misuse::IsAsking)
     } else {
-        Misuse::IsStopped
+        Some(Misuse::IsStopped)
     }
 }
 
 // And resume for one that is stopped.
-fn of_resume(pass: &Pass) -> Misuse {
+fn of_stopped(pass: &Pass) -> Option<Misuse>
+    ensures { result ≡ reasons.of_stopped pass.now.known }
+{
     if pass.requesting() {
-        Misuse::IsAsking
+        Some(Misuse::IsAsking)
+    } else if pass.running() {
+        Some(Misuse::IsRunning)
     } else {
-        Misuse::IsRunning
+        None
     }
 }
 
-fn of_check(pass: &Pass) -> Misuse {
-    if has_ended(pass) {
-        return Misuse::Ended;
+// Whether the thread runs, or asks for a safepoint for a check.
+fn asks_to_check(pass: &Pass) -> bool
+    ensures { result ≡ (if pass.now.known.requesting then pass.now.known.checking else pass.now.known.running) }
+{
+    if pass.requesting() {
+        pass.checking()
+    } else {
+        pass.running()
+    }
+}
+
+fn other_asked(pass: &Pass) -> Misuse
+    ensures { result ≡ reasons.other_asked pass.now.known.requesting pass.now.known.unfinished }
+{
+    if !pass.requesting() {
+        return Misuse::IsStopped;
     }
     match pass.unfinished() {
-        Some(left) if pass.requesting() => Misuse::IsUnfinished(left.op),
-        _ => Misuse::IsStopped,
+        Some(left) => Misuse::IsUnfinished(left.op),
+        None => Misuse::IsStopped,
     }
 }
 
-/// The first reason why a call of this task can't begin. Where there is none the log is as long as any log may be.
-pub fn reason(heap: &Heap, pass: &Pass, task: Task) -> Option<Misuse> {
+fn of_check(pass: &Pass) -> Option<Misuse>
+    ensures { result ≡ reasons.of_check pass.now.known }
+{
+    if has_ended(pass) {
+        return Some(Misuse::Ended);
+    }
+    if asks_to_check(pass) {
+        None
+    } else {
+        Some(other_asked(pass))
+    }
+}
+
+fn of_operation(heap: &Heap, pass: &Pass, task: Task) -> Option<Misuse>
+    ensures { result ≡ reasons.or_else (reasons.of_standing pass.now.known (reasons.operation task))
+        (reasons.of_operands heap.now.heap.shape pass.now.known task) }
+{
+    match of_standing(pass, operation(task)) {
+        Some(why) => Some(why),
+        None => of_operands(heap, pass, task),
+    }
+}
+
+/// The first reason why a call of this task can't begin, the room of the log aside.
+pub fn first_reason(heap: &Heap, pass: &Pass, task: Task) -> Option<Misuse>
+    ensures { result ≡ reasons.first_reason heap.now.heap.shape pass.now.known task }
+{
     match task {
-        Task::Poll | Task::Stop => Some(of_running(pass)),
-        Task::Resume => Some(of_resume(pass)),
-        Task::Check => Some(of_check(pass)),
-        _ => match of_standing(pass, task) {
-            Some(misuse) => Some(misuse),
-            None => of_operands(heap, pass, task),
+        Task::Poll => of_running(pass),
+        Task::Stop => of_running(pass),
+        Task::Resume => of_stopped(pass),
+        Task::Check => of_check(pass),
+        Task::Create { .. }
+        | Task::StackEnter { .. }
+        | Task::StackExit { .. }
+        | Task::Request
+        | Task::Reached
+        | Task::Release => Some(Misuse::OtherKind),
+        _ => of_operation(heap, pass, task),
+    }
+}
+
+// Whether this waiting word says that its thread waits on the object.
+fn waits_on(word: u64, object: u32) -> bool
+    ensures { result ≡ waits_on word object }
+{
+    match wait_of_word(word) {
+        Some(form) => match form {
+            WaitForm::Waiting { object: on, .. } => on == object,
+            _ => false,
         },
+        None => false,
+    }
+}
+
+// For how many entries the log has to have room. An exit only takes up what its hold had kept. All else leaves the room that each hold needs for
+// its exit, and but for an end and a wait that has let go it leaves one more, for these; an enter is a hold more.
+fn room_for(pass: &Pass, task: Task) -> u32
+    ensures room { result ≡ room_for pass.now task }
+    ensures few { result ≤ 67 }
+{
+    match task {
+        Task::Exit { .. } => 1,
+        Task::Finish { .. } => pass.holds() + 1,
+        Task::Wait { object, .. } => {
+            if waits_on(pass.wait_word(), object) {
+                pass.holds() + 1
+            } else {
+                pass.holds() + 3
+            }
+        }
+        Task::Enter { .. } => pass.holds() + 3,
+        _ => pass.holds() + 2,
+    }
+}
+
+// Whether that many fit, into the page and into what stamps allow.
+fn fits(pass: &Pass, entries: u32) -> bool
+    ensures { result ≡ (nat_le (length pass.now.known.log + entries) pass.now.limit
+        && nat_le (length pass.now.known.log + entries) log_limit) }
+{
+    pass.room() >= entries && pass.may_grow(entries)
+}
+
+/// Whether the log hasn't the room that the call needs, besides what the thread's holds do.
+pub fn is_full(pass: &Pass, task: Task) -> bool
+    ensures { result ≡ is_full pass.now task }
+{
+    match task {
+        Task::Poll => false,
+        Task::Stop => false,
+        Task::Resume => false,
+        Task::Check => false,
+        _ => !fits(pass, room_for(pass, task)),
     }
 }

@@ -1,19 +1,7 @@
--- How a plan comes through a call, and when a pass may go home.
-use Rattle.std.specs.Prelude.{◌≡◌}
-use Rattle.lock_runtime_c.specs.declared.inner.Plan.{Plan}
+-- When a pass may go home.
 use Rattle.lock_runtime_c.specs.declared.inner.Inner.{Inner}
 use Rattle.lock_runtime_c.specs.declared.inner.Inner.TheVariants as inner
 use Rattle.lock_runtime_c.specs.Rest.{IsHome}
-
--- it plans the same
-abbrev pub IsSame : Plan → Plan → Type 0
-IsSame p q =
-    (q.threads ≡ p.threads)
-    × (q.fuel ≡ p.fuel)
-    × (q.start ≡ p.start)
-    × (q.biased ≡ p.biased)
-    × (q.slots.items ≡ p.slots.items)
-    × (q.classes.items ≡ p.classes.items)
 
 -- the handle's pass may go home
 abbrev pub MayLeave : Inner → Type 0
