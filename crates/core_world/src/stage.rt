@@ -58,7 +58,8 @@ pub enum Stage {
         thread: u32,
         place: u32,
     },
-    /// It notified so many waiters of the object, but not all, and the NotifyAll isn't logged.
+    /// It notified so many waiters of the object, but not all, and the NotifyAll isn't logged. The words alone don't tell how many: an earlier
+    /// notify may have told others.
     Notifies {
         object: u32,
         notified: u32,

@@ -36,7 +36,7 @@ impl Heap {
         (found, safe_of_word(found))
     }
 
-    /// A store.
+    /// A store. In the built code it is an exchange: its contract speaks of the word that it found, so it fetches that in the same act.
     #[inline(always)]
     pub fn store(&self, pass: &mut Pass, why: &Purpose, stage: Stage, at: Name, word: u64) -> u64
         requires { CanStep self.now pass.old (store_plan why.now stage at word) }

@@ -8,7 +8,7 @@ ghost use Rattle.heap_table.specs.Tallies.{capped_counts, counts_shown};
 use core_world::Own;
 use lock_policy::Verdict;
 
-/// The verdicts that a thread carried out on a class. At its greatest number a count stays.
+/// The verdicts that a thread carried out on a class. At its greatest number a count stays, so that counting has no condition.
 #[derive(Clone, Copy, Debug, PartialEq, Eq)]
 pub struct ClassCounts {
     /// Revocations of one bias.
