@@ -65,7 +65,7 @@ pub enum Stage {
         notified: u32,
     },
     /// It carries out the revocation of the object's bias at its safepoint, from the first store on. `rebias` is true in an enter,
-    /// and `now` is the moment that the policy of bulk operations is given.
+    /// and `now` is the moment that the policy of bulk operations is given, in milliseconds.
     Revokes {
         object: u32,
         rebias: bool,

@@ -68,7 +68,7 @@ fn next_counts(counts: ClassCounts, verdict: Verdict, reset: bool) -> ClassCount
     with_reset(with_verdict(counts, verdict), reset)
 }
 
-/// What it has counted behind a step that hit.
+/// Counts the verdict that a step which hit tells, if it tells one.
 #[inline(always)]
 pub fn count_next(counts: &mut Vec<ClassCounts>, own: &Own)
     ensures { (n : ℕ) (k : List CountedVerdict) → counts.old.items ≡ counts_shown 0 n k

@@ -90,6 +90,8 @@ fn checking(pass: &Pass) -> Purpose
 /// none: then the thread runs on, and no check is unfinished.
 /// Where it is done, idle monitors were given back before the halt or the release.
 /// Nothing is logged, and an unfinished operation stays so.
+///
+/// In OpenJDK 8: nothing; `VM_FindDeadlocks` (`vm_operations.hpp`) looks for circles.
 pub fn check_stuck(heap: &Heap, pass: &mut Pass) -> Turn<bool>
     requires { MayCall heap.now pass.old Check }
     ensures rests { Rests heap.now pass.new }
@@ -162,8 +164,13 @@ fn dump_asking(
 /// dump stays unfinished: `Stopping { word }` says that the thread's request for a safepoint stands, and that by `word`
 /// another thread runs still; `Requested { word }` that by `word`, which was loaded or found by the exchange, another
 /// thread has a request; `Raced { expected, found }` that the exchange of the request found another word with none.
-/// `TooManyDumps` comes exactly where the thread has 4 shots; then no step is made. No clause says what becomes of the
-/// pass's draft of a shot.
+/// No clause says what becomes of the pass's draft of a shot.
+///
+/// # Errors
+///
+/// `TooManyDumps` exactly where the thread has 4 shots. Then no step is made.
+///
+/// In OpenJDK 8: `VM_ThreadDump` (`vm_operations.hpp`), which has stacks.
 pub fn dump(heap: &Heap, pass: &mut Pass) -> Result<Turn<u32>, TooManyDumps>
     requires { MayOperate heap.now pass.old Dump }
     ensures rests { Rests heap.now pass.new }

@@ -69,7 +69,8 @@ fn word_after_turn(runner: &Runner) -> Word
     Word::Ready
 }
 
-/// A turn of the runner of this place, which goes back into the pool then.
+/// Gives the runner of this place a turn of at most `quantum` instructions, and puts it back into the pool. `tick` is
+/// in milliseconds.
 pub fn give_turn<C: Course, K: Clock, G: Gate>(
     program: &Program,
     heap: &Heap,
@@ -147,7 +148,8 @@ fn word_after_check(runner: &Runner, stuck: bool) -> Word
     Word::Ready
 }
 
-/// A check of the runner of this place, which goes back into the pool then. Whether the run was halted.
+/// Makes a check with the runner of this place, and puts it back into the pool. It answers whether the run was
+/// halted.
 pub fn give_check<C: Course, R: Wait>(
     rt: &R,
     program: &Program,
