@@ -121,7 +121,7 @@ fn looked_next(form: Option<SafeForm>, stand: Stand) -> Stand
     }
 }
 
-/// The same by the word. One with running bits alone tells nothing new to a thread that asks for no safepoint: then nothing is written.
+/// Follows what the thread knows behind a load that found this word. One with running bits alone tells nothing new to a thread that asks for no safepoint: then nothing is written.
 #[inline(always)]
 #[tactic(auto, using(crate::proofs::Idling::looked_idle))]
 fn looked_at(word: u64, stand: &mut Stand)

@@ -85,7 +85,7 @@ pub fn revocation(
     }
 }
 
-// The same, for an operation that takes no new bias.
+// Revokes the bias for an operation that takes no new one.
 fn revoked(
     heap: &Heap,
     pass: &mut Pass,

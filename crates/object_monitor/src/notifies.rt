@@ -49,7 +49,7 @@ fn older(thread: u32, stamp: u64, others: Option<(u32, u64)>) -> Option<(u32, u6
     }
 }
 
-// The same, where the thread counts only if this waiting word of it says that it waits on the object.
+// The older of them, where the thread counts only if this waiting word of it says that it waits on the object.
 fn with_word(object: u32, thread: u32, word: u64, others: Option<(u32, u64)>) -> Option<(u32, u64)>
     ensures { result ≡ oldest_with object thread word others }
 {

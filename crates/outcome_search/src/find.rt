@@ -57,7 +57,7 @@ fn outcome_error(error: SearchError) -> OutcomeError
     }
 }
 
-/// The same with this fuel, and so many entries that go alone at once.
+/// Finds the ends with this fuel, and so many entries that go alone at once.
 fn find_with<C: Course>(
     alloc: Global,
     program: &Program,

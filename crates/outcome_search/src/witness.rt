@@ -81,7 +81,7 @@ fn push_entry(t: u32, entry: Entry, entries: &mut Vec<(u32, Logged)>) -> Result<
     Ok(true)
 }
 
-/// The same of the next entry of thread t, where there is such a thread and it has one.
+/// Logs the next entry of thread t, where there is such a thread and it has one.
 fn log_next(machine: &mut Machine, t: u32, entries: &mut Vec<(u32, Logged)>) -> Result<(), NoMemory>
     ensures { OnOk result (LeadsOn machine.old entries.old.items machine.new entries.new.items) }
 {
@@ -94,7 +94,7 @@ fn log_next(machine: &mut Machine, t: u32, entries: &mut Vec<(u32, Logged)>) -> 
     Ok(())
 }
 
-/// The same of the next entry of thread t, where it goes alone; whether there was one.
+/// Logs the next entry of thread t, where it goes alone. It answers whether there was one.
 fn log_where_alone(
     machine: &mut Machine,
     t: u32,
@@ -110,7 +110,7 @@ fn log_where_alone(
     }
 }
 
-/// The same of the first thread that has such an entry.
+/// Logs that of the first thread that has such an entry. It answers whether there was one.
 fn log_first(machine: &mut Machine, entries: &mut Vec<(u32, Logged)>) -> Result<bool, NoMemory>
     ensures { OnOk result (LeadsOn machine.old entries.old.items machine.new entries.new.items) }
 {

@@ -50,7 +50,7 @@ pub fn run_program<R: Threads + Wait + Sync, C: Clock + Sync, G: Gate + Sync>(
     Ok(Ran { record, closed })
 }
 
-// The same, and no record is made of what it leaves.
+// Runs the program and closes its heap, and makes no record.
 fn run_closed<R: Threads + Wait + Sync, C: Clock + Sync, G: Gate + Sync>(
     rt: &R,
     alloc: Global,

@@ -30,7 +30,7 @@ pub fn heap_shape(alloc: Global, program: &Program) -> Result<HeapShape, NoMemor
     shape.with_made(program.made_slots())
 }
 
-// The same without those numbers.
+// The shape with the declared objects alone.
 fn declared_shape(alloc: Global, program: &Program) -> Result<HeapShape, NoMemory>
     ensures shape { IfOk result (λ s. s ≡ declared_for program.now) }
     ensures program { IfOk result (λ _. IsProgram program.now) }

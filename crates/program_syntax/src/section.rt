@@ -142,7 +142,7 @@ pub fn with_local(section: Section, operands: &Words<'_>) -> Result<Section, NoM
     })
 }
 
-/// Behind the line of one more label.
+/// Adds a label to the section: one more of its labels stands on the lines so far.
 pub fn with_label(mut section: Section) -> Section
     requires { section.declared < length section.labels }
     ensures thread { thread_of result ≡ thread_to section (section.declared + 1) }

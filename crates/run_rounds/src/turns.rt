@@ -123,7 +123,7 @@ fn check<R: Wait>(rt: &R, program: &Program, heap: &Heap, runner: &mut Runner) -
     unreachable!()
 }
 
-// The same, where the runner can make a check: its thread hasn't ended, and asks for no safepoint.
+// Makes a check with this runner where it can: its thread hasn't ended, and asks for no safepoint. Whether the run is stuck.
 fn check_where_free<R: Wait>(rt: &R, program: &Program, heap: &Heap, runner: &mut Runner) -> bool
     requires heap { IsHeapOf heap.now program.now }
     requires runner { IsRunner heap.now program.now runner.old }

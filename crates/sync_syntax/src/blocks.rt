@@ -52,7 +52,11 @@ pub fn with_block(alloc: Global, blocks: Blocks, opener: Opener) -> Result<Block
     }
 }
 
-/// Behind a `done`. Where memory is wanting, `NoMemory`.
+/// Closes the innermost block, by its `done`.
+///
+/// # Errors
+///
+/// `NoMemory` where an allocation fails.
 pub fn without_block(alloc: Global, blocks: Blocks) -> Result<Blocks, NoMemory>
     ensures { IfOk result (λ b. blocks_of b ≡ without_block (blocks_of blocks).opened (blocks_of blocks).statements) }
 {
@@ -101,7 +105,11 @@ fn closed(alloc: Global, opener: Opener, statements: Vec<Statement>) -> Statemen
     }
 }
 
-/// Behind an `else`. Where memory is wanting, `NoMemory`.
+/// Ends the first part of the innermost `if`, by its `else`.
+///
+/// # Errors
+///
+/// `NoMemory` where an allocation fails.
 pub fn with_else(alloc: Global, blocks: Blocks) -> Result<Blocks, NoMemory>
     requires { takes_else (blocks_of blocks).opened ≡ true }
     ensures { IfOk result (λ b. blocks_of b ≡ with_else (blocks_of blocks).opened (blocks_of blocks).statements) }
@@ -153,7 +161,7 @@ pub fn changes_held(blocks: &Blocks, code: &Code) -> bool
     some_changes(blocks.opened.as_slice(), code)
 }
 
-/// The same of these blocks.
+/// Whether it gives a value to a local that an open `sync` among these blocks names.
 fn some_changes(opened: &[OpenBlock], code: &Code) -> bool
     ensures { result ≡ list_any (λ b. changes_local code.now (opener_of b.opener)) opened.now }
 {
