@@ -84,10 +84,12 @@ fn checking(pass: &Pass) -> Purpose
 /// monitor that another thread owns. Then the run is halted, and no thread runs any more. `Done(false)` says that all
 /// threads have ended, or that some thread waits for nothing, or for a monitor that is free or its own. Then the
 /// safepoint is over, and the thread runs on.
-/// Pending, nothing was looked at: `Stopping { word }` says that the thread's request stands, that by `word` another
-/// thread runs still, and that the check is unfinished; `Requested { word }` that by `word`, which was loaded or found by
-/// the exchange, another thread has a request, and `Raced { expected, found }` that the exchange found another word with
-/// none: then the thread runs on, and no check is unfinished.
+///
+/// Pending, nothing was looked at. `Stopping { word }` says that the thread's request stands and the check is unfinished: by
+/// `word` another thread runs still. After the others the thread runs on, and no check is unfinished. `Requested { word }`
+/// says that another thread has a request by `word`, which was loaded or found by the exchange. `Raced { expected, found }`
+/// says that the exchange found another word, with no request.
+///
 /// Where it is done, idle monitors were given back before the halt or the release.
 /// Nothing is logged, and an unfinished operation stays so.
 ///

@@ -118,13 +118,17 @@ fn wait_held(heap: &Heap, pass: &mut Pass, why: &Purpose, object: u32, now: u64)
 ///
 /// `Done(())` says that the thread was notified, and owns the monitor again with the recursions that it had: the
 /// Resume is logged, behind the Wait where this call let go, and nothing is unfinished.
-/// Pending, the wait stays unfinished. Where the thread has not let go, nothing is logged: `Raced { expected, found }`
-/// says that an exchange of this call missed; `Inflating` that the loaded mark was 0; `Stopping { word }` that the
-/// thread's request for a safepoint stands, and that by `word` another thread runs still; `Requested { word }` that by
-/// `word` another thread has a request. Where it has let go, in this call, which logged the Wait, or in an earlier
-/// one: `NotNotified { word }` says that the thread's waiting word, which is `word`, tells of no notify;
-/// `Owned { word }` that the thread was notified, and that the owner word of the object's monitor, which is `word`,
-/// names another thread.
+///
+/// Pending, the wait stays unfinished.
+///
+/// Where the thread has not let go, nothing is logged. `Raced { expected, found }` says that an exchange of this call
+/// missed; `Inflating` that the loaded mark was 0; `Stopping { word }` that the thread's request for a safepoint stands, and
+/// that by `word` another thread runs still; `Requested { word }` that by `word` another thread has a request.
+///
+/// Where it has let go, this call logged the Wait, or an earlier one. `NotNotified { word }` says that the thread's waiting
+/// word, which is `word`, tells of no notify. `Owned { word }` says that the thread was notified, and that the owner word of
+/// the object's monitor, which is `word`, names another thread.
+///
 /// The log needs room for two entries where the wait begins, and for the Resume alone where it has let go.
 ///
 /// # Errors

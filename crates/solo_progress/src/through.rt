@@ -161,9 +161,9 @@ pub fn a_run_of_one_thread_finds_what_it_left()
         → v.words n ≡ words_left w.words ms n }
 {}
 
-/// In a world of which all clauses hold, and in which a thread is left alone, the words are such as these laws ask for: no mark and no
-/// prototype is 0, the safepoint word is that of the thread alone, and who has the lock of an object by the words is its owner by the
-/// logs.
+/// The words are such as these laws ask for, where all clauses hold and a thread is left alone. No mark and no
+/// prototype is 0, the safepoint word is that of the thread alone, and who has the lock of an object by the words is
+/// its owner by the logs.
 pub fn worlds_with_one_thread_are_quiet()
     ensures words { (w : World) (objects : List PlainObject) (t : ℕ) → IsLeftAlone w t → Fits w objects
         → Quiet (word_of_one (w.known t).requesting t) w.words }
