@@ -30,6 +30,11 @@ pub enum OutcomeError {
 }
 
 /// Looks for every machine that the program's entries lead to, at most `limit` of them, and counts how they end.
+///
+/// # Errors
+///
+/// `Hash` exactly where some thread has a `hash` instruction. `NoMemory` where an allocation fails. `NoState` where a
+/// machine isn't read back from its words, which would be an error of this library.
 pub fn find_outcomes(
     alloc: Global,
     program: &Program,

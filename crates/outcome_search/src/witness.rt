@@ -13,11 +13,16 @@ use plain_monitor::limits::FUEL;
 use plain_monitor::{Entry, Logged, NoMemory, Path};
 use std::alloc::Global;
 
-/// The entries that lead from the program's first machine to one that ends so, each with its thread, by the choices of a search, of which the
-/// last one stands first. The nth has stamp n, so that they are a journal.
+/// The entries that lead from the program's first machine to one that ends so, each with its thread, by the choices
+/// of a search, of which the last one stands first. The nth has stamp n, so that they are a journal.
 ///
-/// All threads have the most fuel that a run may have, and none is given back. So where the search gave some back the way may end in
-/// a thread that is spent; then, and where the choices lead to no such end, there are none. Nobody looks for a short way.
+/// All threads have the most fuel that a run may have, and none is given back. So where the search gave some back the
+/// way may end in a thread that is spent; then, and where the choices lead to no such end, there are none. Nobody
+/// looks for a short way.
+///
+/// # Errors
+///
+/// `NoMemory` where an allocation fails.
 pub fn find_witness(
     alloc: Global,
     program: &Program,

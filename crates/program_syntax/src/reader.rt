@@ -72,6 +72,10 @@ fn behind_keyword(
 }
 
 /// What a line without a cause leaves where no section is open, behind these declarations.
+///
+/// # Errors
+///
+/// `NoMemory` where an allocation fails.
 pub fn behind_declaration(
     alloc: Global,
     declared: Declared,

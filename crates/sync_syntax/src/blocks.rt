@@ -25,7 +25,11 @@ pub fn no_blocks(alloc: Global) -> Blocks
     }
 }
 
-/// With one more instruction. Where memory is wanting, `NoMemory`.
+/// With one more instruction.
+///
+/// # Errors
+///
+/// `NoMemory` where an allocation fails.
 pub fn with_instruction(mut blocks: Blocks, code: Code) -> Result<Blocks, NoMemory>
     ensures { IfOk result (λ b. blocks_of b ≡ with_statement (blocks_of blocks) (Plain code Nothing)) }
 {
@@ -35,7 +39,11 @@ pub fn with_instruction(mut blocks: Blocks, code: Code) -> Result<Blocks, NoMemo
     }
 }
 
-/// With one more block. Where memory is wanting, `NoMemory`.
+/// With one more block.
+///
+/// # Errors
+///
+/// `NoMemory` where an allocation fails.
 pub fn with_block(alloc: Global, blocks: Blocks, opener: Opener) -> Result<Blocks, NoMemory>
     ensures { IfOk result (λ b. blocks_of b ≡ with_block (blocks_of blocks) (opener_of opener)) }
 {
