@@ -171,10 +171,14 @@ fn enter_placed(heap: &Heap, pass: &mut Pass, why: &Purpose, bias: &Revocation) 
 /// Takes a hold of the object. `now` is the moment for the policy of bulk operations, in milliseconds from 1.
 ///
 /// `Done(path)` says that the thread has one more hold, by this path: the Enter is logged, and nothing is unfinished.
-/// Pending, no hold is taken and nothing logged, and the enter stays unfinished: `Owned { word }` says that the owner word
-/// of the object's monitor, which is `word`, names another thread; `Raced { expected, found }` that an exchange of this
-/// call missed; `Inflating` that the loaded mark was 0; `Stopping { word }` that the thread's request for a safepoint
-/// stands, and that by `word` another thread runs still; `Requested { word }` that by `word` another thread has a request.
+///
+/// Pending, no hold is taken and nothing logged, and the enter stays unfinished:
+///
+/// - `Owned { word }`: the owner word of the object's monitor, which is `word`, names another thread.
+/// - `Raced { expected, found }`: an exchange of this call missed.
+/// - `Inflating`: the loaded mark was 0, as another thread is inflating the lock.
+/// - `Stopping { word }`: the thread's request for a safepoint stands, and by `word` another thread runs still.
+/// - `Requested { word }`: by `word` another thread has a request.
 ///
 /// # Errors
 ///

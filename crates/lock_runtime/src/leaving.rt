@@ -57,9 +57,12 @@ fn leave_held(heap: &Heap, pass: &mut Pass, why: &Purpose, object: u32) -> Turn<
 
 /// Leaves the thread's newest hold of the object.
 ///
-/// `Done(())` says that it has: the Exit is logged, and nothing is unfinished. Pending, nothing is let go or logged, and the
-/// exit stays unfinished: `Raced { expected, found }` says that the exchange of the mark found another than the one loaded,
-/// and `Inflating` that the loaded mark was 0, as another thread is inflating the lock.
+/// `Done(())` says that it has: the Exit is logged, and nothing is unfinished.
+///
+/// Pending, nothing is let go or logged, and the exit stays unfinished:
+///
+/// - `Raced { expected, found }`: the exchange of the mark found another than the one loaded.
+/// - `Inflating`: the loaded mark was 0, as another thread is inflating the lock.
 ///
 /// # Errors
 ///

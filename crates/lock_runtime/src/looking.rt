@@ -162,10 +162,14 @@ fn dump_asking(
 /// lock and how often, and the length of each thread's log. Behind the shot idle monitors are given back.
 ///
 /// `Done(number)` says that the pass has one more shot, the last of `Pass::shots`, and that this is its number, from 1:
-/// the Dump is logged, behind the shot, and nothing is unfinished. Pending, no shot is taken and nothing logged, and the
-/// dump stays unfinished: `Stopping { word }` says that the thread's request for a safepoint stands, and that by `word`
-/// another thread runs still; `Requested { word }` that by `word`, which was loaded or found by the exchange, another
-/// thread has a request; `Raced { expected, found }` that the exchange of the request found another word with none.
+/// the Dump is logged, behind the shot, and nothing is unfinished.
+///
+/// Pending, no shot is taken and nothing logged, and the dump stays unfinished:
+///
+/// - `Stopping { word }`: the thread's request for a safepoint stands, and by `word` another thread runs still.
+/// - `Requested { word }`: by `word`, which was loaded or found by the exchange, another thread has a request.
+/// - `Raced { expected, found }`: the exchange of the request found another word, with none.
+///
 /// No clause says what becomes of the pass's draft of a shot.
 ///
 /// # Errors

@@ -121,13 +121,18 @@ fn wait_held(heap: &Heap, pass: &mut Pass, why: &Purpose, object: u32, now: u64)
 ///
 /// Pending, the wait stays unfinished.
 ///
-/// Where the thread has not let go, nothing is logged. `Raced { expected, found }` says that an exchange of this call
-/// missed; `Inflating` that the loaded mark was 0; `Stopping { word }` that the thread's request for a safepoint stands, and
-/// that by `word` another thread runs still; `Requested { word }` that by `word` another thread has a request.
+/// Where the thread has not let go, nothing is logged:
 ///
-/// Where it has let go, this call logged the Wait, or an earlier one. `NotNotified { word }` says that the thread's waiting
-/// word, which is `word`, tells of no notify. `Owned { word }` says that the thread was notified, and that the owner word of
-/// the object's monitor, which is `word`, names another thread.
+/// - `Raced { expected, found }`: an exchange of this call missed.
+/// - `Inflating`: the loaded mark was 0, as another thread is inflating the lock.
+/// - `Stopping { word }`: the thread's request for a safepoint stands, and by `word` another thread runs still.
+/// - `Requested { word }`: by `word` another thread has a request.
+///
+/// Where it has let go, this call logged the Wait, or an earlier one:
+///
+/// - `NotNotified { word }`: the thread's waiting word, which is `word`, tells of no notify.
+/// - `Owned { word }`: the thread was notified, and the owner word of the object's monitor, which is `word`, names
+///   another thread.
 ///
 /// The log needs room for two entries where the wait begins, and for the Resume alone where it has let go.
 ///
@@ -238,10 +243,13 @@ fn notify_held(
 ///
 /// `Done(Some(thread))` says which thread was notified, and `Done(None)` that none waited, as where a lock record of
 /// this thread has the lock: the Notify is logged with this answer, and nothing is unfinished.
-/// Pending, nobody is notified and nothing logged, and the notify stays unfinished: `Raced { expected, found }` says
-/// that an exchange of this call missed; `Inflating` that the loaded mark was 0; `Stopping { word }` that the thread's
-/// request for a safepoint stands, and that by `word` another thread runs still; `Requested { word }` that by `word`
-/// another thread has a request.
+///
+/// Pending, nobody is notified and nothing logged, and the notify stays unfinished:
+///
+/// - `Raced { expected, found }`: an exchange of this call missed.
+/// - `Inflating`: the loaded mark was 0, as another thread is inflating the lock.
+/// - `Stopping { word }`: the thread's request for a safepoint stands, and by `word` another thread runs still.
+/// - `Requested { word }`: by `word` another thread has a request.
 ///
 /// # Errors
 ///
@@ -345,10 +353,13 @@ fn notify_all_held(heap: &Heap, pass: &mut Pass, why: &Purpose, object: u32, now
 ///
 /// `Done(woken)` says how many there were, which is 0 where a lock record of this thread has the lock: each is
 /// notified, the NotifyAll of so many is logged, and nothing is unfinished.
-/// Pending, nobody is notified and nothing logged, and the notify stays unfinished: `Raced { expected, found }` says
-/// that an exchange of this call missed; `Inflating` that the loaded mark was 0; `Stopping { word }` that the thread's
-/// request for a safepoint stands, and that by `word` another thread runs still; `Requested { word }` that by `word`
-/// another thread has a request.
+///
+/// Pending, nobody is notified and nothing logged, and the notify stays unfinished:
+///
+/// - `Raced { expected, found }`: an exchange of this call missed.
+/// - `Inflating`: the loaded mark was 0, as another thread is inflating the lock.
+/// - `Stopping { word }`: the thread's request for a safepoint stands, and by `word` another thread runs still.
+/// - `Requested { word }`: by `word` another thread has a request.
 ///
 /// # Errors
 ///
