@@ -1,5 +1,4 @@
-//! Tests of the crates that stand on none: the words of the heap, the policy and the draws, the plain monitor, and the command line; and
-//! of the streams. They stand in a crate of their own, so that those aren't proved once more with them.
+//! Tests of the crates that stand on none, and of streams (`docs/ARCHITECTURE.md`, "Tests").
 #![tactic(auto)]
 
 #[cfg(test)]

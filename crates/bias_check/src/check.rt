@@ -202,7 +202,11 @@ fn know(program: &Program)
 /// Checks whether the lines, each an entry of the journal with its line feed, are a legal history of the program, where each thread
 /// has this much fuel and the generators of hashes start from `start`. The lines are read once, and each is taken in the time of
 /// a few look-ups of names. The lines have fewer than 2^32 bytes. A line that is unreadable is answered before one that is no step, wherever they
-/// stand, and a bad hash only where all lines are steps. Where memory is wanting, `NoMemory`.
+/// stand, and a bad hash only where all lines are steps.
+///
+/// # Errors
+///
+/// `Unreadable` with the number, from 1, of the first line that isn't the line of any entry. `NoMemory` where an allocation fails.
 pub fn check_journal(
     alloc: Global,
     program: &Program,

@@ -92,7 +92,7 @@ fn spelling_of(verb: Verb) -> &'static [u8]
     }
 }
 
-/// The same, by comparing one verb after the other.
+/// The verb with this spelling, found by comparing one after the other.
 fn verb_among(word: &[u8]) -> Option<Verb>
     ensures { result ≡ spelled_among verbs word.now }
 {

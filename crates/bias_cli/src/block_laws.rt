@@ -12,8 +12,9 @@ ghost use Rattle.bias_cli.specs.declared.finish.Finish.{Finish};
 ghost use Rattle.bias_cli.specs.Seen.{SinkSeen};
 ghost use Rattle.bias_cli.specs.Finish.{Meets, run_due, sync_due};
 
-/// It is the same to run a text with blocks by `sync`, and to have it compiled, and run what `compile` writes by `run` with the same options,
-/// unless that is longer than a text may be: what does what is due of one does what is due of the other.
+/// Running a text with blocks by `sync` is the same as compiling it, and running what `compile` writes by `run` with
+/// the same options, unless that is longer than a text may be. What does what is due of one does what is due of the
+/// other.
 pub fn compiling_first_changes_nothing()
     ensures run { (o : Options) (bytes : List ℕ) (s : SyncText) (before after : SinkSeen) (finish : Finish)
         → sync_program_of bytes ≡ Ok s → length (canonical (compiled decimal s)) ≤ most_bytes

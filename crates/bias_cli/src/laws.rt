@@ -51,11 +51,13 @@ pub fn records_can_be_replayed()
         → finish.run ≡ Some r → length r.logs ≡ length r.program.threads }
 {}
 
-/// Of a program of one thread the contract determines all that is due but the paths of enters and the numbers of classes, where
-/// memory suffices and no read or write fails: any two runs of it, under one fuel and one start of the generators of hashes, log
-/// the same entries with the same stamps, but for the paths of enters, and leave the same machine. So they are due the same status,
-/// and the same bytes where neither statistics, nor a journal, nor a report is asked for. How many workers there are, how long turns
-/// are, and whether there are biases may differ.
+/// Of a program of one thread the contract determines all that is due but the paths of enters and the numbers of
+/// classes, where memory suffices and no read or write fails.
+///
+/// Any two runs of it, under one fuel and one start of the generators of hashes, leave the same machine and log the
+/// same entries with the same stamps, but for the paths of enters. So they are due the same status, and the same
+/// bytes where neither statistics, nor a journal, nor a report is asked for. How many workers there are, how long
+/// turns are, and whether there are biases may differ.
 pub fn one_thread_decides_what_is_written()
     ensures logs { (o q : Options) (p : ProgramText) (r s : RunRecord) (c d : ClosedSeen) (m n : PlainMachine)
         → length p.threads ≡ 1 → o.fuel ≡ q.fuel → o.start ≡ q.start

@@ -44,24 +44,29 @@ use std::alloc::Global;
 use std::sync::Wait;
 use std::thread::Threads;
 
-/// Does what the arguments, `words`, ask for: `run` reads a program from the source to its end, or one byte past the limit of a text, runs it,
-/// and writes to the sink the bytes of the run's text: what its threads print and dump, in stamped order, how each of them ended,
-/// and then, where they ask for them, the lock statistics, the journal of all monitor calls, and a report of who waits for whom
-/// and how each object was locked and passed on. `sync` reads a program with blocks in the same way, and runs its code with the same
-/// options; and `compile` reads one and writes its code, as a text that `run` takes where it isn't too long. `check` reads a program with
-/// a journal of it, to the end or one byte past the limit of both, and writes whether the journal is a legal history of the program, and
-/// if not, from which line on it isn't. `outcomes` reads a program as `run` does, and writes how many states a search for every end of it kept,
-/// and how they end, with a journal that leads to an end where one is asked for. `make` reads nothing, and writes the text of the handover
-/// program for the number of items that they say (`made_program::handover`), which may be run then.
+/// Does what the arguments, `words`, ask for, and writes what is due to the sink. `words[0]` is the program's name.
 ///
-/// `words[0]` is the program's name. Where the arguments are not accepted, a read fails, or the text has no program, that is what is
-/// written, and there is no record, nor is there one of a check, of a search or of a program that is made or compiled (`Finish` has the statuses). At
-/// the first write that fails the writing stops, with a prefix of the text written and status 6. Memory runs out only before the
-/// first write, and leaves the sink as it was. Of the source, where it tells what is left, no more is taken than one byte past the limit.
+/// - `run` reads a program, runs it, and writes the text of the run: what its threads print and dump, in stamped
+/// order, and how each of them ended; then, where asked for, the lock statistics, the journal of all monitor calls,
+/// and a report of who waits for whom and how each object was locked and passed on.
+/// - `sync` reads a program with blocks, and runs its code with the same options.
+/// - `compile` reads one, and writes its code, as a text that `run` takes where it isn't too long.
+/// - `check` reads a program with a journal of it, and writes whether the journal is a legal history of the program,
+/// and if not, from which line on it isn't.
+/// - `outcomes` reads a program, looks for every end of it, and writes how many states it kept and how they end, with
+/// a journal that leads to an end where one is asked for.
+/// - `make` reads nothing, and writes the handover program for a number of items (`made_program::handover`).
 ///
-/// A program is run on a heap by workers of `rt`, each of which runs one thread of the program at a time for as many instructions as a
-/// turn has (`program_run::run_program`). The clock tells the policy of biases the time. The gate is visited at the start of each
-/// turn and may let other workers go first. Which of the legal runs it is they decide.
+/// Where the arguments are not accepted, a read fails, or the text has no program, that is what is written. Only
+/// `run` and `sync` leave a record (`Finish` has the statuses). At the first write that fails the writing stops, with
+/// a prefix of the text written and status 6. Memory runs out only before the first write, and leaves the sink as it
+/// was. A text is read to the end of the source, or one byte past its limit; of a source that tells what is left no
+/// more is taken.
+///
+/// A program is run on a heap by workers of `rt`, each of which runs one thread of the program at a time for as many
+/// instructions as a turn has (`program_run::run_program`). The clock tells the policy of biases the time. The gate
+/// is visited at the start of each turn and may let other workers go first. Which of the legal runs it is they
+/// decide.
 pub fn biasrun<R: Threads + Wait + Sync, S: Source, K: Sink, C: Clock + Sync, G: Gate + Sync>(
     rt: &R,
     alloc: Global,
@@ -73,9 +78,8 @@ pub fn biasrun<R: Threads + Wait + Sync, S: Source, K: Sink, C: Clock + Sync, G:
 ) -> Finish
     // Out of memory: nothing is left, and the sink is as it was.
     ensures given_up { result.status ≡ 7 → IsGivenUp sink.old sink.new result }
-    // The arguments, the text that was read and the run that was made of it, or the check of a journal,
-    // or the search for every end, or the number of items of a program that is made, say what is due,
-    // and that was written and answered, up to the first write that failed.
+    // What is due was written and answered, up to the first write that failed. The arguments and the text that was read say it,
+    // with the run that was made of it, the check, the search, or the number of items of a program that is made.
     ensures finished { result.status ≢ 7 →
         IsFinish (accepted (map (λ w. string_bytes w) words.now))
         (source_seen S.Source source.old) (source_seen S.Source source.new)

@@ -14,10 +14,13 @@ ghost use Rattle.outcome_search.specs.EveryEnd.{IsEveryEnd};
 ghost use Rattle.outcome_search.specs.Outcomes.{top_fuel};
 ghost use Rattle.bias_cli.specs.Finish.{IsRunOf, status_of};
 
-/// Where a search left no state open, the machine under the record of each run of the program, on any workers, with any biases, turns, clock
-/// and schedule, is one of the states that it kept, up to the fuel that is left, unless a thread of it is spent. So where it found no stuck
-/// end, no run is stuck, but for one with a spent thread; and where it found no end with a fault either, each other run has status 0. The
-/// search is one of the plain machine, and the runs are those of the real locks.
+/// A search that left no state open has kept the end of every run: the machine under the record of each run of the
+/// program, on any workers, with any biases, turns, clock and schedule, is one of its states, up to the fuel that is
+/// left, unless a thread of it is spent.
+///
+/// So where it found no stuck end, no run is stuck, but for one with a spent thread; and where it found no end with a
+/// fault either, each other run has status 0. The search is one of the plain machine, and the runs are those of the
+/// real locks.
 pub fn runs_end_as_a_search_found()
     ensures found { (o : Options) (p : ProgramText) (most : ℕ) (counts : Outcomes) (r : RunRecord) (c : ClosedSeen)
         (m : PlainMachine) (every : IsEveryEnd p most counts) → counts.«open» ≡ 0 → o.fuel ≤ most_fuel → IsRunOf o p r c m

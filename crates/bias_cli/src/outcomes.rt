@@ -47,7 +47,7 @@ pub(crate) fn find_source<S: Source, K: Sink>(
     }
 }
 
-/// The same of the program that the bytes have.
+/// Reads the program that the bytes have, and looks for its ends.
 fn find_text<K: Sink>(
     alloc: Global,
     states: u32,
@@ -69,7 +69,7 @@ fn find_text<K: Sink>(
     }
 }
 
-/// The same of the program.
+/// Looks for the ends of the program, and writes what it found.
 fn find_ends<K: Sink>(
     alloc: Global,
     states: u32,

@@ -69,7 +69,7 @@ fn cause_text(why: Why) -> &'static [u8]
     }
 }
 
-/// The same of a text with blocks.
+/// The name of a cause of refusal of a text with blocks.
 fn sync_cause_text(why: SyncWhy) -> &'static [u8]
     ensures text { result.now ≡ sync_cause_text why }
     ensures short { length result.now ≤ 11 }

@@ -253,7 +253,7 @@ fn write_run<K: Sink>(sink: &mut K, options: &Options, done: Done) -> Finish
     }
 }
 
-/// The same, and the status is all that comes of it.
+/// Writes the text of a run that is over, and answers the status alone.
 fn write_done<K: Sink>(
     sink: &mut K,
     options: &Options,

@@ -12,15 +12,16 @@ ghost use Rattle.bias_cli.specs.Seen.{SinkSeen};
 ghost use Rattle.bias_cli.specs.Finish.{IsRunOf, LeavesRun, status_of};
 ghost use Rattle.bias_cli.specs.MayBeWritten.{AsksForNoMore, IsAllowedBy, MayBeWritten, WroteAllowed};
 
-/// What a run of a program may write without statistics, journal and report, and with which status, is one set for `--bias on` and
-/// `--bias off`, for all numbers of workers, all lengths of turns and all ticks: `MayBeWritten` has of the options the fuel and the start of
-/// the generators of hashes alone. What a run writes under any options is of the set, and under any options all of the set is allowed. So
-/// what is said of a run allows the same texts and statuses under all options that have the same fuel and the same start. The program may
-/// be the code of a program with blocks (`LeavesRun` is said of `run` and of `sync`).
+/// The texts that a run of a program may write without statistics, journal and report, each with its status, are one
+/// set for `--bias on` and `--bias off`, for all numbers of workers, all lengths of turns and all ticks.
 ///
-/// The set is what is allowed, and not what is reached: it is of all runs that the plain machine, the stamps, the draws and the shots allow,
-/// and which of them the workers come to under some options, no contract says. One worker with long turns may never come to a schedule that
-/// is allowed.
+/// `MayBeWritten` has of the options the fuel and the start of the generators of hashes alone. What a run writes
+/// under any options is of the set, and under any options all of the set is allowed. The program may be the code of a
+/// program with blocks (`LeavesRun` is said of `run` and of `sync`).
+///
+/// The set is what is allowed, and not what is reached. It is of all runs that the plain machine, the stamps, the
+/// draws and the shots allow. Which of them the workers come to under some options, no contract says: one worker with
+/// long turns may never come to a schedule that is allowed.
 pub fn settings_change_nothing_that_may_be_written()
     ensures run { (o : Options) (p : ProgramText) (r : RunRecord) (c : ClosedSeen) (m : PlainMachine) → IsRunOf o p r c m
         → MayBeWritten p o.fuel o.start (status_of m) (text_of_run false false r m) }

@@ -53,6 +53,8 @@ fn enter_own(
 /// `Took(BiasTaken)` says that the mark is biased, which it is to the thread: the hold word is stored and the Enter
 /// logged. `Unbiased { mark }` says that the mark has no bias pattern: no hold was taken and nothing logged. Either way
 /// the mark is left as it is, and there is no other answer.
+///
+/// In OpenJDK 8: `ObjectSynchronizer::fast_enter` (`synchronizer.cpp`), behind `BiasedLocking::revoke_and_rebias`.
 pub fn bias_after(heap: &Heap, pass: &mut Pass, why: &Purpose, object: u32, took: bool) -> BiasTry
     requires heap { IsOf heap.now pass.old }
     requires object { object < length heap.now.heap.shape.objects }

@@ -14,6 +14,9 @@ use mark_word::{MarkForm, encode};
 
 /// Exchanges the biased mark for this neutral one. `Unbiased` has the neutral mark, which stands now. `Raced` has the
 /// biased mark and the other one that the exchange found and left.
+///
+/// In OpenJDK 8: the exchanges of `BiasedLocking::revoke_and_rebias` (`biasedLocking.cpp`) for a mark without the
+/// bias.
 pub fn unbias(
     heap: &Heap,
     pass: &mut Pass,
@@ -123,6 +126,9 @@ fn drop_biased(
 /// where the bias was to nobody or in an epoch that is over. `Valid { mark }` says that the mark is validly biased to a
 /// thread, and is left as it is. `Raced { expected, found }` says that an exchange expected the biased mark and found
 /// another, which it left. Nothing is logged, and no hold changes.
+///
+/// In OpenJDK 8: `BiasedLocking::revoke_and_rebias` with `attempt_rebias` false (`biasedLocking.cpp`), up to where it
+/// needs a safepoint.
 pub fn bias_drop(heap: &Heap, pass: &mut Pass, why: &Purpose, object: u32) -> BiasTry
     requires heap { IsOf heap.now pass.old }
     requires due { IsDueOn heap.now pass.old why.now.task (bias_drop_steps heap.now.heap.shape why.now object) }

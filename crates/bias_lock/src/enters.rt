@@ -17,6 +17,8 @@ use plain_monitor::Path;
 use stack_lock::hold;
 
 /// Stores the hold under a bias to the thread, and logs the Enter with this path. It answers `Took` with the path.
+///
+/// In OpenJDK 8: the end of `MacroAssembler::biased_locking_enter` (`macroAssembler_x86.cpp`).
 pub fn took(heap: &Heap, pass: &mut Pass, why: &Purpose, object: u32, path: Path) -> BiasTry
     requires heap { IsOf heap.now pass.old }
     requires object { object < length heap.now.heap.shape.objects }
@@ -176,6 +178,10 @@ fn enter_biased(
 /// `Valid { mark }` says that the mark is validly biased to another thread. `Raced { expected, found }` says that an
 /// exchange expected the biased mark and found another, which it left. In these three no hold was taken and nothing
 /// logged, and the thread's own words are as they were.
+///
+/// In OpenJDK 8: `MacroAssembler::biased_locking_enter` (`macroAssembler_x86.cpp`), and
+/// `BiasedLocking::revoke_and_rebias` with `attempt_rebias` true (`biasedLocking.cpp`), up to where it needs a
+/// safepoint.
 pub fn bias_enter(heap: &Heap, pass: &mut Pass, why: &Purpose, object: u32) -> BiasTry
     requires heap { IsOf heap.now pass.old }
     requires object { object < length heap.now.heap.shape.objects }

@@ -35,6 +35,8 @@ fn leave_marked(heap: &Heap, pass: &mut Pass, why: &Purpose, object: u32, place:
 /// `true` says that it has: the hold word is cleared and the Exit logged. The mark is left as it is, so that the bias
 /// stays. `false` says that it has not: nothing is let go and nothing logged. Either way the object's stamp was raised
 /// before, where this is the thread's last hold.
+///
+/// In OpenJDK 8: `MacroAssembler::biased_locking_exit` (`macroAssembler_x86.cpp`).
 pub fn bias_exit(heap: &Heap, pass: &mut Pass, why: &Purpose, object: u32) -> bool
     requires heap { IsOf heap.now pass.old }
     requires object { object < length heap.now.heap.shape.objects }

@@ -109,8 +109,8 @@ pub fn the_release_ends_the_revocation()
 /// more: that it stands before taking the object where it took a bias, and in the middle of nothing where it took none.
 pub fn a_load_ends_the_revocation()
     // `MayLookAfterRevoking`: besides, that it loaded or stored at its safepoint each mark, each word of a class and each class word that it saw
-    // before in the calls of the request: a revocation loads the object's mark, its class word where it isn't declared, and the words of its class,
-    // and an operation sees no others before
+    // before in the calls of the request. A revocation loads the object's mark, its class word where it isn't declared, and the words of its class.
+    // An operation sees no others before.
     ensures calm { (w : World) (objects : List PlainObject) (t : ℕ) (e : Purpose) (b : Revocation) (at : Name)
         → MayLookAfterRevoking w.shape (w.known t) e t b
         → IsValid w objects → Fits (world_after (load e at) t w) objects }

@@ -1,9 +1,8 @@
-//! Laws of calls on the heap, by the trees of their steps alone: what each call logs and leaves unfinished, why it is pending, how
-//! many steps it makes, and what it counts by its moment.
+//! Laws of calls on the heap, by the trees of their steps alone.
 //!
-//! A law is a public function with an empty body. No world is spoken of: a call's steps are a tree, with a branch for each word that
-//! a step may find, and a law holds along every path. So the code that makes a call's steps knows all this by following the
-//! tree.
+//! A law is a public function with an empty body. No world is spoken of: a call's steps are a tree, with a branch for
+//! each word that a step may find, and a law holds along every path. So the code that makes a call's steps knows all
+//! this by following the tree.
 #![tactic(auto)]
 
 mod bounding;

@@ -89,9 +89,9 @@ pub fn release_logs_nothing()
         → Tells before after (λ ms. ReleaseSays k ms a) }
 {}
 
-/// A check that is done answers true exactly where, by the words that it loaded, some thread is live and none can go on: of each thread it
-/// loaded the waiting word, and where that says that the thread enters an object or was notified on it, the object's mark and the owner of
-/// its monitor.
+/// A check that is done answers true exactly where, by the words that it loaded, some thread is live and none can go
+/// on. Of each thread it loaded the waiting word. Where that says that the thread enters an object or was notified on
+/// it, it loaded the object's mark and the owner of its monitor too.
 pub fn check_answers_whether_any_thread_goes_on()
     ensures { (s : Shape) (k : Start) → Says (check_steps s k) (CheckFinds s) }
 {}

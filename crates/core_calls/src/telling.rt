@@ -14,9 +14,9 @@ ghost use Rattle.core_world.specs.Due.{Ran};
 ghost use Rattle.core_calls.specs.Paths.{Says, Tells};
 ghost use Rattle.core_calls.specs.CallsSay.{HashSays, GetSays, PutSays, PrintSays, FinishSays, DumpSays};
 
-/// A hash that is done logs its Hash with the value that it answers: as not drawn, and then a header that it loaded has this hash, or as drawn
-/// by this call, with the value and the number of the thread's next draw, and then its exchange put this hash into a header. A pending one
-/// logs nothing and stays unfinished.
+/// A hash that is done logs its Hash with the value that it answers. It logs it as not drawn where a header that it
+/// loaded has this hash. Else it logs it as drawn by this call, with the number of the thread's next draw, and its
+/// exchange put this hash into a header. A pending one logs nothing and stays unfinished.
 pub fn hash_logs_its_answer()
     ensures steps { (s : Shape) (k : Start) (o now : ℕ) → Says (hash_steps s k o now) (HashSays k o) }
     ensures run { (s : Shape) (k : Start) (o now : ℕ) (shape : Shape) (start : ℕ) (before after : Known) (a : Turn ℕ)

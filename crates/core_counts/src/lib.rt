@@ -1,5 +1,4 @@
-//! The law of biases: what the counts of verdicts and the words of the classes say of one another, and what the logs say of the
-//! marks. It holds of the opening world, and each step keeps it.
+//! The law of biases (`core_law/specs/BiasLaw.antt`) holds of the opening world, and each step keeps it.
 #![tactic(auto)]
 
 mod kinds;

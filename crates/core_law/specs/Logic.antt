@@ -53,6 +53,6 @@ pub record Does {A : Type 0} (heap : Heap) (fresh : Bool) (d : Todo A) (k : Know
     (Q : Bool → A → Known → Type 0) : Type 0 where
   pub by : Doing heap fresh d k Q
 
--- The same where anything may hold behind its answers.
+-- Its steps keep the world so, and nothing is asked of what holds after its answers.
 abbrev pub DoesSteps : {A : Type 0} → Heap → Bool → Todo A → Known → Type 0
 DoesSteps heap fresh d k = Does heap fresh d k (λ b a l. Unit {0})

@@ -1,4 +1,4 @@
--- Sound worlds: valid, the laws among the clauses, and what is left of each thread's call keeps them valid up to its end, at which the thread is at rest.
+-- Sound worlds: the clauses and the laws hold, and every thread can finish its call with all of them kept.
 use Rattle.std.specs.Prelude.{ℕ, ◌<◌, Bool, false}
 use Rattle.core_world.specs.Threads.AtRest.{AtRest}
 use Rattle.core_world.specs.Threads.Known.{Known}
@@ -12,7 +12,7 @@ use Rattle.core_law.specs.Logic.{Heap, heap_of, Does}
 abbrev pub Finishes : Heap → Bool → Todo (Unit {0}) → Known → Type 0
 Finishes heap fresh d k = Does heap fresh d k (λ fresh a l. AtRest heap.shape l)
 
--- The world is valid, and the laws hold. What is left of each thread's call does its steps up to its end at rest; where nothing is left, the thread is at rest.
+-- Every clause and both laws hold, and every thread can finish its call: each step that is left keeps them, and after the last the thread is at rest.
 pub record Sound (w : World) : Type 0 where
   pub valid : WhollyValid w
   pub goes_on : (t : ℕ) → t < w.shape.threads

@@ -20,7 +20,7 @@ use Rattle.core_world.specs.Clauses.Safepoints.{IsUnfinished, ends}
 use Rattle.core_locks.specs.Knowing.{GoesOn, IsOut, HasHold, SawInflated, SawOwn, IsOwnEntry}
 
 -- Loading the stamp, which logs Enter: the hold word stands at place p, the waiting word is Ready, and no other operation is unfinished, such as
--- an exit or a wait, for which the stamp could be raised already.
+-- an exit or a wait: these raise the object's stamp before they let go, and it could be above the Enter's.
 pub record MayLogEnter (s : Shape) (k : Known) (o p : ℕ) (path : Path) : Type 0 where
   pub runs : k.running ≡ true
   pub stage : k.stage ≡ Enters o p path
@@ -115,8 +115,8 @@ pub record MayWait (s : Shape) (k : Known) (e : Purpose) (o m stamp : ℕ) : Typ
   pub high : next_stamp (local_of k) ≤ stamp
   pub room : length k.log < log_limit
 
--- Nobody waits on o, of which the thread is the owner: in this call it saw a mark of o that names no monitor, or that no thread of n says
--- it waits on o.
+-- Nobody waits on o, of which the thread is the owner: in this call it saw a mark of o that names no monitor, as who waits has the object inflated; or
+-- that no thread of n says it waits on o.
 abbrev pub SawNobody : ℕ → Known → ℕ → Type 0
 SawNobody n k o =
     ((v : ℕ) × (last_seen (Mark o) k.seen ≡ Some v) × (monitor_in v ≡ None))

@@ -18,7 +18,8 @@ pub record IsFree (k : Known) (p : ℕ) : Type 0 where
   pub place : p < most_holds
   pub empty : slice_index k.holds p ≡ 0
 
--- Storing a displaced word of its own: at a free place, for which it has exchanged no mark.
+-- Storing a displaced word of its own: at a free place, for which it has exchanged no mark. The thread stays at its stage: an enter that has the
+-- monitor already goes on.
 pub record MayDisplace (k : Known) (e : Purpose) (p : ℕ) : Type 0 where
   pub runs : k.running ≡ true
   pub free : IsFree k p
@@ -37,7 +38,8 @@ pub record MaySeize (k : Known) (e : Purpose) (o mark p : ℕ) : Type 0 where
 
 -- What went before a hold word: the exchange of a neutral mark for the place; or a displaced word 0 there, by a thread that holds o; or the
 -- exchange of a free owner word and a displaced word 3; or, by a thread that found itself the owner by the monitor in this call, the recursions
--- raised and a displaced word 3; or a bias of o to the thread, which it has just stored, or found.
+-- raised and a displaced word 3; or a bias of o to the thread, which it has just stored, or found. Risen recursions ask for the sights of the
+-- inflated mark and of the own owner word, since what the thread owns doesn't say by which way, and they count records of the monitor's way alone.
 abbrev pub Precedes : Shape → Known → ℕ → ℕ → Type 0
 Precedes s k o p =
     (k.stage ≡ Seizes o p)

@@ -66,7 +66,8 @@ SeesHeldUp k t =
 abbrev pub SeesEnded : Known → ℕ → Type 0
 SeesEnded k t = (v : ℕ) × (last_seen (Waiting t) k.seen_at_safepoint ≡ Some v) × (says_ended v ≡ true)
 
--- Halting: its safepoint is reached, it hasn't ended itself, and by what it has seen since, each of the n threads has ended or is held up.
+-- Halting: its safepoint is reached, it hasn't ended itself, and by what it has seen since, each of the n threads has ended or is held up. Marks and
+-- owners count that were seen there, which is why a thread at its reached safepoint may load too, and not a running one alone.
 pub record MayHalt (n : ℕ) (k : Known) (e : Purpose) : Type 0 where
   pub reached : k.reached ≡ true
   pub calm : k.stage ≡ Calm

@@ -49,8 +49,9 @@ pub fn moving_the_end_of_the_ring_keeps_the_world_valid()
         (λ w t. advance_plan e (w.known t).stage end) }
 {}
 
-/// A claim gives only a monitor that the heap has, that no mark names, that no thread keeps or gives back, whose place no other thread has
-/// claimed, and that stands at no filled position: so one that nobody owns, waits on or stands before, and that no other claim gives until it is given back.
+/// A claim gives a monitor that nobody has. The heap has it, no mark names it, no thread keeps it or gives it back,
+/// no other thread has claimed its place, and it stands at no filled position. So nobody owns it, waits on it or
+/// stands before it, and no other claim gives it until it is given back.
 pub fn a_claim_gives_a_monitor_of_nobody()
     ensures { (w : World) (objects : List PlainObject) (t : ℕ) (e : Purpose) (p : ℕ) → MayFetch (w.known t) e p
         → IsValid w objects

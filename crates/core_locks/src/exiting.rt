@@ -10,15 +10,17 @@ ghost use Rattle.core_world.specs.Trees.Plans.{Purpose};
 ghost use Rattle.core_locks.specs.Knowing.{KeepsValid, LogsValid};
 ghost use Rattle.core_locks.specs.LockLaws.{MayLeave, MayLetGo};
 
-/// A thread that clears the deepest of its hold words of an object, and so logs Exit, gives a valid world. The plain monitor's
-/// count falls by one. The record is recursive by its displaced word 0; or it was made through the monitor, whose recursions the
-/// thread has lowered already, so that they count one record less than it has until this step; or the object is biased to the thread,
-/// and the hold may be its only one: then the object has no plain owner any more, and its stamp word, which the thread has raised,
-/// bounds the entry.
+/// A thread that clears the deepest of its hold words of an object, and so logs Exit, gives a valid world. The plain
+/// monitor's count falls by one.
+///
+/// There are three cases. The record is recursive, by its displaced word 0. Or it was made through the monitor: the
+/// thread has lowered the recursions already, so that they count one record less than it has until this step. Or the
+/// object is biased to the thread, and the hold may be its only one. Then the object has no plain owner any more, and
+/// its stamp word, which the thread has raised, bounds the entry.
 pub fn exiting_by_a_hold_word_keeps_the_world_valid()
-    // `t` is one of the heap's threads, and works for the exit, by the definition of the steps. `MayLeave` is of what the thread last stored and saw; that the hold
-    // isn't the only one where its displaced word is 0, and that the owner word names the thread, follows from the clauses on records,
-    // recursions and owners where these words were loaded, and that a bias of an object that the thread holds is its own from the clause on biases
+    // `t` is one of the heap's threads, and works for the exit, by the definition of the steps. `MayLeave` is of what the thread last stored and saw.
+    // That the hold isn't the only one where its displaced word is 0, and that the owner word names the thread, the clauses on records, recursions
+    // and owners give where these words were loaded. That a bias of an object which the thread holds is its own, the clause on biases gives.
     ensures { (e : Purpose) (o d p : ℕ)
         → LogsValid (λ w t. MayLeave w.shape (w.known t) o d p) (λ w t. leave_plan e t o p) (Exit o) }
 {}

@@ -1,5 +1,4 @@
-//! The law of what is there: which of the objects that threads may make are there, by the logs, and what the words of the others
-//! are. It holds of the opening world, and the steps keep it.
+//! The law of what is there (`core_law/specs/MadeLaw.antt`) holds of the opening world, and the steps keep it.
 #![tactic(auto)]
 
 mod laws;

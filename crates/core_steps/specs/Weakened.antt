@@ -66,9 +66,8 @@ any_object_steps o c prototype = do
   _ ← ask (make_plan (creating o c) o c prototype)
   done o
 
--- A thread at this stage is in the middle of taking or leaving a lock, of a wait, of an inflation, or of telling several of those who wait, so
--- that no thread may stop there. (Where it has taken a bias, or has become a monitor's owner in place of its record, the clauses hold of a thread in
--- the middle of nothing too.)
+-- No thread may stop at this stage: it is in the middle of taking or leaving a lock, of a wait, of an inflation, or of telling several of those who
+-- wait. (At `Takes` and `TakesOver` the clauses hold of a thread in the middle of nothing too.)
 abbrev pub is_between : Stage → Bool
 is_between (Seizes object place) = true
 is_between (Grabs object) = true

@@ -1,4 +1,4 @@
-//! The law of all steps: every next step of a thread leads from a sound world to a sound one.
+//! Every next step of a thread leads from a sound world to a sound one.
 #![tactic(auto)]
 
 mod refused;

@@ -61,9 +61,11 @@ pub fn no_stop_between_steps_on_a_lock()
         (known_in seized) → ⊥) }
 {}
 
-/// A stop, by the steps that every stop makes, of a thread that stands in the middle of taking or leaving a lock, of a wait, of an
-/// inflation, or of telling several of those who wait: it would stand in the middle of nothing then, where the locks, its hold words or the
-/// waiting words are ahead of its log, or behind it. So are the recursions of a monitor that it owns, where they are ahead or behind.
+/// A stop of a thread that is in the middle of taking or leaving a lock, of a wait, of an inflation, or of telling
+/// several of those who wait, by the steps that every stop makes.
+///
+/// It would stand in the middle of nothing then, while the locks, its hold words or the waiting words are ahead of
+/// its log, or behind it; as may be the recursions of a monitor that it owns.
 pub fn no_stop_in_the_middle_of_a_lock()
     ensures refused { (heap : Heap) (k : Known) (fresh : Bool) (v : Stands heap k) (e : Purpose)
         → is_idle heap.shape k ≡ fresh → k.running ≡ true → is_between k.stage ≡ true

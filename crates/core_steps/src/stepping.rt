@@ -60,9 +60,11 @@ pub fn reached_worlds_are_valid()
         → Comes heap (world_after p k.thread w) }
 {}
 
-/// In each world to which a heap comes every stamp in the logs is exact. That of an Enter or a Resume is one more than the greater of the
-/// last stamp before it in its own log and the last stamp below it with which a thread let go of the object, by a Wait or the exit of its
-/// only hold; every other entry has the next stamp of its own log. The thread that logs the entry knows its own log alone: the step finds
+/// In each world to which a heap comes every stamp in the logs is exact.
+///
+/// An Enter or a Resume has one more than the greater of two stamps: the last one before it in its own log, and the
+/// last one below it with which a thread let go of the object, by a Wait or the exit of its only hold. Every other
+/// entry has the next stamp of its own log. The thread that logs the entry knows its own log alone: the step finds
 /// the stamp in the object's word.
 pub fn stamps_of_reached_worlds_are_exact()
     ensures takes { (w : World) (t : ℕ) (p : StepPlan) → t < w.shape.threads → Sound w

@@ -170,7 +170,7 @@ pub record Valid (w : World) : Type 0 where
   pub objects : List PlainObject
   pub is : IsValid w objects
 
--- The same with one more clause, which holds of the world as it is, or, while a bias is revoked, of the world before the first store.
+-- The world is valid, and one more clause holds: of the world as it is or, during a revocation, of the world before its first store.
 abbrev pub IsValidWith : (World → Type 0) → World → List PlainObject → Type 0
 IsValidWith clause w objects = (Fits w objects × clause w) ⊎ ((s : IsRevoking w objects) × clause s.before)
 

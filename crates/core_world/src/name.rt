@@ -9,7 +9,7 @@ pub enum Name {
     Prototype { class: u32 },
     /// How many revocations of the class count for the policy of bulk operations.
     Revocations { class: u32 },
-    /// The moment of the class's last bulk operation, 0 for none.
+    /// The moment of the class's last bulk operation, in milliseconds from 1, or 0 for none.
     LastBulk { class: u32 },
     /// The object's header.
     Mark { object: u32 },

@@ -58,13 +58,14 @@ pub enum Stage {
         thread: u32,
         place: u32,
     },
-    /// It notified so many waiters of the object, but not all, and the NotifyAll isn't logged.
+    /// It notified so many waiters of the object, but not all, and the NotifyAll isn't logged. The words alone don't tell how many: an earlier
+    /// notify may have told others.
     Notifies {
         object: u32,
         notified: u32,
     },
     /// It carries out the revocation of the object's bias at its safepoint, from the first store on. `rebias` is true in an enter,
-    /// and `now` is the moment that the policy of bulk operations is given.
+    /// and `now` is the moment that the policy of bulk operations is given, in milliseconds.
     Revokes {
         object: u32,
         rebias: bool,

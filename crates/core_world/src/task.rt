@@ -22,7 +22,7 @@ pub struct Unfinished {
     pub object: u32,
 }
 
-/// A call on the heap with its arguments. `now` is the moment for the policy of bulk operations.
+/// A call on the heap with its arguments. `now` is the moment for the policy of bulk operations, in milliseconds from 1.
 #[derive(Clone, Copy)]
 pub enum Task {
     Enter {

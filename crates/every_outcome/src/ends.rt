@@ -22,8 +22,9 @@ pub fn led_machines_are_under_legal_logs()
     ensures { (p : ProgramText) (fuel : ℕ) (m : PlainMachine) → IsProgram p → LeadsTo (new_machine p fuel) m → IsAfterLogs p fuel m }
 {}
 
-/// A list that covers the first machine, and each one behind an entry of one of its own, where all threads get their fuel back behind
-/// each entry, has every end of every run with at most this fuel in which no thread is spent, up to the fuel that is left.
+/// A list has every end of every run with at most this fuel in which no thread is spent, up to the fuel that is left,
+/// where it covers the first machine and each one after an entry of one of its own. All threads get their fuel back
+/// after each entry.
 pub fn full_lists_have_every_end_of_any_fuel()
     ensures { (p : ProgramText) (fuel top : ℕ) (seen : List PlainMachine) (logs : List (List Logged)) (n : PlainMachine)
         → IsProgram p → IsClosedFull p top seen → fuel ≤ top → machine_after p fuel logs ≡ Some n → IsOver n

@@ -57,11 +57,10 @@ ring_from s = monitors_from s + 11 * (many s + s.threads)
 abbrev pub word_count : Shape → ℕ
 word_count s = ring_from s + ring_places s
 
--- A word's place. The words of one group are mostly stored by one thread at a time; those of two groups, and the
--- safepoint word and the claim word, and a thread's waiting word and its other words, lie 8 words apart or more, and so
--- in different lines of a cache, wherever the table begins. The ring's end lies beside the claim word, and in the line of
--- the safepoint word where the table begins at a line; and the words of the ring lie side by side. They are stored only
--- at a reached safepoint, where nobody runs, and a claim only loads one.
+-- A word's place. The words of one group are mostly stored by one thread at a time. Those of two groups lie 8 words apart or more, and so in
+-- different lines of a cache, wherever the table begins. So do the safepoint word and the claim word, and a thread's waiting word and its other
+-- words. The ring's end lies beside the claim word, and in the line of the safepoint word where the table begins at a line; the words of the ring
+-- lie side by side. These are stored only at a reached safepoint, where nobody runs, and a claim only loads one.
 abbrev pub place_of : Shape → Name → ℕ
 place_of s Safepoint = 0
 place_of s Claim = 8

@@ -14,8 +14,8 @@ use Rattle.heap_table.specs.declared.setting.Setting.{Setting}
 abbrev pub heap_in : Setting → Heap
 heap_in b = record { shape = b.shape; start = b.start; biasing = b.biasing }
 
--- There was a sound world of this heap in which the thread knew k and the found word stood there, and the step made a
--- sound world of it.
+-- At the moment of the step the heap was in a sound world, in which the thread knew k and the word was the one found. After it, it is in a sound
+-- world again.
 pub record Stepped (heap : Heap) (k : Known) (p : StepPlan) (found : ℕ) : Type 0 where
   pub world : World
   pub is_of : heap_of world ≡ heap
@@ -37,7 +37,7 @@ WereMade heap t (m ∷ ms) = Stepped heap (known_behind heap t ms) m.plan m.foun
 unfoldable pub IsLawful : Heap → Type 0
 IsLawful heap = HeapLaw heap
 
--- There was a sound world of this heap in which the thread knew k; and it came to know it by its own steps, each in such a world.
+-- At some moment the heap was in a sound world in which the thread knew k. It came to know k by its own steps, each made in such a world.
 pub record IsReal (heap : Heap) (k : Known) : Type 0 where
   pub world : World
   pub is_of : heap_of world ≡ heap

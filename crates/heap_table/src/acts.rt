@@ -16,7 +16,7 @@ use mark_word::SafeForm;
 
 /// Steps that log nothing. Each answers the word that it found.
 impl Heap {
-    /// A load.
+    /// Loads the word.
     #[inline(always)]
     pub fn load(&self, pass: &mut Pass, why: &Purpose, stage: Stage, at: Name) -> u64
         requires { CanStep self.now pass.old (load_plan why.now stage at) }
@@ -25,7 +25,7 @@ impl Heap {
         self.step(pass, quiet(why, stage, at, Act::Load))
     }
 
-    /// A load of the safepoint word. It answers what the word says, too.
+    /// Loads the safepoint word. It answers what the word says, too.
     #[inline(always)]
     pub fn look(&self, pass: &mut Pass, why: &Purpose) -> (u64, Option<SafeForm>)
         requires { CanStep self.now pass.old (load why.now Name.Safepoint) }
@@ -36,7 +36,8 @@ impl Heap {
         (found, safe_of_word(found))
     }
 
-    /// A store.
+    /// Stores the word. In the built code it is an exchange: its contract speaks of the word that it found, so it
+    /// fetches that in the same act.
     #[inline(always)]
     pub fn store(&self, pass: &mut Pass, why: &Purpose, stage: Stage, at: Name, word: u64) -> u64
         requires { CanStep self.now pass.old (store_plan why.now stage at word) }
@@ -45,7 +46,7 @@ impl Heap {
         self.step(pass, quiet(why, stage, at, Act::Store { word }))
     }
 
-    /// A store in the thread's own hold word of this place.
+    /// Stores the thread's own hold word of this place.
     #[inline(always)]
     pub fn store_hold(
         &self,
@@ -63,7 +64,7 @@ impl Heap {
         self.store(pass, why, stage, Name::Hold { thread, place }, word)
     }
 
-    /// A compare-exchange: the word becomes `word` where it is `expected`.
+    /// Exchanges the word for `word` where it is `expected`, by a compare-exchange.
     #[inline(always)]
     pub fn exchange(
         &self,
@@ -80,7 +81,7 @@ impl Heap {
         self.step(pass, quiet(why, stage, at, Act::Swap { expected, word }))
     }
 
-    /// The word becomes `word` where it is smaller.
+    /// Raises the word to `word` where it is smaller.
     #[inline(always)]
     pub fn raise(&self, pass: &mut Pass, why: &Purpose, at: Name, word: u64) -> u64
         requires { CanStep self.now pass.old (quiet_plan why.now at (Act.Raise word)) }
@@ -89,7 +90,7 @@ impl Heap {
         self.step(pass, quiet(why, Stage::Calm, at, Act::Raise { word }))
     }
 
-    /// Of the word only these bits are left.
+    /// Clears all bits of the word but these.
     #[inline(always)]
     pub fn mask(&self, pass: &mut Pass, why: &Purpose, at: Name, bits: u64) -> u64
         requires { CanStep self.now pass.old (quiet_plan why.now at (Act.Mask bits)) }

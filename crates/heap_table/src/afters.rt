@@ -26,7 +26,7 @@ pub struct Stand {
     pub halted: bool,
 }
 
-/// The monitor that it keeps.
+/// Keeps the monitor found, or none any more, as the step says.
 #[inline(always)]
 pub fn keep_next(kept: &mut Option<u64>, own: &Own, found: u64)
     ensures { kept.new ≡ kept_after own.now found kept.old }
@@ -38,6 +38,7 @@ pub fn keep_next(kept: &mut Option<u64>, own: &Own, found: u64)
     }
 }
 
+/// The recursions that the thread has saved behind a step that hit and found this word.
 #[inline(always)]
 pub fn saved_next(own: &Own, found: u64, saved: u64) -> u64
     ensures { result ≡ saved_after own.now found saved }
@@ -48,6 +49,7 @@ pub fn saved_next(own: &Own, found: u64, saved: u64) -> u64
     }
 }
 
+/// The entry that such a step logs, if it logs one, where it found this word.
 #[inline(always)]
 pub fn entry_next(note: &Note, found: u64) -> Option<Entry>
     ensures { result ≡ entry_after note.now found }
@@ -75,6 +77,7 @@ pub fn entry_next(note: &Note, found: u64) -> Option<Entry>
     }
 }
 
+/// The operation that is unfinished behind the step: a hash that is found ends its own.
 #[inline(always)]
 pub fn unfinished_next(note: &Note, found: u64, after: Option<Unfinished>) -> Option<Unfinished>
     ensures { result ≡ unfinished_after note.now found after }
@@ -89,7 +92,7 @@ pub fn unfinished_next(note: &Note, found: u64, after: Option<Unfinished>) -> Op
     }
 }
 
-/// The stamp of an entry.
+/// The stamp of an entry, by the word found and the log's last stamp.
 #[inline(always)]
 pub fn stamp_next(entry: &Entry, found: u64, last: u64) -> u64
     requires { stamp_by entry.now found last < 18446744073709551616 }
@@ -118,7 +121,7 @@ fn looked_next(form: Option<SafeForm>, stand: Stand) -> Stand
     }
 }
 
-/// The same by the word. One with running bits alone tells nothing new to a thread that asks for no safepoint: then nothing is written.
+/// Follows what the thread knows behind a load that found this word. One with running bits alone tells nothing new to a thread that asks for no safepoint: then nothing is written.
 #[inline(always)]
 #[tactic(auto, using(crate::proofs::Idling::looked_idle))]
 fn looked_at(word: u64, stand: &mut Stand)
@@ -165,7 +168,7 @@ fn left_next(form: Option<SafeForm>, thread: u32, stand: Stand) -> Stand
     }
 }
 
-/// What the thread knows of the safepoint word after an act that hit left this word.
+/// Follows what the thread knows of the safepoint word, behind an act that hit and left this word.
 #[inline(always)]
 pub fn stand_next(at: Name, act: &Act, word: u64, thread: u32, stand: &mut Stand)
     requires { thread < most_threads }
@@ -194,7 +197,7 @@ pub fn halted_next(at: Name, word: u64, halted: bool) -> bool
     }
 }
 
-/// What it last stored in its waiting word.
+/// What the thread last stored in its waiting word, behind this act.
 #[inline(always)]
 pub fn wait_next(at: Name, act: &Act, thread: u32, wait: u64) -> u64
     ensures { (k : Known) → k.thread ≡ thread → k.wait ≡ wait → result ≡ wait_after at act.now k }
@@ -208,7 +211,7 @@ pub fn wait_next(at: Name, act: &Act, thread: u32, wait: u64) -> u64
     }
 }
 
-/// What it last stored in its length word.
+/// What the thread last stored in its length word, behind this act.
 #[inline(always)]
 pub fn published_next(at: Name, act: &Act, published: u64) -> u64
     ensures { (k : Known) → k.published ≡ published → result ≡ published_after at act.now k }
@@ -222,7 +225,7 @@ pub fn published_next(at: Name, act: &Act, published: u64) -> u64
     }
 }
 
-/// What it last stored in its hold words.
+/// Follows what the thread last stored in its hold words.
 #[inline(always)]
 pub fn store_hold(holds: &mut Holds, at: Name, act: &Act)
     requires { IsPlaced at }
@@ -235,7 +238,8 @@ pub fn store_hold(holds: &mut Holds, at: Name, act: &Act)
     }
 }
 
-/// The page of the log, and the log's last stamp.
+/// Adds the entry that the step logs, if it logs one, to the page of the log, and keeps its stamp as the log's last
+/// one.
 #[inline(always)]
 pub fn note_entry(log: &mut Vec<Logged>, last: &mut u64, note: &Note, found: u64)
     requires room { HasRoom note.now log.old.items (vec_capacity log.old) }

@@ -93,13 +93,19 @@ fn begin(alloc: Global, setting: Setting, room: u32) -> Result<(Heap, Vec<Pass>)
 }
 
 impl Heap {
-    /// A heap of this shape, with biases or without, whose hash generators start from `start`, and a pass for each
-    /// thread, in order: stopped, with nothing logged, held, requested, counted or unfinished, and with room in a page of
-    /// its log for the entries that so much fuel may log. Its words are made as those of the opening world; the contract
-    /// says that the passes know what its threads know there. The caller hands in the heap's law, under the premise that
-    /// its shape is in the limits, as every `HeapShape` is. The law is handed on, and each pass is one of this heap that
-    /// has made no step. Nothing takes memory later. The fuel is at most
-    /// 200,000. `NoMemory` where memory is wanting.
+    /// Makes a heap of this shape, with biases or without, and a pass for each thread, in order.
+    ///
+    /// Each pass is stopped, with nothing logged, held, requested, counted or unfinished, and with room in a page of
+    /// its log for the entries that `fuel` instructions may log; `fuel` is at most 200,000. The hash generator of
+    /// thread t begins with the word `start + t`, modulo 2^32. The words are those of the opening world, and the
+    /// contract says that the passes know what its threads know there.
+    ///
+    /// The caller hands in the heap's law, under the premise that its shape is in the limits, as every `HeapShape`
+    /// is. The law is handed on, and each pass is one of this heap that has made no step. Nothing takes memory later.
+    ///
+    /// # Errors
+    ///
+    /// `NoMemory` where an allocation fails.
     pub fn new(
         alloc: Global,
         shape: HeapShape,

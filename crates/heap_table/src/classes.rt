@@ -9,8 +9,8 @@ use crate::purpose::Purpose;
 use core_world::{Name, Stage};
 
 impl Heap {
-    /// The class of the object, at this stage of a call. The shape tells that of a declared object. For an object that a
-    /// thread makes, the class word is loaded, which has the class plus 1.
+    /// Finds the class of the object, at this stage of a call. The shape tells that of a declared object. For an
+    /// object that a thread makes, it loads the class word, which has the class plus 1.
     #[inline(always)]
     pub fn class_of(&self, pass: &mut Pass, why: &Purpose, stage: Stage, object: u32) -> u32
         requires heap { IsOf self.now pass.old }

@@ -8,7 +8,7 @@ ghost use Rattle.heap_table.specs.Tallies.{capped_counts, counts_shown};
 use core_world::Own;
 use lock_policy::Verdict;
 
-/// The verdicts that a thread carried out on a class. At its greatest number a count stays.
+/// The verdicts that a thread carried out on a class. At its greatest number a count stays, so that counting has no condition.
 #[derive(Clone, Copy, Debug, PartialEq, Eq)]
 pub struct ClassCounts {
     /// Revocations of one bias.
@@ -68,7 +68,7 @@ fn next_counts(counts: ClassCounts, verdict: Verdict, reset: bool) -> ClassCount
     with_reset(with_verdict(counts, verdict), reset)
 }
 
-/// What it has counted behind a step that hit.
+/// Counts the verdict that a step which hit tells, if it tells one.
 #[inline(always)]
 pub fn count_next(counts: &mut Vec<ClassCounts>, own: &Own)
     ensures { (n : ℕ) (k : List CountedVerdict) → counts.old.items ≡ counts_shown 0 n k

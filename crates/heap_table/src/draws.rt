@@ -20,7 +20,7 @@ pub struct Drawing {
 }
 
 impl Drawing {
-    /// Before the first draw, of the generator that begins with this word.
+    /// Makes the generator that begins with this word, before its first draw.
     pub fn new(first: u32) -> Drawing
         ensures installed { result.installed ≡ 0 }
         ensures generator { result.generator ≡ state_after first 1 }
@@ -35,7 +35,7 @@ impl Drawing {
     }
 }
 
-/// Behind a step that hit.
+/// Counts the draw that a step which hit logs, if it logs one, and makes the next.
 #[inline(always)]
 pub fn draw_next(drawing: &mut Drawing, note: &Note)
     requires { drawing.old.installed + 1 < 2 ^ 64 }

@@ -68,7 +68,7 @@ impl Closed {
         &self.counts
     }
 
-    /// The words, by their places.
+    /// The words, by their places in the table.
     pub fn words(&self) -> &List<u64>
         ensures { result.now ≡ self.now.words }
     {
@@ -94,13 +94,16 @@ impl Closed {
     }
 }
 
-/// The end of a heap: its words and what its passes logged and counted. The passes are all passes of this heap, in the
-/// order of their threads. None runs, and none has a request that stands, which isn't asked where one of them knows the
-/// halt. The heap has its law still. The words are those of a sound world in which each thread knows what its pass knows, and by its safepoint word
-/// no thread runs or asks. What is left of the logs are the entries that no page had, which are all where no page was handed
-/// out. The whole logs, pages and rest together, are legal, and their stamps exact. Where no thread has a Hash unfinished, the law of
-/// biases holds of the logs, of what the passes counted, and of the classes' words: each thread has counted at most one
-/// verdict more than it has entries, and none more where nothing is unfinished. It takes no memory.
+/// Ends a heap, and gives its words and what its passes logged and counted. It takes no memory.
+///
+/// The passes are all passes of this heap, in the order of their threads. None runs, and none has a request that
+/// stands, which isn't asked where one of them knows the halt. The heap has its law still. The words are those of a
+/// sound world in which each thread knows what its pass knows, and by its safepoint word no thread runs or asks.
+///
+/// What is left of the logs are the entries that no page had, which are all where no page was handed out. The whole
+/// logs, pages and rest together, are legal, and their stamps exact. Where no thread has a Hash unfinished, the law
+/// of biases holds of the logs, of what the passes counted, and of the classes' words: each thread has counted at
+/// most one verdict more than it has entries, and none more where nothing is unfinished.
 pub fn close(heap: Heap, passes: List<Pass>) -> Closed
     requires passes { All (IsOf heap) passes }
     requires order { InOrder 0 (knowns passes) × (length passes ≡ heap.heap.shape.threads) }

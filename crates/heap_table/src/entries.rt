@@ -15,7 +15,7 @@ use plain_monitor::Entry;
 
 /// Steps that log an entry, where they hit, and end the operation with it. Each answers the word that it found.
 impl Heap {
-    /// A load.
+    /// Loads the word, and logs this entry.
     #[inline(always)]
     pub fn log_load(&self, pass: &mut Pass, why: &Purpose, at: Name, entry: Entry) -> u64
         requires { CanStep self.now pass.old (logging_plan entry why.now at Act.Load) }
@@ -24,7 +24,7 @@ impl Heap {
         self.step(pass, logging(why, Stage::Calm, at, Act::Load, entry))
     }
 
-    /// A store.
+    /// Stores the word, and logs this entry.
     #[inline(always)]
     pub fn log_store(
         &self,
@@ -41,7 +41,7 @@ impl Heap {
         self.step(pass, logging(why, stage, at, Act::Store { word }, entry))
     }
 
-    /// A compare-exchange: the word becomes `word` where it is `expected`.
+    /// Exchanges the word for `word` where it is `expected`, and logs this entry where it was.
     #[inline(always)]
     pub fn log_exchange(
         &self,
@@ -63,7 +63,7 @@ impl Heap {
 
 /// Steps that log and leave the operation unfinished. Each answers the word that it found.
 impl Heap {
-    /// A store that logs this entry.
+    /// Stores the word, and logs this entry; the operation stays unfinished.
     #[inline(always)]
     pub fn log_store_within(
         &self,
@@ -81,7 +81,7 @@ impl Heap {
         self.step(pass, noting(why, stage, at, Act::Store { word }, note))
     }
 
-    /// A load that logs a Hash of the object, and ends the operation, where the word is neutral and has a hash.
+    /// Loads the word, and where it is neutral and has a hash logs a Hash of the object and ends the operation.
     #[inline(always)]
     pub fn find_hash(&self, pass: &mut Pass, why: &Purpose, at: Name, object: u32) -> u64
         requires { CanStep self.now pass.old (find_hash_plan why.now at object) }
@@ -91,7 +91,7 @@ impl Heap {
         self.step(pass, noting(why, Stage::Calm, at, Act::Load, note))
     }
 
-    /// A load of a slot that logs a Get with the value found.
+    /// Loads a slot, and logs a Get with the value found.
     #[inline(always)]
     pub fn log_get(&self, pass: &mut Pass, why: &Purpose, object: u32, slot: u32) -> u64
         requires { CanStep self.now pass.old (get_plan why.now object slot) }

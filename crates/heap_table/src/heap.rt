@@ -49,14 +49,14 @@ impl Model for Heap {
 }
 
 impl Heap {
-    /// How many there are of everything.
+    /// The shape: how many threads, classes and objects there are.
     pub fn shape(&self) -> &HeapShape
         ensures { result.now ≡ self.now.heap.shape }
     {
         &self.setting.shape
     }
 
-    /// What the hash generators start from.
+    /// The first word of thread 0's hash generator.
     pub fn start(&self) -> u32
         ensures { result ≡ self.now.heap.start }
     {
@@ -77,13 +77,13 @@ impl Heap {
         self.setting.biasing
     }
 
-    /// One atomic act on the word of the plan, which is the next step of the pass's thread. It answers the word that it
-    /// found. The log of the pass has room where the step logs. A step that takes a shot has a place for it, and the
-    /// pass's draft is that shot.
+    /// Makes one atomic act on the word of the plan, which is the next step of the pass's thread. It answers the word
+    /// that it found. The log of the pass has room where the step logs. A step that takes a shot has a place for it,
+    /// and the pass's draft is that shot.
     ///
-    /// There was a sound world of this heap in which the thread knew what it did and the word stood there, and the step
-    /// made a sound world of it. The pass knows what the step makes of its knowledge, and what is left of the call
-    /// comes to an end or to a next step.
+    /// At the moment of the act the heap was in a sound state with the answer in this word, and the thread knew what
+    /// it did. After it, the heap is in a sound state again. The pass knows what the step makes of its knowledge, and
+    /// what is left of the call comes to an end or to a next step.
     #[inline(always)]
     pub fn step(&self, pass: &mut Pass, plan: StepPlan) -> u64
         requires { CanStep self.now pass.old plan }

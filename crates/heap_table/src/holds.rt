@@ -66,7 +66,7 @@ impl Holds {
     ghost use Rattle.core_world.specs.Locks.{hold_count};
     ghost use Rattle.heap_table.specs.Kept.{all_holds};
 
-    /// No hold.
+    /// Makes the hold words of a thread that holds nothing.
     pub fn new() -> Holds
         ensures { result.words ≡ replicate most_holds 0 }
     {
@@ -76,7 +76,7 @@ impl Holds {
         }
     }
 
-    /// The place has this word.
+    /// Puts this word at the place.
     #[inline(always)]
     pub fn store(&mut self, place: u32, word: u64)
         requires { place < most_holds }

@@ -13,7 +13,7 @@ use core_world::{Act, Name, Own, Stage};
 /// Steps that log nothing, of which the thread keeps this for itself, where they hit. Each answers the word that it
 /// found.
 impl Heap {
-    /// A load.
+    /// Loads the word, and keeps of it what `own` says.
     #[inline(always)]
     pub fn load_and_keep(&self, pass: &mut Pass, why: &Purpose, own: Own, at: Name) -> u64
         requires { CanStep self.now pass.old (with_own own (load why.now at)) }
@@ -22,7 +22,7 @@ impl Heap {
         self.step(pass, keeping(why, Stage::Calm, own, at, Act::Load))
     }
 
-    /// A store.
+    /// Stores the word, and keeps of it what `own` says.
     #[inline(always)]
     pub fn store_and_keep(
         &self,
@@ -39,7 +39,7 @@ impl Heap {
         self.step(pass, keeping(why, stage, own, at, Act::Store { word }))
     }
 
-    /// A compare-exchange: the word becomes `word` where it is `expected`.
+    /// Exchanges the word for `word` where it is `expected`, and keeps of it what `own` says where it was.
     #[inline(always)]
     pub fn exchange_and_keep(
         &self,
@@ -57,8 +57,8 @@ impl Heap {
         self.step(pass, keeping(why, Stage::Calm, own, at, act))
     }
 
-    /// The count of claimed ring positions rises by one, modulo 2^64. It answers the position that the thread has
-    /// claimed, which is the number that the count was; the thread fetches its monitor next.
+    /// Claims the next ring position: the count of claimed ones rises by one, modulo 2^64. It answers the position,
+    /// which is the number that the count was; the thread fetches its monitor next.
     #[inline(always)]
     pub fn claim(&self, pass: &mut Pass, why: &Purpose) -> u64
         requires { CanStep self.now pass.old (claim_plan why.now) }
@@ -70,7 +70,7 @@ impl Heap {
         )
     }
 
-    /// A load of the ring's place of this position. It answers the monitor that stands there, and the thread keeps it.
+    /// Loads the ring's place of this position. It answers the monitor that stands there, and the thread keeps it.
     #[inline(always)]
     pub fn fetch(&self, pass: &mut Pass, why: &Purpose, position: u64) -> u64
         requires { CanStep self.now pass.old (fetch_plan why.now self.now.heap.shape position) }

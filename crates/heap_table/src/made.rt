@@ -5,7 +5,7 @@ ghost use Rattle.heap_table.specs.inner.Kept.{made_after};
 use core_world::Note;
 use plain_monitor::Entry;
 
-/// Behind a step that hit.
+/// How many objects the thread has made, behind a step that hit.
 #[inline(always)]
 pub fn made_next(note: &Note, made: u64) -> u64
     requires { made + 1 < 2 ^ 64 }

@@ -91,7 +91,12 @@ impl Mirror {
     ghost use Rattle.heap_table.specs.inner.Kept.{StampFits, with_any_entry, entry_after};
     ghost use Rattle.heap_table.specs.inner.Layout.{IsPlaced};
 
-    /// What the thread knows before its first step.
+    /// Makes what the thread knows before its first step. `room` is how many entries a page of its log may have, and
+    /// `first` the first word of its hash generator.
+    ///
+    /// # Errors
+    ///
+    /// `AllocError` where an allocation fails.
     pub fn new(
         alloc: Global,
         thread: u32,
@@ -134,7 +139,7 @@ impl Mirror {
         })
     }
 
-    /// Follows a step that found this word.
+    /// Makes of the knowledge what the step makes of it that found this word.
     #[inline(always)]
     pub fn follow(&mut self, step: &StepPlan, found: u64)
         requires at { IsPlaced step.now.at }

@@ -54,7 +54,11 @@ fn push_objects(
     Ok(())
 }
 
-/// The words of the opening world, by their places.
+/// Makes the words of the opening world, by their places.
+///
+/// # Errors
+///
+/// `AllocError` where an allocation fails.
 pub fn opening_words(alloc: Global, setting: &Setting) -> Result<Vec<u64>, AllocError>
     ensures words { IfOk result (λ v. v.items ≡ opening_words setting.now.shape setting.now.biasing) }
     ensures count { IfOk result (λ v. length v.items ≡ word_count setting.now.shape) }

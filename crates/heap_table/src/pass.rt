@@ -241,7 +241,7 @@ impl Pass {
         self.mirror.shots.draft.cells.clear();
     }
 
-    /// The next thread's log has this length at the safepoint.
+    /// Adds the next thread's length to the shot, in entries: its log has it at the safepoint.
     pub fn see_length(&mut self, entries: u64)
         requires { length self.old.cut < self.old.threads }
         ensures { self.new ≡ record self.old { cut = self.old.cut ++ entries ∷ [] } }
@@ -249,7 +249,7 @@ impl Pass {
         self.mirror.shots.draft.cut.push_reserved(entries);
     }
 
-    /// The next object's lock is so at the safepoint.
+    /// Adds the next object's cell to the shot: its lock is so at the safepoint.
     pub fn see_cell(&mut self, cell: Cell)
         requires { length self.old.cells < self.old.objects }
         ensures { self.new ≡ record self.old { cells = self.old.cells ++ (cell.owner, cell.count) ∷ [] } }

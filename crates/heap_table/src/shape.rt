@@ -99,7 +99,7 @@ impl HeapShape {
         self.class_group_at(class) + 1
     }
 
-    /// The moment of the class's last bulk operation.
+    /// The moment of the class's last bulk operation, in milliseconds, or 0.
     #[inline(always)]
     pub fn last_at(&self, class: u32) -> usize
         requires { class < self.now.classes }
@@ -378,9 +378,13 @@ fn size_for(slots: u32) -> u32
 }
 
 impl HeapShape {
-    /// The shape of so many threads, of classes whose objects have so many slots, and of an object of each of these
-    /// classes. So many of the objects, the first ones, are declared; threads make the others. `with_made` adds numbers
-    /// for these.
+    /// Makes the shape of `threads` threads, of classes whose objects have so many slots, and of an object of each of
+    /// these classes. The first `declared` of the objects are declared; threads make the others. `with_made` adds
+    /// numbers for these.
+    ///
+    /// # Errors
+    ///
+    /// `NoMemory` where an allocation fails.
     pub fn of(
         alloc: Global,
         threads: u32,
@@ -426,9 +430,13 @@ impl HeapShape {
         }
     }
 
-    /// This shape with numbers for the objects that threads make: 1,024 for each thread, behind the objects that are
-    /// there, which are at most 4,096. Each has so many slots, at most 16, whatever its class, which it gets when it is
+    /// Adds numbers for the objects that threads make: 1,024 for each thread, behind the objects that are there,
+    /// which are at most 4,096. Each has `slots` slots, at most 16, whatever its class, which it gets when it is
     /// made. Without a class nothing could be made.
+    ///
+    /// # Errors
+    ///
+    /// `NoMemory` where an allocation fails.
     pub fn with_made(self, slots: u32) -> Result<HeapShape, NoMemory>
         requires room { length self.objects ≤ most_objects }
         requires class { 1 ≤ self.classes }

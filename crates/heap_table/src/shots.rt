@@ -81,7 +81,11 @@ fn spares(alloc: Global, threads: u32, objects: usize) -> Result<Vec<Draft>, All
 }
 
 impl Shots {
-    /// No shot.
+    /// Makes room for four shots of so many lengths and cells, and takes none.
+    ///
+    /// # Errors
+    ///
+    /// `AllocError` where an allocation fails.
     pub fn new(alloc: Global, threads: u32, objects: usize) -> Result<Shots, AllocError>
         ensures { IfOk result (λ s. (s.threads ≡ threads) × (s.objects ≡ objects) × (s.taken.items ≡ [])
             × (s.draft.cut.items ≡ []) × (s.draft.cells.items ≡ [])) }
@@ -98,7 +102,7 @@ impl Shots {
         })
     }
 
-    /// The draft is taken.
+    /// Takes the draft as the next shot, with the next number, from 1.
     pub fn take(&mut self)
         requires { length self.old.taken.items < 4 }
         ensures fixed { (self.new.threads ≡ self.old.threads) × (self.new.objects ≡ self.old.objects) }

@@ -37,7 +37,7 @@ fn step_as<C: Chosen>(words: &Words, setting: &Setting, seat: &mut Place, plan: 
     }
 }
 
-/// One atomic act on the word of the plan. It answers the word that it found.
+/// Makes one atomic act on the word of the plan. It answers the word that it found.
 #[inline(always)]
 pub fn step(words: &Words, setting: &Setting, seat: &mut Place, plan: StepPlan) -> u64
     requires setting { (words.now.shared.key ≡ setting.now)

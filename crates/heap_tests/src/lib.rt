@@ -1,6 +1,5 @@
-//! Tests of the words of a heap and of the operations on them: single acts, steps that two threads make on one heap, a heap as it
-//! begins, safepoints, holds by lock records and under biases. They stand in a crate of their own, so that `core_world`,
-//! `heap_table`, `safepoint`, `stack_lock` and `bias_lock` aren't proved once more with them.
+//! Tests of the words of a heap, of a heap as it begins, and of the operations on them (`docs/ARCHITECTURE.md`,
+//! "Tests").
 #![tactic(auto)]
 
 #[cfg(test)]

@@ -161,6 +161,8 @@ fn hash_owned(
 /// another, which is left as it was: nothing was logged, and no hash given. It was either that of the header without a
 /// hash, where a lock that was inflated first stays so, or that of the mark at an inflation, which leaves what `inflate`
 /// leaves: the thread keeps its monitor, the one that it claimed as well, for the next time.
+///
+/// In OpenJDK 8: `ObjectSynchronizer::FastHashCode` (`synchronizer.cpp`), behind its revocation.
 pub fn header_hash(
     heap: &Heap,
     pass: &mut Pass,

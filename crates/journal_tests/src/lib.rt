@@ -1,5 +1,4 @@
-//! Tests of records: the lines of a small record and the order of its entries. They stand in a crate of their own, so that
-//! `lock_journal` isn't proved once more with them.
+//! Tests of records (`docs/ARCHITECTURE.md`, "Tests").
 #![tactic(auto)]
 
 #[cfg(test)]

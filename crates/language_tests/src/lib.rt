@@ -1,5 +1,5 @@
-//! Tests of the reader, of the writer and of programs that are made: texts, and the program or the refusal that each has. They stand in
-//! a crate of their own, so that `program_syntax` and `made_program` aren't proved once more with them.
+//! Tests of texts, of the program or the refusal that each has, and of programs that are made
+//! (`docs/ARCHITECTURE.md`, "Tests").
 #![tactic(auto)]
 
 #[cfg(test)]

@@ -16,10 +16,16 @@ use heap_table::{Heap, HeapShape, Pass};
 use plain_monitor::{List, NoMemory};
 use std::alloc::Global;
 
-/// A heap of this shape, with biases or without, whose hash generators start from `start`, and a pass for each thread, in
-/// order: stopped, with nothing logged, held, requested, counted or unfinished, and with room in a page of its log for the
-/// entries that so much fuel may log. The opening world is sound, the passes know what its threads know, and each is one of this heap
-/// that has made no step. Nothing takes memory later. The fuel is at most 200,000. `NoMemory` where memory is wanting.
+/// Makes a heap of this shape with its law, with biases or without, and a pass for each thread, in order.
+///
+/// Each pass is stopped, with nothing logged, held, requested, counted or unfinished, and with room in a page of its
+/// log for the entries that `fuel` instructions may log; `fuel` is at most 200,000. The hash generator of thread t
+/// begins with the word `start + t`, modulo 2^32. The opening world is sound, the passes know what its threads know,
+/// and each is one of this heap that has made no step. Nothing takes memory later.
+///
+/// # Errors
+///
+/// `NoMemory` where an allocation fails.
 pub fn new_heap(
     alloc: Global,
     shape: HeapShape,

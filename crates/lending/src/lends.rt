@@ -24,7 +24,11 @@ pub struct Lending<T, K, P: LendRule<T, K>> {
 }
 
 impl<T: Drop, K, P: LendRule<T, K>> Lending<T, K, P> {
-    /// All these things are at home, thing i in slot i. `Err` where memory is wanting: the things come back as they were.
+    /// Makes a table in which all these things are at home, thing i in slot i.
+    ///
+    /// # Errors
+    ///
+    /// The things, as they were, where an allocation fails.
     pub fn new(alloc: Global, key: &K, things: Vec<T>) -> Result<Lending<T, K, P>, Vec<T>>
         requires few { vec_len things ≤ most }
         requires lie { AreAt (P.may_lie key.now) things.items }
@@ -93,8 +97,12 @@ impl<T: Drop, K, P: LendRule<T, K>> Lending<T, K, P> {
         self.table.shared.store::<Gives>(&mut seat, at, HOME);
     }
 
-    /// The things, in the order of their slots, each what may lie there. `Err` where some are out: those that are at home. `things` is
-    /// empty, with room for all: no memory is taken.
+    /// Ends the table, and gives the things in the order of their slots, each what may lie there. `things` is empty, with room for all: no
+    /// memory is taken.
+    ///
+    /// # Errors
+    ///
+    /// The things that are at home, where some are out.
     pub fn end(self, mut things: Vec<T>) -> Result<Vec<T>, Vec<T>>
         requires empty { things.items ≡ [] }
         requires room { self.table.shared.table_id.slots ≤ vec_capacity things }

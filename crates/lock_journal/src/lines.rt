@@ -19,6 +19,10 @@ use plain_machine::Machine;
 /// The lines of a run's text, one after the other: what its entries print and dump by rising stamp, then how each thread ended
 /// or where it stands, then, where asked for, the statistics of each class, and a line for each entry by rising stamp. It takes
 /// no memory of the heap.
+///
+/// It isn't given its run when it is made, so its merges begin before the first entry of any run. It can't keep the stamps of the
+/// heads from line to line either, since they are those of one run. A replay can (`Ahead`): it goes on in one log while the
+/// stamps there are below those of the others.
 #[derive(Drop)]
 pub struct Lines {
     /// Whether the classes have lines.

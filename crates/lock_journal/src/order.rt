@@ -65,7 +65,7 @@ impl Merge {
         take_least(first_logs(run), &mut self.places)
     }
 
-    /// The same merge with the stamps of the heads at hand.
+    /// The merge of this run that has the stamps of the heads at hand.
     pub(crate) fn ahead(&self, run: &RunRecord) -> Ahead
         requires { AreOfSixteen run.now.logs }
         ensures places { result.places ≡ self.now }

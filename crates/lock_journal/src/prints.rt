@@ -130,7 +130,7 @@ fn next_printing(log: &[Logged], from: usize) -> usize
     place
 }
 
-/// The same with the stamps of the heads at hand.
+/// The next print or dump, by a merge that has the stamps of the heads at hand.
 fn next_printed_ahead(ahead: &mut Ahead, run: &RunRecord) -> Option<(u32, Printed)>
     requires rising { AllByRecursion (RisesAbove 0) run.now.logs }
     requires few { AreOfSixteen run.now.logs }

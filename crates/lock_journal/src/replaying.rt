@@ -28,8 +28,12 @@ fn logs_can_be_merged(run: &RunRecord)
     let _threads = run.program.threads.items();
 }
 
-/// The machine behind all entries of the record's logs, taken by rising stamp. The logs are legal for the record's program and
-/// fuel. Where memory is wanting, `NoMemory`.
+/// The machine behind all entries of the record's logs, taken by rising stamp. The logs are legal for the record's
+/// program and fuel.
+///
+/// # Errors
+///
+/// `NoMemory` where an allocation fails.
 pub fn replay(alloc: Global, run: &RunRecord) -> Result<Machine, NoMemory>
     requires { IsLegal run.now.program run.now.fuel run.now.logs }
     ensures { IfOk result (λ m. machine_after run.now.program run.now.fuel run.now.logs ≡ Some m) }

@@ -20,7 +20,7 @@ pub fn push_object(out: &mut Line, program: &Program, o: u32)
     push_object_at(out, program, o as usize);
 }
 
-/// The same by the object's place among all.
+/// Writes the name of the object with this place among all.
 pub(crate) fn push_object_at(out: &mut Line, program: &Program, place: usize)
     requires { length out.old + 64 ≤ 512 }
     ensures text { out.new ≡ out.old ++ object_text program.now place }

@@ -17,7 +17,7 @@ pub record IsAsking (k : Known) : Type 0 where
   pub runs : k.running ≡ false
   pub asks : k.requesting ≡ true
 
--- Behind a turn of an operation its thread runs, unless it is pending for running threads: then its request stands.
+-- After a turn of an operation its thread runs. Only where it is pending for running threads does its request stand.
 abbrev pub StandsBehind : {A : Type 0} → Known → Turn A → Type 0
 StandsBehind k (Done a) = IsRunning k
 StandsBehind k (Pending (Stopping word)) = IsAsking k

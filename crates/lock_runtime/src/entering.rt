@@ -168,14 +168,23 @@ fn enter_placed(heap: &Heap, pass: &mut Pass, why: &Purpose, bias: &Revocation) 
     enter_first(heap, pass, why, bias)
 }
 
-/// Takes a hold of the object. `now` is the moment for the policy of bulk operations.
+/// Takes a hold of the object. `now` is the moment for the policy of bulk operations, in milliseconds from 1.
 ///
 /// `Done(path)` says that the thread has one more hold, by this path: the Enter is logged, and nothing is unfinished.
-/// Pending, no hold is taken and nothing logged, and the enter stays unfinished: `Owned { word }` says that the owner word
-/// of the object's monitor, which is `word`, names another thread; `Raced { expected, found }` that an exchange of this
-/// call missed; `Inflating` that the loaded mark was 0; `Stopping { word }` that the thread's request for a safepoint
-/// stands, and that by `word` another thread runs still; `Requested { word }` that by `word` another thread has a request.
-/// `TooDeep` comes exactly where the thread has 64 holds; then no step is made.
+///
+/// Pending, no hold is taken and nothing logged, and the enter stays unfinished:
+///
+/// - `Owned { word }`: the owner word of the object's monitor, which is `word`, names another thread.
+/// - `Raced { expected, found }`: an exchange of this call missed.
+/// - `Inflating`: the loaded mark was 0, as another thread is inflating the lock.
+/// - `Stopping { word }`: the thread's request for a safepoint stands, and by `word` another thread runs still.
+/// - `Requested { word }`: by `word` another thread has a request.
+///
+/// # Errors
+///
+/// `TooDeep` exactly where the thread has 64 holds. Then no step is made.
+///
+/// In OpenJDK 8: `ObjectSynchronizer::fast_enter` and `slow_enter` (`synchronizer.cpp`).
 pub fn enter(heap: &Heap, pass: &mut Pass, object: u32, now: u64) -> Result<Turn<Path>, TooDeep>
     requires { MayOperate heap.now pass.old (Enter object now) }
     ensures rests { Rests heap.now pass.new }

@@ -55,14 +55,19 @@ fn hash_going(heap: &Heap, pass: &mut Pass, why: &Purpose, object: u32, now: u64
 }
 
 /// The object's identity hash: the one that it has, or else the thread's next draw, which becomes its hash. `now` is the
-/// moment for the policy of bulk operations: a bias of the object is ended first.
+/// moment for the policy of bulk operations, in milliseconds from 1: a bias of the object is ended first.
 ///
 /// `Done(hash)` says that the object has this hash: the Hash is logged, as found in a header or with the number of the
-/// thread's draw, and nothing is unfinished. Pending, nothing is logged, no draw is spent, and the hash stays unfinished:
-/// `Raced { expected, found }` says that an exchange of this call found another word than the one expected, and
-/// `Inflating` that the loaded mark was 0, as another thread is inflating the lock; `Stopping { word }` that the thread's
-/// request for a safepoint stands, and that by `word` another thread runs still; `Requested { word }` that by `word`
-/// another thread has a request.
+/// thread's draw, and nothing is unfinished.
+///
+/// Pending, nothing is logged, no draw is spent, and the hash stays unfinished:
+///
+/// - `Raced { expected, found }`: an exchange of this call missed.
+/// - `Inflating`: the loaded mark was 0, as another thread is inflating the lock.
+/// - `Stopping { word }`: the thread's request for a safepoint stands, and by `word` another thread runs still.
+/// - `Requested { word }`: by `word` another thread has a request.
+///
+/// In OpenJDK 8: `ObjectSynchronizer::FastHashCode` (`synchronizer.cpp`).
 pub fn hash(heap: &Heap, pass: &mut Pass, object: u32, now: u64) -> Turn<u32>
     requires { MayOperate heap.now pass.old (Hash object now) }
     ensures rests { Rests heap.now pass.new }

@@ -57,10 +57,18 @@ fn leave_held(heap: &Heap, pass: &mut Pass, why: &Purpose, object: u32) -> Turn<
 
 /// Leaves the thread's newest hold of the object.
 ///
-/// `Done(())` says that it has: the Exit is logged, and nothing is unfinished. Pending, nothing is let go or logged, and the
-/// exit stays unfinished: `Raced { expected, found }` says that the exchange of the mark found another than the one loaded,
-/// and `Inflating` that the loaded mark was 0, as another thread is inflating the lock. `IllegalMonitorState` comes exactly
-/// where the thread has no hold on the object; then no step is made.
+/// `Done(())` says that it has: the Exit is logged, and nothing is unfinished.
+///
+/// Pending, nothing is let go or logged, and the exit stays unfinished:
+///
+/// - `Raced { expected, found }`: the exchange of the mark found another than the one loaded.
+/// - `Inflating`: the loaded mark was 0, as another thread is inflating the lock.
+///
+/// # Errors
+///
+/// `IllegalMonitorState` exactly where the thread has no hold on the object. Then no step is made.
+///
+/// In OpenJDK 8: `ObjectSynchronizer::slow_exit` and `fast_exit` (`synchronizer.cpp`).
 pub fn exit(heap: &Heap, pass: &mut Pass, object: u32) -> Result<Turn<()>, IllegalMonitorState>
     requires { MayOperate heap.now pass.old (Exit object) }
     ensures rests { Rests heap.now pass.new }

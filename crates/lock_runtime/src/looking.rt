@@ -84,12 +84,16 @@ fn checking(pass: &Pass) -> Purpose
 /// monitor that another thread owns. Then the run is halted, and no thread runs any more. `Done(false)` says that all
 /// threads have ended, or that some thread waits for nothing, or for a monitor that is free or its own. Then the
 /// safepoint is over, and the thread runs on.
-/// Pending, nothing was looked at: `Stopping { word }` says that the thread's request stands, that by `word` another
-/// thread runs still, and that the check is unfinished; `Requested { word }` that by `word`, which was loaded or found by
-/// the exchange, another thread has a request, and `Raced { expected, found }` that the exchange found another word with
-/// none: then the thread runs on, and no check is unfinished.
+///
+/// Pending, nothing was looked at. `Stopping { word }` says that the thread's request stands and the check is unfinished: by
+/// `word` another thread runs still. After the others the thread runs on, and no check is unfinished. `Requested { word }`
+/// says that another thread has a request by `word`, which was loaded or found by the exchange. `Raced { expected, found }`
+/// says that the exchange found another word, with no request.
+///
 /// Where it is done, idle monitors were given back before the halt or the release.
 /// Nothing is logged, and an unfinished operation stays so.
+///
+/// In OpenJDK 8: nothing; `VM_FindDeadlocks` (`vm_operations.hpp`) looks for circles.
 pub fn check_stuck(heap: &Heap, pass: &mut Pass) -> Turn<bool>
     requires { MayCall heap.now pass.old Check }
     ensures rests { Rests heap.now pass.new }
@@ -158,12 +162,21 @@ fn dump_asking(
 /// lock and how often, and the length of each thread's log. Behind the shot idle monitors are given back.
 ///
 /// `Done(number)` says that the pass has one more shot, the last of `Pass::shots`, and that this is its number, from 1:
-/// the Dump is logged, behind the shot, and nothing is unfinished. Pending, no shot is taken and nothing logged, and the
-/// dump stays unfinished: `Stopping { word }` says that the thread's request for a safepoint stands, and that by `word`
-/// another thread runs still; `Requested { word }` that by `word`, which was loaded or found by the exchange, another
-/// thread has a request; `Raced { expected, found }` that the exchange of the request found another word with none.
-/// `TooManyDumps` comes exactly where the thread has 4 shots; then no step is made. No clause says what becomes of the
-/// pass's draft of a shot.
+/// the Dump is logged, behind the shot, and nothing is unfinished.
+///
+/// Pending, no shot is taken and nothing logged, and the dump stays unfinished:
+///
+/// - `Stopping { word }`: the thread's request for a safepoint stands, and by `word` another thread runs still.
+/// - `Requested { word }`: by `word`, which was loaded or found by the exchange, another thread has a request.
+/// - `Raced { expected, found }`: the exchange of the request found another word, with none.
+///
+/// No clause says what becomes of the pass's draft of a shot.
+///
+/// # Errors
+///
+/// `TooManyDumps` exactly where the thread has 4 shots. Then no step is made.
+///
+/// In OpenJDK 8: `VM_ThreadDump` (`vm_operations.hpp`), which has stacks.
 pub fn dump(heap: &Heap, pass: &mut Pass) -> Result<Turn<u32>, TooManyDumps>
     requires { MayOperate heap.now pass.old Dump }
     ensures rests { Rests heap.now pass.new }

@@ -46,10 +46,16 @@ fn make(heap: &Heap, pass: &mut Pass, object: u32, class: u32)
     heap.log_store(pass, &why, Stage::Calm, at, prototype, entry);
 }
 
-/// Makes an object of the class, the thread's next one, and answers its number, in three steps: the load of the class's prototype, the store of the
-/// object's class word, and the store of its first mark, which logs the object's New.
+/// Makes an object of the class, the thread's next one, and answers its number.
 ///
-/// `TooMany` comes exactly where the thread has made 1,024 objects; then no step is made.
+/// It makes three steps: the load of the class's prototype, the store of the object's class word, and the store of
+/// its first mark, which logs the object's New. It is never pending.
+///
+/// # Errors
+///
+/// `TooMany` exactly where the thread has made 1,024 objects. Then no step is made.
+///
+/// In OpenJDK 8: `CollectedHeap::post_allocation_setup` (`collectedHeap.inline.hpp`).
 pub fn create(heap: &Heap, pass: &mut Pass, class: u32) -> Result<u32, TooMany>
     requires { MayOperate heap.now pass.old (Create class) }
     ensures rests { Rests heap.now pass.new }

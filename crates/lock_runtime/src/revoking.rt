@@ -60,6 +60,10 @@ fn revoke_reached(
 
 /// Revokes the object's bias at a safepoint of the thread's own, whose request stands already or is made, and gives idle
 /// monitors back there. It answers whether the thread gave itself a new bias.
+///
+/// It is pending as `enter` is where it asks for a safepoint: `Stopping`, `Requested` and `Raced`.
+///
+/// In OpenJDK 8: `BiasedLocking::revoke_and_rebias` (`biasedLocking.cpp`), the part with an operation at a safepoint.
 pub fn revocation(
     heap: &Heap,
     pass: &mut Pass,
@@ -81,7 +85,7 @@ pub fn revocation(
     }
 }
 
-// The same, for an operation that takes no new bias.
+// Revokes the bias for an operation that takes no new one.
 fn revoked(
     heap: &Heap,
     pass: &mut Pass,
@@ -120,6 +124,8 @@ fn unbias_first(heap: &Heap, pass: &mut Pass, why: &Purpose, bias: &Revocation) 
 }
 
 /// Sees that the object's mark has no bias pattern. `Done(())` says that it has none.
+///
+/// In OpenJDK 8: `BiasedLocking::revoke_and_rebias` with `attempt_rebias` false (`biasedLocking.cpp`).
 pub fn unbias(heap: &Heap, pass: &mut Pass, why: &Purpose, bias: &Revocation) -> Turn<()>
     requires heap { IsOf heap.now pass.old }
     requires object { bias.now.object < length heap.now.heap.shape.objects }

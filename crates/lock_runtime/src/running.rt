@@ -18,6 +18,8 @@ use heap_table::{Heap, Pass};
 ///
 /// `Pending(Requested { word })` comes exactly where the loaded safepoint `word` has a requester: the thread runs on, and is
 /// to stop. Nothing is logged, and an unfinished operation and check stay so.
+///
+/// In OpenJDK 8: the polling page, and the look of `SafepointSynchronize::block` (`safepoint.cpp`).
 pub fn poll(heap: &Heap, pass: &mut Pass) -> Turn<()>
     requires { MayCall heap.now pass.old Poll }
     ensures rests { Rests heap.now pass.new }
@@ -34,6 +36,8 @@ pub fn poll(heap: &Heap, pass: &mut Pass) -> Turn<()>
 /// Publishes the length of the log and stops the thread, which runs.
 ///
 /// Nothing is logged, and an unfinished operation and check stay so.
+///
+/// In OpenJDK 8: `SafepointSynchronize::block` (`safepoint.cpp`), where it counts its thread as safe.
 pub fn stop(heap: &Heap, pass: &mut Pass)
     requires { MayCall heap.now pass.old Stop }
     ensures rests { Rests heap.now pass.new }
@@ -51,6 +55,8 @@ pub fn stop(heap: &Heap, pass: &mut Pass)
 /// Pending, the thread stays stopped: `Halted` and `Requested { word }` say that the safepoint word, loaded or found by the
 /// exchange, has the halt or a requester, and `Raced { expected, found }` that the exchange found another word with
 /// neither. Nothing is logged, and an unfinished operation and check stay so.
+///
+/// In OpenJDK 8: `SafepointSynchronize::block` (`safepoint.cpp`), where its thread goes on.
 pub fn resume(heap: &Heap, pass: &mut Pass) -> Turn<()>
     requires { MayCall heap.now pass.old Resume }
     ensures rests { Rests heap.now pass.new }

@@ -19,9 +19,11 @@ use mark_word::{WaitForm, encode_wait};
 use object_monitor::publish;
 use plain_monitor::{Ending, Entry, Value, ending_entry, value_word};
 
-/// The value of the object's slot, by one load, which logs a Get with it.
+/// Loads the value of the object's slot, by one load, which logs a Get with it.
 ///
-/// `Unguarded` comes exactly where the thread has no hold on the object; then no step is made.
+/// # Errors
+///
+/// `Unguarded` exactly where the thread has no hold on the object. Then no step is made.
 pub fn get(heap: &Heap, pass: &mut Pass, object: u32, slot: u32) -> Result<Value, Unguarded>
     requires { MayOperate heap.now pass.old (Get object slot) }
     ensures rests { Rests heap.now pass.new }
@@ -38,8 +40,8 @@ pub fn get(heap: &Heap, pass: &mut Pass, object: u32, slot: u32) -> Result<Value
     Ok(get_held(heap, pass, object, slot))
 }
 
-/// The value of the object's slot, as `get` loads it, where the thread has a hold on the object by its log. Whoever calls
-/// has looked for that, so the hold words are not looked through again.
+/// Loads the value of the object's slot, as `get` does, where the thread has a hold on the object by its log. Whoever
+/// calls has looked for that, so the hold words are not looked through again.
 pub fn get_held(heap: &Heap, pass: &mut Pass, object: u32, slot: u32) -> Value
     requires may { MayOperate heap.now pass.old (Get object slot) }
     requires held { 1 ≤ held_by nothing_held pass.old.known.log object }
@@ -58,7 +60,9 @@ pub fn get_held(heap: &Heap, pass: &mut Pass, object: u32, slot: u32) -> Value
 
 /// Stores the value in the object's slot, by one store, which logs a Put with it.
 ///
-/// `Unguarded` comes exactly where the thread has no hold on the object; then no step is made.
+/// # Errors
+///
+/// `Unguarded` exactly where the thread has no hold on the object. Then no step is made.
 pub fn put(
     heap: &Heap,
     pass: &mut Pass,

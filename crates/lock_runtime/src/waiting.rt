@@ -114,19 +114,33 @@ fn wait_held(heap: &Heap, pass: &mut Pass, why: &Purpose, object: u32, now: u64)
 }
 
 /// Waits on the object: lets its monitor go, with all recursions, until another thread notifies this one. `now` is the
-/// moment for the policy of bulk operations. The same call goes on with a wait that is unfinished.
+/// moment for the policy of bulk operations, in milliseconds from 1. The same call goes on with a wait that is unfinished.
 ///
 /// `Done(())` says that the thread was notified, and owns the monitor again with the recursions that it had: the
 /// Resume is logged, behind the Wait where this call let go, and nothing is unfinished.
-/// Pending, the wait stays unfinished. Where the thread has not let go, nothing is logged: `Raced { expected, found }`
-/// says that an exchange of this call missed; `Inflating` that the loaded mark was 0; `Stopping { word }` that the
-/// thread's request for a safepoint stands, and that by `word` another thread runs still; `Requested { word }` that by
-/// `word` another thread has a request. Where it has let go, in this call, which logged the Wait, or in an earlier
-/// one: `NotNotified { word }` says that the thread's waiting word, which is `word`, tells of no notify;
-/// `Owned { word }` that the thread was notified, and that the owner word of the object's monitor, which is `word`,
-/// names another thread.
-/// `IllegalMonitorState` comes exactly where the thread has no hold on the object; then no step is made.
+///
+/// Pending, the wait stays unfinished.
+///
+/// Where the thread has not let go, nothing is logged:
+///
+/// - `Raced { expected, found }`: an exchange of this call missed.
+/// - `Inflating`: the loaded mark was 0, as another thread is inflating the lock.
+/// - `Stopping { word }`: the thread's request for a safepoint stands, and by `word` another thread runs still.
+/// - `Requested { word }`: by `word` another thread has a request.
+///
+/// Where it has let go, this call logged the Wait, or an earlier one:
+///
+/// - `NotNotified { word }`: the thread's waiting word, which is `word`, tells of no notify.
+/// - `Owned { word }`: the thread was notified, and the owner word of the object's monitor, which is `word`, names
+///   another thread.
+///
 /// The log needs room for two entries where the wait begins, and for the Resume alone where it has let go.
+///
+/// # Errors
+///
+/// `IllegalMonitorState` exactly where the thread has no hold on the object. Then no step is made.
+///
+/// In OpenJDK 8: `ObjectSynchronizer::wait` (`synchronizer.cpp`), `ObjectMonitor::wait` (`objectMonitor.cpp`).
 pub fn wait(
     heap: &Heap,
     pass: &mut Pass,
@@ -225,15 +239,23 @@ fn notify_held(
 }
 
 /// Notifies the thread that has waited on the object longest: the one with the smallest stamp, and at equal stamps
-/// with the smallest number. `now` is the moment for the policy of bulk operations.
+/// with the smallest number. `now` is the moment for the policy of bulk operations, in milliseconds from 1.
 ///
 /// `Done(Some(thread))` says which thread was notified, and `Done(None)` that none waited, as where a lock record of
 /// this thread has the lock: the Notify is logged with this answer, and nothing is unfinished.
-/// Pending, nobody is notified and nothing logged, and the notify stays unfinished: `Raced { expected, found }` says
-/// that an exchange of this call missed; `Inflating` that the loaded mark was 0; `Stopping { word }` that the thread's
-/// request for a safepoint stands, and that by `word` another thread runs still; `Requested { word }` that by `word`
-/// another thread has a request.
-/// `IllegalMonitorState` comes exactly where the thread has no hold on the object; then no step is made.
+///
+/// Pending, nobody is notified and nothing logged, and the notify stays unfinished:
+///
+/// - `Raced { expected, found }`: an exchange of this call missed.
+/// - `Inflating`: the loaded mark was 0, as another thread is inflating the lock.
+/// - `Stopping { word }`: the thread's request for a safepoint stands, and by `word` another thread runs still.
+/// - `Requested { word }`: by `word` another thread has a request.
+///
+/// # Errors
+///
+/// `IllegalMonitorState` exactly where the thread has no hold on the object. Then no step is made.
+///
+/// In OpenJDK 8: `ObjectSynchronizer::notify` (`synchronizer.cpp`), `ObjectMonitor::notify` (`objectMonitor.cpp`).
 pub fn notify(
     heap: &Heap,
     pass: &mut Pass,
@@ -327,15 +349,24 @@ fn notify_all_held(heap: &Heap, pass: &mut Pass, why: &Purpose, object: u32, now
 }
 
 /// Notifies each thread that waits on the object, the one that has waited longest first. `now` is the moment for the
-/// policy of bulk operations.
+/// policy of bulk operations, in milliseconds from 1.
 ///
 /// `Done(woken)` says how many there were, which is 0 where a lock record of this thread has the lock: each is
 /// notified, the NotifyAll of so many is logged, and nothing is unfinished.
-/// Pending, nobody is notified and nothing logged, and the notify stays unfinished: `Raced { expected, found }` says
-/// that an exchange of this call missed; `Inflating` that the loaded mark was 0; `Stopping { word }` that the thread's
-/// request for a safepoint stands, and that by `word` another thread runs still; `Requested { word }` that by `word`
-/// another thread has a request.
-/// `IllegalMonitorState` comes exactly where the thread has no hold on the object; then no step is made.
+///
+/// Pending, nobody is notified and nothing logged, and the notify stays unfinished:
+///
+/// - `Raced { expected, found }`: an exchange of this call missed.
+/// - `Inflating`: the loaded mark was 0, as another thread is inflating the lock.
+/// - `Stopping { word }`: the thread's request for a safepoint stands, and by `word` another thread runs still.
+/// - `Requested { word }`: by `word` another thread has a request.
+///
+/// # Errors
+///
+/// `IllegalMonitorState` exactly where the thread has no hold on the object. Then no step is made.
+///
+/// In OpenJDK 8: `ObjectSynchronizer::notifyall` (`synchronizer.cpp`), `ObjectMonitor::notifyAll`
+/// (`objectMonitor.cpp`).
 pub fn notify_all(
     heap: &Heap,
     pass: &mut Pass,

@@ -1,6 +1,7 @@
-//! Laws of the plain machine: what holds of every machine that a program's entries lead to.
+//! Laws of every machine that a program's entries lead to.
 //!
-//! They speak of the definitions of `plain_machine` alone, over plain data, so that a crate that runs the machine needn't wait for them.
+//! They speak of the definitions of `plain_machine` alone, over plain data, so that a crate that runs the machine
+//! needn't wait for them.
 #![tactic(auto)]
 
 mod laws;

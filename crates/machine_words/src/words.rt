@@ -24,7 +24,11 @@ fn add_made(out: &mut Vec<u64>, register: &Register) -> Result<(), NoMemory>
     Ok(())
 }
 
-/// Writes the words of a machine that entries of its program lead to, behind those that are there. Where memory is wanting, `NoMemory`.
+/// Writes the words of a machine that entries of its program lead to, behind those that are there.
+///
+/// # Errors
+///
+/// `NoMemory` where an allocation fails.
 pub fn add_words(machine: &Machine, out: &mut Vec<u64>) -> Result<(), NoMemory>
     requires reached { IsReached machine.now }
     requires untouched { IsUntouched machine.now }

@@ -8,6 +8,10 @@ use plain_monitor::List;
 use std::alloc::{AllocError, Global};
 
 /// The class of the items and the class of the flag.
+///
+/// # Errors
+///
+/// `AllocError` where an allocation fails.
 pub fn classes(alloc: Global) -> Result<List<ClassDef>, AllocError>
     ensures { IfOk result (λ all. all ≡ spec.classes) }
 {
@@ -25,6 +29,10 @@ pub fn classes(alloc: Global) -> Result<List<ClassDef>, AllocError>
 }
 
 /// The items, and the flag behind them.
+///
+/// # Errors
+///
+/// `AllocError` where an allocation fails.
 pub fn objects(alloc: Global, items: u32) -> Result<List<ObjectDef>, AllocError>
     ensures { IfOk result (λ all. all ≡ spec.objects items) }
 {

@@ -16,12 +16,17 @@ use object_program::Program;
 use plain_monitor::{List, NoMemory};
 use std::alloc::{AllocError, Global};
 
-/// The handover program for this many items. Its canonical text is `handover_text items`, and it is the program that is read of
-/// that text. Where memory is wanting, `NoMemory`.
+/// The handover program for this many items. Its canonical text is `handover_text items`, and it is the program that
+/// is read of that text.
 ///
-/// Its first thread enters each item and hands over by a flag. The second thread enters each item behind that and hands back. The
-/// first thread then enters the items from the 20th on once more. In a run with biased locking the items are biased to the first
-/// thread, and where they are enough, their class is rebiased in bulk on the way, and then revoked in bulk.
+/// Its first thread enters each item and hands over by a flag. The second thread enters each item behind that and
+/// hands back. The first thread then enters the items from the 20th on once more. In a run with biased locking the
+/// items are biased to the first thread, and where they are enough, their class is rebiased in bulk on the way, and
+/// then revoked in bulk.
+///
+/// # Errors
+///
+/// `NoMemory` where an allocation fails.
 pub fn handover(alloc: Global, items: u32) -> Result<Program, NoMemory>
     requires some { 1 ≤ items }
     requires few { items ≤ 1500 }

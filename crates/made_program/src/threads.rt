@@ -54,6 +54,10 @@ const HANDED_BACK: Code = Code::Jeq {
 };
 
 /// The first thread, which has the items first and last.
+///
+/// # Errors
+///
+/// `AllocError` where an allocation fails.
 pub fn first(alloc: Global, items: u32) -> Result<ThreadDef, AllocError>
     ensures { IfOk result (λ t. t ≡ spec.first_thread items) }
 {
@@ -73,6 +77,10 @@ pub fn first(alloc: Global, items: u32) -> Result<ThreadDef, AllocError>
 }
 
 /// The second thread, which has the items in between.
+///
+/// # Errors
+///
+/// `AllocError` where an allocation fails.
 pub fn second(alloc: Global, items: u32) -> Result<ThreadDef, AllocError>
     ensures { IfOk result (λ t. t ≡ spec.second_thread items) }
 {

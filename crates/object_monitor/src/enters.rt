@@ -143,6 +143,8 @@ fn enter_by(
 /// `Pending(Owned { word })` says that the owner word was this one, which names another thread or a lock record of one:
 /// the monitor is left as it was, no hold was taken and nothing logged, and the thread's waiting word says that it is
 /// entering the object.
+///
+/// In OpenJDK 8: `ObjectMonitor::enter` (`objectMonitor.cpp`), without spinning, queue and parking.
 pub fn monitor_enter(
     heap: &Heap,
     pass: &mut Pass,

@@ -14,8 +14,10 @@ use mark_word::{OwnerForm, encode_owner};
 use plain_monitor::Entry;
 use stack_lock::{clear, leave, top_place};
 
-/// The owner of the monitor has this form. Where a record of the thread is the owner, the thread itself takes its place,
-/// with no recursions.
+/// Makes the thread itself the owner of the monitor, with no recursions, where one of its records is the owner by
+/// this form.
+///
+/// In OpenJDK 8: `ObjectMonitor::exit` and `CHECK_OWNER` (`objectMonitor.cpp`).
 pub fn own(heap: &Heap, pass: &mut Pass, why: &Purpose, object: u32, monitor: u32, form: OwnerForm)
     requires heap { IsOf heap.now pass.old }
     requires due { IsDueOn heap.now pass.old why.now.task
@@ -105,6 +107,8 @@ fn leave_owned(heap: &Heap, pass: &mut Pass, why: &Purpose, object: u32, monitor
 /// The Exit is logged and the hold word is cleared. At the last hold the owner word is cleared, so that the monitor is
 /// free; at any other the recursions are lowered by one. Where a lock record of the thread was the owner, the thread
 /// itself became it before, with no recursions.
+///
+/// In OpenJDK 8: `ObjectMonitor::exit` (`objectMonitor.cpp`). Nobody is woken.
 pub fn monitor_exit(heap: &Heap, pass: &mut Pass, why: &Purpose, object: u32, monitor: u32)
     requires heap { IsOf heap.now pass.old }
     requires object { object < length heap.now.heap.shape.objects }

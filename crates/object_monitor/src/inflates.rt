@@ -153,6 +153,8 @@ fn inflate_by(heap: &Heap, pass: &mut Pass, why: &Purpose, object: u32, mark: u6
 /// another: the mark is left as it was. The thread keeps its monitor, the one that it claimed as well, for the next
 /// time; where the mark was neutral, the words of that monitor were stored.
 /// Whatever it answers, nothing is logged, and the thread's hold words and its waiting word are as they were.
+///
+/// In OpenJDK 8: `ObjectSynchronizer::inflate` (`synchronizer.cpp`), with `omAlloc` for the claim.
 pub fn inflate(heap: &Heap, pass: &mut Pass, why: &Purpose, object: u32) -> Turn<u32>
     requires heap { IsOf heap.now pass.old }
     requires due { IsDueOn heap.now pass.old why.now.task

@@ -49,7 +49,7 @@ fn older(thread: u32, stamp: u64, others: Option<(u32, u64)>) -> Option<(u32, u6
     }
 }
 
-// The same, where the thread counts only if this waiting word of it says that it waits on the object.
+// The older of them, where the thread counts only if this waiting word of it says that it waits on the object.
 fn with_word(object: u32, thread: u32, word: u64, others: Option<(u32, u64)>) -> Option<(u32, u64)>
     ensures { result ≡ oldest_with object thread word others }
 {
@@ -116,6 +116,8 @@ fn notify_one(
 ///
 /// `Some(thread)` says which thread's waiting word says now that it was notified, and that the Notify of it is logged.
 /// `None` says that no thread waited on the object, and that a Notify of none is logged.
+///
+/// In OpenJDK 8: `ObjectMonitor::notify` (`objectMonitor.cpp`).
 pub fn monitor_notify(heap: &Heap, pass: &mut Pass, why: &Purpose, object: u32) -> Option<u32>
     requires heap { IsOf heap.now pass.old }
     requires object { object < length heap.now.heap.shape.objects }
@@ -178,6 +180,8 @@ fn notify_those(
 ///
 /// The answer says how many there were: the waiting word of each says now that it was notified, and the NotifyAll of so
 /// many is logged.
+///
+/// In OpenJDK 8: `ObjectMonitor::notifyAll` (`objectMonitor.cpp`).
 pub fn monitor_notify_all(heap: &Heap, pass: &mut Pass, why: &Purpose, object: u32) -> u32
     requires heap { IsOf heap.now pass.old }
     requires object { object < length heap.now.heap.shape.objects }

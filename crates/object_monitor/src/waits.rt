@@ -119,6 +119,9 @@ fn resume_mark(heap: &Heap, pass: &mut Pass, why: &Purpose, saved: u64, object: 
 /// `Pending(NotNotified { word })` says that nobody has notified the thread: its waiting word is `word` still.
 /// `Pending(Owned { word })` says that the thread was notified, and that another thread owns the monitor, by the owner
 /// word `word`. In these two nothing was stored and nothing logged.
+///
+/// In OpenJDK 8: the end of `ObjectMonitor::wait` (`objectMonitor.cpp`): `ReenterI` or `enter`, and `_recursions =
+/// save`.
 pub fn monitor_resume(
     heap: &Heap,
     pass: &mut Pass,
@@ -201,6 +204,8 @@ fn wait_owned(heap: &Heap, pass: &mut Pass, why: &Purpose, object: u32, monitor:
 /// free, whatever the count of the thread's holds, which it keeps. The recursions that the monitor had are answered, and
 /// the thread keeps them as those to be restored. Where a lock record of the thread was the owner, the thread itself
 /// became it before, with no recursions. The operation is unfinished still: `monitor_resume` ends it.
+///
+/// In OpenJDK 8: the beginning of `ObjectMonitor::wait` (`objectMonitor.cpp`), up to its `exit`.
 pub fn monitor_wait(heap: &Heap, pass: &mut Pass, why: &Purpose, object: u32, monitor: u32) -> u64
     requires heap { IsOf heap.now pass.old }
     requires object { object < length heap.now.heap.shape.objects }
@@ -220,8 +225,9 @@ pub fn monitor_wait(heap: &Heap, pass: &mut Pass, why: &Purpose, object: u32, mo
     }
 }
 
-/// Publishes the length of the thread's log with one entry more. This step logs that entry, which is the one given, and
-/// ends the operation.
+/// Logs this entry and ends the operation, by the store of the length of the thread's log with one entry more.
+///
+/// In OpenJDK 8: nothing.
 pub fn publish(heap: &Heap, pass: &mut Pass, why: &Purpose, entry: Entry)
     requires heap { IsOf heap.now pass.old }
     requires due { IsDueOn heap.now pass.old why.now.task (publish_steps entry why.now (local_of pass.old.known)) }

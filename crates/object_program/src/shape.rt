@@ -71,7 +71,11 @@ impl Program {
         place_among(self.objects.items(), o)
     }
 
-    /// A copy of the program. Where memory is wanting, `NoMemory`.
+    /// A copy of the program.
+    ///
+    /// # Errors
+    ///
+    /// `NoMemory` where an allocation fails.
     pub fn try_clone(&self, alloc: Global) -> Result<Program, NoMemory>
         ensures { IfOk result (λ p. p ≡ self.now) }
     {

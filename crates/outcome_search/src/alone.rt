@@ -122,7 +122,7 @@ fn make_where_alone(machine: &mut Machine, t: u32, entry: &Entry, fuel: u32) -> 
     false
 }
 
-/// The same of the entry that thread t has next.
+/// Makes the next entry of thread t, where it goes alone and the machine takes it.
 fn make_alone(machine: &mut Machine, t: u32, fuel: u32) -> bool
     requires { t < length machine.old.threads }
     ensures made { result ≡ is_some (behind_alone machine.old t) }

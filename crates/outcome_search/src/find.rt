@@ -30,6 +30,11 @@ pub enum OutcomeError {
 }
 
 /// Looks for every machine that the program's entries lead to, at most `limit` of them, and counts how they end.
+///
+/// # Errors
+///
+/// `Hash` exactly where some thread has a `hash` instruction. `NoMemory` where an allocation fails. `NoState` where a
+/// machine isn't read back from its words, which would be an error of this library.
 pub fn find_outcomes(
     alloc: Global,
     program: &Program,
@@ -57,7 +62,7 @@ fn outcome_error(error: SearchError) -> OutcomeError
     }
 }
 
-/// The same with this fuel, and so many entries that go alone at once.
+/// Finds the ends with this fuel, and so many entries that go alone at once.
 fn find_with<C: Course>(
     alloc: Global,
     program: &Program,

@@ -120,7 +120,11 @@ fn step(
 }
 
 impl MachineMoves {
-    /// The moves of a program, and the key of its first machine. Where memory is wanting, `NoMemory`.
+    /// The moves of a program, and the key of its first machine.
+    ///
+    /// # Errors
+    ///
+    /// `NoMemory` where an allocation fails.
     pub fn new(
         alloc: Global,
         program: &Program,

@@ -13,11 +13,16 @@ use plain_monitor::limits::FUEL;
 use plain_monitor::{Entry, Logged, NoMemory, Path};
 use std::alloc::Global;
 
-/// The entries that lead from the program's first machine to one that ends so, each with its thread, by the choices of a search, of which the
-/// last one stands first. The nth has stamp n, so that they are a journal.
+/// The entries that lead from the program's first machine to one that ends so, each with its thread, by the choices
+/// of a search, of which the last one stands first. The nth has stamp n, so that they are a journal.
 ///
-/// All threads have the most fuel that a run may have, and none is given back. So where the search gave some back the way may end in
-/// a thread that is spent; then, and where the choices lead to no such end, there are none. Nobody looks for a short way.
+/// All threads have the most fuel that a run may have, and none is given back. So where the search gave some back the
+/// way may end in a thread that is spent; then, and where the choices lead to no such end, there are none. Nobody
+/// looks for a short way.
+///
+/// # Errors
+///
+/// `NoMemory` where an allocation fails.
 pub fn find_witness(
     alloc: Global,
     program: &Program,
@@ -81,7 +86,7 @@ fn push_entry(t: u32, entry: Entry, entries: &mut Vec<(u32, Logged)>) -> Result<
     Ok(true)
 }
 
-/// The same of the next entry of thread t, where there is such a thread and it has one.
+/// Logs the next entry of thread t, where there is such a thread and it has one.
 fn log_next(machine: &mut Machine, t: u32, entries: &mut Vec<(u32, Logged)>) -> Result<(), NoMemory>
     ensures { OnOk result (LeadsOn machine.old entries.old.items machine.new entries.new.items) }
 {
@@ -94,7 +99,7 @@ fn log_next(machine: &mut Machine, t: u32, entries: &mut Vec<(u32, Logged)>) -> 
     Ok(())
 }
 
-/// The same of the next entry of thread t, where it goes alone; whether there was one.
+/// Logs the next entry of thread t, where it goes alone. It answers whether there was one.
 fn log_where_alone(
     machine: &mut Machine,
     t: u32,
@@ -110,7 +115,7 @@ fn log_where_alone(
     }
 }
 
-/// The same of the first thread that has such an entry.
+/// Logs that of the first thread that has such an entry. It answers whether there was one.
 fn log_first(machine: &mut Machine, entries: &mut Vec<(u32, Logged)>) -> Result<bool, NoMemory>
     ensures { OnOk result (LeadsOn machine.old entries.old.items machine.new entries.new.items) }
 {

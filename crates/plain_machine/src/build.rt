@@ -16,7 +16,12 @@ use object_program::{Program, ThreadDef};
 use plain_monitor::NoMemory;
 use std::alloc::Global;
 
-/// The objects of a program by their numbers: those that it declares, each with the slots of its class, and those that its threads may make.
+/// The objects of a program by their numbers: those that it declares, each with the slots of its class, and those
+/// that its threads may make.
+///
+/// # Errors
+///
+/// `NoMemory` where an allocation fails.
 pub fn new_objects(alloc: Global, program: &Program) -> Result<Vec<Object>, NoMemory>
     ensures objects { IfOk result (λ v. v.items ≡ new_objects (shape_of program.now)) }
     ensures total { IfOk result (λ v. vec_len v ≡ objects_total program.now) }
@@ -57,6 +62,10 @@ fn push_objects(
 }
 
 /// The threads of a program of this many objects, each before its first call.
+///
+/// # Errors
+///
+/// `NoMemory` where an allocation fails.
 pub fn new_threads(
     alloc: Global,
     program: &Program,

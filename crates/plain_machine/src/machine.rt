@@ -47,8 +47,12 @@ impl Model for Machine {
 }
 
 impl Machine {
-    /// The machine before the first entry, where each thread has this much fuel. It keeps a copy of the program, and takes all
-    /// memory that it will need; where memory is wanting there is none.
+    /// Makes the machine before the first entry, where each thread has `fuel` units of fuel, one for each
+    /// instruction. It keeps a copy of the program, and takes all memory that it will need.
+    ///
+    /// # Errors
+    ///
+    /// `NoMemory` where an allocation fails.
     pub fn new(alloc: Global, program: &Program, fuel: u32) -> Result<Machine, NoMemory>
         ensures { IfOk result (λ m. m ≡ new_machine program.now fuel) }
     {
@@ -148,8 +152,12 @@ impl Machine {
         )
     }
 
-    /// Takes an entry of thread t, where the thread asks for it, each object is there that it needs, and the objects take it. Else it
-    /// is refused, and the machine stays as it is.
+    /// Takes an entry of thread t.
+    ///
+    /// # Errors
+    ///
+    /// `Refused` exactly where the thread doesn't ask for the entry, an object isn't there that it needs, or the
+    /// objects don't take it. Then the machine stays as it is.
     pub fn take(&mut self, t: u32, entry: &Entry) -> Result<(), Refused>
         requires { t < length self.old.threads }
         ensures ok { OnOk result (take self.old t entry.now ≡ Some self.new) }

@@ -39,7 +39,12 @@ impl Model for Object {
 }
 
 impl Object {
-    /// An object with a free monitor, the number 0 in each of its slots, and no hash. It takes all memory that it will need.
+    /// An object with a free monitor, the number 0 in each of its slots, and no hash. It takes all memory that it
+    /// will need.
+    ///
+    /// # Errors
+    ///
+    /// `NoMemory` where an allocation fails.
     pub fn new(alloc: Global, slots: u32) -> Result<Object, NoMemory>
         ensures { IfOk result (λ x. x ≡ new_object slots) }
     {

@@ -90,6 +90,10 @@ impl Model for Register {
 
 impl Register {
     /// The declared objects of a program, before any thread has made one. It takes all memory that it will need.
+    ///
+    /// # Errors
+    ///
+    /// `NoMemory` where an allocation fails.
     pub fn new(alloc: Global, program: &Program) -> Result<Register, NoMemory>
         ensures numbers { IfOk result (λ r. r.numbering ≡ numbering_of program.now) }
         ensures nothing { IfOk result (λ r. r.made ≡ nothing_made (numbering_of program.now)) }

@@ -42,6 +42,10 @@ impl Model for Thread {
 
 impl Thread {
     /// A thread that has not run, with this many locals, for a machine of this many objects.
+    ///
+    /// # Errors
+    ///
+    /// `NoMemory` where an allocation fails.
     pub fn new(alloc: Global, locals: u32, objects: u32, fuel: u32) -> Result<Thread, NoMemory>
         ensures { IfOk result (λ s. s ≡ unrun locals objects fuel) }
     {

@@ -49,7 +49,11 @@ impl Monitor {
         }
     }
 
-    /// Makes room for the waits of `n` further threads. `NoMemory` leaves the monitor as it was.
+    /// Makes room for the waits of `n` further threads.
+    ///
+    /// # Errors
+    ///
+    /// `NoMemory` where an allocation fails. Then the monitor is as it was.
     pub fn reserve(&mut self, n: u32) -> Result<(), NoMemory>
         ensures plain { self.new.plain ≡ self.old.plain }
         ensures ok { OnOk result (n ≤ self.new.spare) }
@@ -74,8 +78,12 @@ impl Monitor {
         Ok(())
     }
 
-    /// Thread `t` takes the free monitor, or enters it once more. `Refused` where another thread has it, or where it is free
-    /// but `t` waits or was notified and didn't resume.
+    /// Thread `t` takes the free monitor, or enters it once more.
+    ///
+    /// # Errors
+    ///
+    /// `Refused` exactly where another thread has it, or where it is free but `t` waits or was notified and didn't
+    /// resume. Then the monitor is as it was.
     pub fn enter(&mut self, t: u32) -> Result<(), Refused>
         requires { self.old.plain.count < 4294967295 }
         ensures ok { OnOk result (enter self.old.plain t ≡ Some self.new.plain) }
@@ -101,7 +109,11 @@ impl Monitor {
         Ok(())
     }
 
-    /// The owner leaves once, and with its last exit lets go. `Refused` where `t` isn't the owner.
+    /// The owner leaves once, and with its last exit lets go.
+    ///
+    /// # Errors
+    ///
+    /// `Refused` exactly where `t` isn't the owner. Then the monitor is as it was.
     pub fn exit(&mut self, t: u32) -> Result<(), Refused>
         ensures ok { OnOk result (exit self.old.plain t ≡ Some self.new.plain) }
         ensures refused { OnErr result (exit self.old.plain t ≡ None) }
@@ -120,7 +132,11 @@ impl Monitor {
         Ok(())
     }
 
-    /// The owner goes last among those who wait, and lets go. Its count is kept. `Refused` where `t` isn't the owner.
+    /// The owner goes last among those who wait, and lets go. Its count is kept.
+    ///
+    /// # Errors
+    ///
+    /// `Refused` exactly where `t` isn't the owner. Then the monitor is as it was.
     pub fn wait(&mut self, t: u32) -> Result<(), Refused>
         requires { 1 ≤ self.old.spare }
         ensures ok { OnOk result (wait self.old.plain t ≡ Some self.new.plain) }
@@ -138,8 +154,11 @@ impl Monitor {
         Ok(())
     }
 
-    /// A thread that was notified takes the free monitor with the count that it had. `Refused` where some thread has it, or
-    /// where `t` wasn't notified.
+    /// A thread that was notified takes the free monitor with the count that it had.
+    ///
+    /// # Errors
+    ///
+    /// `Refused` exactly where some thread has it, or where `t` wasn't notified. Then the monitor is as it was.
     pub fn resume(&mut self, t: u32) -> Result<(), Refused>
         ensures ok { OnOk result (resume self.old.plain t ≡ Some self.new.plain) }
         ensures refused { OnErr result (resume self.old.plain t ≡ None) }
@@ -159,8 +178,11 @@ impl Monitor {
         Ok(())
     }
 
-    /// Notifies the oldest of those who wait, and answers who it is; `None` exactly where nobody waits. `Refused` where `t`
-    /// isn't the owner.
+    /// Notifies the oldest of those who wait, and answers who it is; `None` exactly where nobody waits.
+    ///
+    /// # Errors
+    ///
+    /// `Refused` exactly where `t` isn't the owner. Then the monitor is as it was.
     pub fn notify(&mut self, t: u32) -> Result<Option<u32>, Refused>
         ensures ok { IfOk result (λ woken. notify self.old.plain t woken ≡ Some self.new.plain) }
         ensures refused { OnErr result ((woken : Option ℕ) → notify self.old.plain t woken ≡ None) }
@@ -178,7 +200,11 @@ impl Monitor {
         Ok(Some(woken))
     }
 
-    /// Notifies all who wait, and answers how many. `Refused` where `t` isn't the owner.
+    /// Notifies all who wait, and answers how many.
+    ///
+    /// # Errors
+    ///
+    /// `Refused` exactly where `t` isn't the owner. Then the monitor is as it was.
     pub fn notify_all(&mut self, t: u32) -> Result<u32, Refused>
         ensures ok { IfOk result (λ woken. notify_all self.old.plain t woken ≡ Some self.new.plain) }
         ensures refused { OnErr result ((woken : ℕ) → notify_all self.old.plain t woken ≡ None) }

@@ -23,7 +23,11 @@ pub fn value_word(value: &Value) -> u64
     }
 }
 
-/// The value whose word this is. `BadWord` means that it is the word of no value in its range.
+/// The value whose word this is.
+///
+/// # Errors
+///
+/// `BadWord` exactly where it is the word of no value in its range.
 pub fn word_value(word: u64) -> Result<Value, BadWord>
     ensures found { IfOk result (λ value. SpellsValue value word) }
     ensures none { OnErr result ((value : Value) → SpellsValue value word → ⊥) }

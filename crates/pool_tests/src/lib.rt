@@ -1,5 +1,5 @@
-//! Tests of a pool of turns: two workers that take and give on one pool, and what two seats of it can take. They stand in a crate of
-//! their own, so that `turn_pool` isn't proved once more with them.
+//! Tests of a pool of turns: two workers that take and give on one pool, and what two seats of it can take
+//! (`docs/ARCHITECTURE.md`, "Tests").
 #![tactic(auto)]
 
 mod countdown;

@@ -10,7 +10,12 @@ use std::alloc::{AllocError, Global};
 use std::thread;
 use std::thread::Threads;
 
-/// The logs, copied by so many threads at most: the pages of long logs are new ones, and to touch them takes longer than to copy.
+/// Copies the logs, by at most `workers` threads: the pages of long logs are new ones, and to touch them takes longer
+/// than to copy.
+///
+/// # Errors
+///
+/// `AllocError` where an allocation fails.
 pub fn copy_logs<R: Threads + Sync>(
     rt: &R,
     alloc: Global,
@@ -65,7 +70,11 @@ fn all_of(
     Ok(List::of(copied))
 }
 
-/// The shots of each thread, as a record has them.
+/// Copies the shots of each thread, as a record has them.
+///
+/// # Errors
+///
+/// `AllocError` where an allocation fails.
 pub fn copy_shots(
     alloc: Global,
     shots: &[List<heap_table::Shot>],

@@ -37,8 +37,9 @@ pub fn the_record_tells_the_run()
     run_ends::the_end_of_a_heap_tells_its_prototypes();
 }
 
-/// A dump shows a state that the run passes through: what it has of each object is the owner and the count in the machine under the logs as
-/// the dump cuts them, and that machine takes all later entries in stamped order and comes to the machine under the logs of the run.
+/// A dump shows a state that the run passes through. What it has of each object is the owner and the count in the
+/// machine under the logs as the dump cuts them. That machine takes all later entries in stamped order, and comes to
+/// the machine under the logs of the run.
 pub fn a_dump_shows_a_state_that_the_run_passes_through()
     ensures { (s : Settings) (p : ProgramText) (r : RunRecord) (c : ClosedSeen) (last : PlainMachine) (t i : ℕ) (shot : Shot)
         → IsProgram p → IsRan s p r c → machine_after p s.fuel r.logs ≡ Some last → slice_get (shots_of r.shots t) i ≡ Some shot

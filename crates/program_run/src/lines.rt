@@ -9,7 +9,11 @@ use lock_journal::ClassLine;
 use plain_monitor::List;
 use std::alloc::{AllocError, Global};
 
-/// The line of each class.
+/// Makes the line of each class.
+///
+/// # Errors
+///
+/// `AllocError` where an allocation fails.
 pub fn class_lines(alloc: Global, closed: &Closed) -> Result<List<ClassLine>, AllocError>
     requires { HasSmallCounts closed.now }
     ensures { IfOk result (λ lines. lines ≡ lines_below closed.now closed.now.heap.shape.classes) }

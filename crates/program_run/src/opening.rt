@@ -14,7 +14,11 @@ use plain_monitor::{List, NoMemory};
 use run_rounds::{Runner, first_runners};
 use std::alloc::Global;
 
-/// The heap of the program, and a runner for each of its threads in their order, before the first turn.
+/// Makes the heap of the program, and a runner for each of its threads in their order, before the first turn.
+///
+/// # Errors
+///
+/// `NoMemory` where an allocation fails.
 pub fn open(
     alloc: Global,
     program: &Program,

@@ -15,7 +15,12 @@ use plain_monitor::NoMemory;
 use std::alloc::Global;
 use std::thread::Threads;
 
-/// The record of a run of the program that left this heap. Its logs are copied by as many threads as the settings have workers.
+/// Makes the record of a run of the program that left this heap. Its logs are copied by as many threads as the
+/// settings have workers.
+///
+/// # Errors
+///
+/// `NoMemory` where an allocation fails.
 pub fn record_of<R: Threads + Sync>(
     rt: &R,
     alloc: Global,

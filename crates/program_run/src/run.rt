@@ -20,11 +20,17 @@ use std::thread::Threads;
 
 /// Runs the program, until all its threads have ended or no thread can go on.
 ///
-/// The fuel is at most 200,000. The threads run on so many workers, each in turns of at most `quantum` instructions, and the clock tells
-/// the policy of biases the time, in ticks of so many units. The record's logs are legal for the program, and the machine under them is
-/// over; its stamps are exact, its hashes are the draws of the threads' generators, its shots are right, and the law of biases holds of
-/// it. Where a tick has no units, the verdicts on a class alone tell its count and its bulk operations. Which of the legal runs it is the
-/// workers decide. It may wait for workers. Where memory is wanting it is `NoMemory`.
+/// The fuel is at most 200,000 instructions a thread. The threads run on as many workers as the settings say, each in
+/// turns of at most `quantum` instructions. The clock tells the policy of biases the time: `tick` milliseconds for
+/// each count. Which of the legal runs it is the workers decide, and the call may wait for them.
+///
+/// The record's logs are legal for the program, and the machine under them is over; its stamps are exact, its hashes
+/// are the draws of the threads' generators, its shots are right, and the law of biases holds of it. Where a tick is
+/// 0, the verdicts on a class alone tell its count and its bulk operations.
+///
+/// # Errors
+///
+/// `NoMemory` where an allocation fails.
 pub fn run_program<R: Threads + Wait + Sync, C: Clock + Sync, G: Gate + Sync>(
     rt: &R,
     alloc: Global,
@@ -44,7 +50,7 @@ pub fn run_program<R: Threads + Wait + Sync, C: Clock + Sync, G: Gate + Sync>(
     Ok(Ran { record, closed })
 }
 
-// The same, and no record is made of what it leaves.
+// Runs the program and closes its heap, and makes no record.
 fn run_closed<R: Threads + Wait + Sync, C: Clock + Sync, G: Gate + Sync>(
     rt: &R,
     alloc: Global,

@@ -8,14 +8,15 @@ use lock_journal::RunRecord;
 pub struct Settings {
     /// How many instructions each thread may execute.
     pub fuel: u32,
-    /// What the generators of the identity hashes start from.
+    /// The first word of thread 0's generator of identity hashes; thread t's is t more, modulo 2^32.
     pub start: u32,
     /// Whether there are biases.
     pub bias: bool,
+    /// How many workers give turns, each a thread of the system.
     pub workers: u32,
     /// How many instructions a thread executes in one turn at most.
     pub quantum: u32,
-    /// The units of time that one tick of the clock has.
+    /// How many milliseconds one count of the clock stands for, in moments of the policy; with 0 each moment is 1.
     pub tick: u32,
 }
 

@@ -11,8 +11,12 @@ use object_program::Program;
 use plain_monitor::NoMemory;
 use std::alloc::Global;
 
-/// The shape of a heap for the program: it has its threads, classes and objects, and numbers for those that threads
-/// may make.
+/// Makes the shape of a heap for the program: it has its threads, classes and objects, and numbers for those that
+/// threads may make.
+///
+/// # Errors
+///
+/// `NoMemory` where an allocation fails.
 pub fn heap_shape(alloc: Global, program: &Program) -> Result<HeapShape, NoMemory>
     ensures shape { IfOk result (λ s. s ≡ shape_for program.now) }
     ensures program { IfOk result (λ _. IsProgram program.now) }
@@ -26,7 +30,7 @@ pub fn heap_shape(alloc: Global, program: &Program) -> Result<HeapShape, NoMemor
     shape.with_made(program.made_slots())
 }
 
-// The same without those numbers.
+// The shape with the declared objects alone.
 fn declared_shape(alloc: Global, program: &Program) -> Result<HeapShape, NoMemory>
     ensures shape { IfOk result (λ s. s ≡ declared_for program.now) }
     ensures program { IfOk result (λ _. IsProgram program.now) }

@@ -117,7 +117,7 @@ operand_cause b later ws k =
     else if opens_unclosed later k then Some NoEnd
     else None
 
--- a word of a section stands in one, and one of a declaration anywhere
+-- A word of a section stands in one. One of a declaration stands anywhere, as it ends an open section; that one was refused at its `thread` line.
 abbrev pub is_in_place : Before → Keyword → Bool
 is_in_place b k = is_outside k || is_some b.section
 

@@ -21,6 +21,10 @@ use plain_monitor::NoMemory;
 use std::alloc::Global;
 
 /// With the class of a `class` line with these operands.
+///
+/// # Errors
+///
+/// `NoMemory` where an allocation fails.
 pub fn with_class(declared: Declared, operands: &Words<'_>) -> Result<Declared, NoMemory>
     requires name { is_name (operand operands.now 0) ≡ true }
     requires slots { is_count (operand operands.now 1) ≡ true }
@@ -45,6 +49,10 @@ pub fn with_class(declared: Declared, operands: &Words<'_>) -> Result<Declared, 
 }
 
 /// With the objects of an `object` or an `array` line with these operands, as many as `size`.
+///
+/// # Errors
+///
+/// `NoMemory` where an allocation fails.
 pub fn with_objects(
     declared: Declared,
     operands: &Words<'_>,
@@ -80,6 +88,10 @@ pub fn with_objects(
 }
 
 /// With one more thread.
+///
+/// # Errors
+///
+/// `NoMemory` where an allocation fails.
 pub fn with_thread(declared: Declared, thread: ThreadDef) -> Result<Declared, NoMemory>
     ensures { IfOk result (λ d. text_of d ≡ thread_added (text_of declared) thread) }
 {
@@ -99,6 +111,10 @@ pub fn with_thread(declared: Declared, thread: ThreadDef) -> Result<Declared, No
 }
 
 /// The section that a `thread` line with these operands opens, with these lines behind it.
+///
+/// # Errors
+///
+/// `NoMemory` where an allocation fails.
 pub fn new_section(
     alloc: Global,
     operands: &Words<'_>,

@@ -127,7 +127,11 @@ impl<T: Named + Drop> Directory<T> {
         }
     }
 
-    /// With one more item at the end. Where memory is wanting, `NoMemory`.
+    /// With one more item at the end.
+    ///
+    /// # Errors
+    ///
+    /// `NoMemory` where an allocation fails.
     pub fn with(self, item: T) -> Result<Directory<T>, NoMemory>
         ensures { IfOk result (λ d. d ≡ self ++ item ∷ []) }
     {

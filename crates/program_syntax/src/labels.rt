@@ -29,7 +29,11 @@ pub fn is_closed(lines: &Lines<'_>) -> bool
     false
 }
 
-/// All labels of the section that these lines begin with, in their order. Where memory is wanting, `NoMemory`.
+/// All labels of the section that these lines begin with, in their order.
+///
+/// # Errors
+///
+/// `NoMemory` where an allocation fails.
 pub fn labels_ahead(alloc: Global, lines: &Lines<'_>) -> Result<Directory<LabelDef>, NoMemory>
     ensures { IfOk result (λ labels. labels ≡ labels_ahead 1 lines.now) }
 {

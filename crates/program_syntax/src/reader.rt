@@ -43,7 +43,8 @@ fn behind_keyword(
     ensures ahead { IfOk result (λ r. HasAhead r.section later.now) }
 {
     let Reader { declared, section } = reader;
-    // A declaration stands in no section: an open one is closed by its `end` first.
+    // A declaration stands in no section: an open one is closed by its `end` first, as else its `thread` line was refused. The definition
+    // of a single line allows an open section there.
     let Some(section) = section else {
         return behind_declaration(alloc, declared, keyword, operands, later);
     };
@@ -71,6 +72,10 @@ fn behind_keyword(
 }
 
 /// What a line without a cause leaves where no section is open, behind these declarations.
+///
+/// # Errors
+///
+/// `NoMemory` where an allocation fails.
 pub fn behind_declaration(
     alloc: Global,
     declared: Declared,

@@ -118,7 +118,11 @@ pub fn instruction_on(
     }
 }
 
-/// With the local of a `local` line with these operands. Where memory is wanting, `NoMemory`.
+/// With the local of a `local` line with these operands.
+///
+/// # Errors
+///
+/// `NoMemory` where an allocation fails.
 pub fn with_local(section: Section, operands: &Words<'_>) -> Result<Section, NoMemory>
     requires name { is_name (operand operands.now 0) ≡ true }
     requires room { length section.locals < most_locals }
@@ -142,7 +146,7 @@ pub fn with_local(section: Section, operands: &Words<'_>) -> Result<Section, NoM
     })
 }
 
-/// Behind the line of one more label.
+/// Adds a label to the section: one more of its labels stands on the lines so far.
 pub fn with_label(mut section: Section) -> Section
     requires { section.declared < length section.labels }
     ensures thread { thread_of result ≡ thread_to section (section.declared + 1) }
@@ -152,7 +156,11 @@ pub fn with_label(mut section: Section) -> Section
     section
 }
 
-/// With one more instruction. Where memory is wanting, `NoMemory`.
+/// With one more instruction.
+///
+/// # Errors
+///
+/// `NoMemory` where an allocation fails.
 pub fn with_code(mut section: Section, code: Code) -> Result<Section, NoMemory>
     requires { length section.code.items < most_code }
     ensures thread { IfOk result (λ s. thread_of s ≡ code_added (thread_of section) code) }

@@ -17,8 +17,12 @@ use itoa::Buffer;
 use object_program::{ClassDef, Code, LabelDef, Name, ObjectDef, Program, ThreadDef};
 use plain_monitor::NoMemory;
 
-/// Writes the canonical text of the program behind the bytes of `out`. Where that text has at most 1,048,576 bytes, it is read
-/// as this very program. Where memory is wanting, `NoMemory`, and `out` is as it was before.
+/// Writes the canonical text of the program after the bytes of `out`. Where that text has at most 1,048,576 bytes, it
+/// is read as this very program.
+///
+/// # Errors
+///
+/// `NoMemory` where an allocation fails. Then `out` is as it was before.
 pub fn write_program(program: &Program, out: &mut Vec<u8>) -> Result<(), NoMemory>
     ensures ok { OnOk result (out.new.items ≡ out.old.items ++ canonical program.now) }
     ensures err { OnErr result (out.new.items ≡ out.old.items) }
@@ -49,6 +53,10 @@ fn write_parts(program: &Program, out: &mut Vec<u8>) -> Result<(), NoMemory>
 }
 
 /// Writes a line of these words.
+///
+/// # Errors
+///
+/// `NoMemory` where an allocation fails.
 #[tactic(auto, using(crate::proofs::Written::err_behind))]
 pub fn write_line(out: &mut Vec<u8>, words: &[&[u8]]) -> Result<(), NoMemory>
     ensures ok { OnOk result (out.new.items ≡ out.old.items ++ line_text (map (λ w. w.now) words.now)) }
@@ -89,6 +97,10 @@ fn write_bytes(out: &mut Vec<u8>, bytes: &[u8]) -> Result<(), NoMemory>
 }
 
 /// Writes the lines of the classes.
+///
+/// # Errors
+///
+/// `NoMemory` where an allocation fails.
 pub fn write_classes(classes: &[ClassDef], out: &mut Vec<u8>) -> Result<(), NoMemory>
     ensures ok { OnOk result (out.new.items ≡ out.old.items ++ lines_text (map class_words classes.now)) }
     ensures err { OnErr result (BeginsWith out.old.items out.new.items) }
@@ -114,6 +126,10 @@ fn write_class(class: &ClassDef, out: &mut Vec<u8>) -> Result<(), NoMemory>
 }
 
 /// Writes the lines of the declarations of objects.
+///
+/// # Errors
+///
+/// `NoMemory` where an allocation fails.
 pub fn write_objects(
     classes: &[ClassDef],
     objects: &[ObjectDef],
@@ -172,6 +188,10 @@ fn write_threads(
 }
 
 /// Writes the section of a thread.
+///
+/// # Errors
+///
+/// `NoMemory` where an allocation fails.
 pub fn write_thread(
     classes: &[ClassDef],
     objects: &[ObjectDef],
@@ -265,6 +285,10 @@ fn write_label(label: &LabelDef, out: &mut Vec<u8>) -> Result<(), NoMemory>
 }
 
 /// Writes the line of an instruction.
+///
+/// # Errors
+///
+/// `NoMemory` where an allocation fails.
 pub fn write_instruction(
     classes: &[ClassDef],
     objects: &[ObjectDef],

@@ -132,6 +132,8 @@ fn raise_epoch(
 /// Makes the biases of all objects of the class invalid, whose epoch is this one: the class gets the next epoch, and so
 /// do the marks of those objects that lock records name. Then the object's own bias is revoked, and where a new one is
 /// allowed the thread takes it. It answers whether it did.
+///
+/// In OpenJDK 8: `bulk_revoke_or_rebias_at_safepoint` with `bulk_rebias` true (`biasedLocking.cpp`).
 pub fn bulk_rebias(
     heap: &Heap,
     pass: &mut Pass,
@@ -183,6 +185,8 @@ fn end_epochs(heap: &Heap, pass: &mut Pass, why: &Purpose, revocation: &Revocati
 
 /// Revokes the biases of all objects of the class: its prototype becomes neutral, so that no bias to it is valid, and
 /// the biases of its objects that lock records name are revoked one by one. Then the object's own bias is revoked.
+///
+/// In OpenJDK 8: `bulk_revoke_or_rebias_at_safepoint` with `bulk_rebias` false (`biasedLocking.cpp`).
 pub fn bulk_revoke(heap: &Heap, pass: &mut Pass, why: &Purpose, revocation: &Revocation, class: u32)
     requires heap { IsOf heap.now pass.old }
     requires object { revocation.now.object < length heap.now.heap.shape.objects }

@@ -160,6 +160,8 @@ fn deflate_monitor(heap: &Heap, pass: &mut Pass, why: &Purpose, stage: Stage, mo
 /// monitor is idle where a mark names it, nobody owns it, and no thread waits on that object, was notified from it or
 /// enters it. Its header becomes the object's mark, its words become 0, and it stands in the ring of monitors that
 /// are to be claimed. The others stay as they are, and nothing is logged.
+///
+/// In OpenJDK 8: `ObjectSynchronizer::deflate_idle_monitors` and `deflate_monitor` (`synchronizer.cpp`).
 pub fn deflate_idle(heap: &Heap, pass: &mut Pass, why: &Purpose, stage: Stage)
     requires heap { IsOf heap.now pass.old }
     requires due { IsDueOn heap.now pass.old why.now.task (deflate_steps heap.now.heap.shape why.now stage) }

@@ -12,7 +12,7 @@ pub struct Revocation {
     pub object: u32,
     /// Whether a new bias is allowed.
     pub rebias: bool,
-    /// The moment that the policy of bulk operations is given.
+    /// The moment that the policy of bulk operations is given, in milliseconds from 1.
     pub moment: u64,
 }
 

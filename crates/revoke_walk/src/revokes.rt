@@ -124,6 +124,8 @@ fn revoke_biased(
 }
 
 /// Revokes the bias of the object by its mark of this form, where a new bias is allowed or not.
+///
+/// In OpenJDK 8: `revoke_bias` (`biasedLocking.cpp`).
 pub fn revoke_form(
     heap: &Heap,
     pass: &mut Pass,
@@ -156,6 +158,8 @@ pub fn revoke_form(
 }
 
 /// Revokes the bias of the object, where a new bias is allowed or not.
+///
+/// In OpenJDK 8: `revoke_bias` (`biasedLocking.cpp`).
 pub fn revoke(
     heap: &Heap,
     pass: &mut Pass,

@@ -286,6 +286,8 @@ fn look_at_lengths(heap: &Heap, pass: &mut Pass, why: &Purpose)
 /// Takes a shot of a dump at the thread's reached safepoint, and keeps it: the length of each thread's log, and for
 /// each object who has its lock, and how often. The draft of the pass, whatever it was, becomes this shot, and then the
 /// last of the shots that the pass has taken. Nothing is stored and nothing logged.
+///
+/// In OpenJDK 8: `VM_ThreadDump` (`vm_operations.hpp`), which has stacks.
 pub fn take_shot(heap: &Heap, pass: &mut Pass, why: &Purpose)
     requires heap { IsOf heap.now pass.old }
     requires due { IsDueOn heap.now pass.old why.now.task (take_shot_steps why.now heap.now.heap.shape) }

@@ -104,6 +104,8 @@ fn look_at_thread(heap: &Heap, pass: &mut Pass, why: &Purpose, thread: u32) -> O
 /// Each such thread waits to be notified, or waits for a monitor that another thread owns.
 /// `false` says that all threads have ended, or that some thread could go on: it waits for nothing, or for a monitor
 /// that is free or its own.
+///
+/// In OpenJDK 8: nothing; `VM_FindDeadlocks` (`vm_operations.hpp`) looks for circles.
 pub fn stands_still(heap: &Heap, pass: &mut Pass, why: &Purpose) -> bool
     requires heap { IsOf heap.now pass.old }
     requires due { IsDueOn heap.now pass.old why.now.task (stands_still_steps why.now heap.now.heap.shape) }

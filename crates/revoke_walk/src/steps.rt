@@ -11,7 +11,7 @@ use crate::revocation::Revocation;
 use core_world::Name;
 use heap_table::{Heap, Pass, Purpose};
 
-/// A load. It answers the word that it found.
+/// Loads the word in the middle of a revocation. It answers the word that it found.
 #[inline(always)]
 pub fn look(heap: &Heap, pass: &mut Pass, why: &Purpose, revocation: &Revocation, at: Name) -> u64
     requires { CanStep heap.now pass.old (load_plan why.now (revocation_stage revocation.now) at) }
@@ -20,7 +20,7 @@ pub fn look(heap: &Heap, pass: &mut Pass, why: &Purpose, revocation: &Revocation
     heap.load(pass, why, revocation.stage(), at)
 }
 
-/// One store.
+/// Makes one store of a revocation.
 #[inline(always)]
 pub fn store_one(
     heap: &Heap,

@@ -90,6 +90,9 @@ fn decide_and_revoke(
 /// no record locks it, it is biased to this thread and `took` is true. `BulkRevoke`: the class's prototype becomes
 /// neutral, and the biases of its objects that lock records name are revoked, and the object's. Where no new bias is
 /// given, `took` is false.
+///
+/// In OpenJDK 8: `update_heuristics`, and the operations `VM_RevokeBias` and `VM_BulkRevokeBias`
+/// (`biasedLocking.cpp`), which the VM thread carries out.
 pub fn revoke_at_safepoint(
     heap: &Heap,
     pass: &mut Pass,

@@ -148,6 +148,8 @@ fn walk_thread(
 }
 
 /// Visits each biased object of the class that a record of a thread names, by rising thread and place.
+///
+/// In OpenJDK 8: the loop over `Threads::first()` in `bulk_revoke_or_rebias_at_safepoint` (`biasedLocking.cpp`).
 pub fn walk(
     heap: &Heap,
     pass: &mut Pass,

@@ -12,7 +12,7 @@ use heap_table::{PLACES, hold_of_word, names};
 use mark_word::{HoldForm, encode_hold};
 use plain_monitor::limits::HOLDS;
 
-/// The object that a hold word names.
+/// The object that a hold word names; `None` where it names none.
 pub fn object_of_hold(word: u64) -> Option<u32>
     ensures { result ≡ object_held (read_hold word) }
 {

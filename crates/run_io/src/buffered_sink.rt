@@ -41,7 +41,11 @@ impl<K> Model for BufferedSink<K> {
 impl<K: Sink> BufferedSink<K> {
     /// A sink before this one, with nothing pending and room for so many bytes.
     ///
-    /// All memory is taken here, and writes take none. The error says that there is none; the sink is dropped then.
+    /// All memory is taken here, and writes take none.
+    ///
+    /// # Errors
+    ///
+    /// `NoMemory` where an allocation fails. Then the sink is dropped.
     pub fn new(alloc: Global, sink: K, room: usize) -> Result<BufferedSink<K>, NoMemory>
     where
         K: Drop,

@@ -6,11 +6,11 @@ use std::sync::atomic::{AtomicU64, Ordering};
 
 /// Tells the time.
 pub trait Clock {
-    /// The time now, in the clock's own unit. Nothing is promised of it: a later call may answer less.
+    /// The time now, as a count that `moment` makes milliseconds of. Nothing is promised of it: a later call may answer less.
     fn now(&self) -> u64;
 }
 
-/// The time after `count` ticks of `tick` units each, from 1 on. It stays at the greatest u64 where it would pass that.
+/// The time after `count` ticks of `tick` milliseconds each, from 1 on. It stays at the greatest u64 where it would pass that.
 pub fn moment(count: u64, tick: u32) -> u64
     ensures { result ≡ min (1 + tick * count) (2 ^ 64 - 1) }
 {

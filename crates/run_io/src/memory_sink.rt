@@ -41,6 +41,10 @@ impl MemorySink {
     ///
     /// All memory is taken here, and writes take none. The error says that there is none, and leaves nothing. It
     /// can't come where no room is asked for.
+    ///
+    /// # Errors
+    ///
+    /// `NoMemory` where an allocation fails.
     pub fn new(
         alloc: Global,
         room: usize,

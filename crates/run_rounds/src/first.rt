@@ -14,8 +14,13 @@ use std::alloc::Global;
 use thread_calls::unused_passes_are_on;
 use thread_interp::Runner;
 
-/// The runners of a heap's threads before the first turn: where the passes are those of a new heap of a program, made for this fuel, they
-/// are ready for `run`, with ticks of any length. The fuel is at most 200,000. `NoMemory` where memory is wanting.
+/// Makes the runners of a heap's threads before the first turn. Where the passes are those of a new heap of a
+/// program, made for this fuel, they are ready for `run`, with ticks of any length. `fuel` is how many instructions
+/// each thread may execute, at most 200,000.
+///
+/// # Errors
+///
+/// `NoMemory` where an allocation fails.
 pub fn first_runners(alloc: Global, passes: List<Pass>, fuel: u32) -> Result<List<Runner>, NoMemory>
     requires { fuel ≤ most_fuel }
     ensures { IfOk result (λ rs. (h : HeapSeen) (p : ProgramText) (tick : ℕ) → IsHeapOf h p → AreFirst h fuel passes

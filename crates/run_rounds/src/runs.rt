@@ -30,12 +30,18 @@ fn into_passes(runners: Vec<Runner>, mut passes: Vec<Pass>) -> Vec<Pass>
 
 /// Runs the threads of a program on workers, and closes its heap.
 ///
-/// The runners are those of this heap, one for each thread in the order of the threads, all with one fuel, and no check of theirs is
-/// unfinished: as `Runner::new` gives them, or behind turns of their own. Each of so many workers, or of as many as there are threads where
-/// these are fewer, takes runners that are ready, one after the other, and gives each a turn of at most `quantum` instructions. It returns
-/// when all threads have ended, or when the run was halted because it is stuck, and it may wait for workers. Memory is taken before the first
-/// turn: `NoMemory` where it is wanting. The clock's counts are of `tick` units each: a call that takes a moment is given the time after some
-/// count of ticks. So it must have been with the calls that were made before.
+/// The runners are those of this heap, one for each thread in the order of the threads, all with one fuel, in
+/// instructions, and no check of theirs is unfinished: as `Runner::new` gives them, or behind turns of their own.
+/// Each of `workers` workers, or of as many as there are threads where these are fewer, takes runners that are ready,
+/// one after the other, and gives each a turn of at most `quantum` instructions. It returns when all threads have
+/// ended, or when the run was halted because it is stuck, and it may wait for workers.
+///
+/// The time that a call gets is `1 + tick * count`, in milliseconds, for some count of the clock. Earlier calls on
+/// these runners were given theirs by the same `tick`.
+///
+/// # Errors
+///
+/// `NoMemory` where an allocation fails, before the first turn.
 pub fn run<R: Threads + Wait + Sync, C: Clock + Sync, G: Gate + Sync>(
     rt: &R,
     alloc: Global,

@@ -69,7 +69,8 @@ fn word_after_turn(runner: &Runner) -> Word
     Word::Ready
 }
 
-/// A turn of the runner of this place, which goes back into the pool then.
+/// Gives the runner of this place a turn of at most `quantum` instructions, and puts it back into the pool. `tick` is
+/// in milliseconds.
 pub fn give_turn<C: Course, K: Clock, G: Gate>(
     program: &Program,
     heap: &Heap,
@@ -122,7 +123,7 @@ fn check<R: Wait>(rt: &R, program: &Program, heap: &Heap, runner: &mut Runner) -
     unreachable!()
 }
 
-// The same, where the runner can make a check: its thread hasn't ended, and asks for no safepoint.
+// Makes a check with this runner where it can: its thread hasn't ended, and asks for no safepoint. Whether the run is stuck.
 fn check_where_free<R: Wait>(rt: &R, program: &Program, heap: &Heap, runner: &mut Runner) -> bool
     requires heap { IsHeapOf heap.now program.now }
     requires runner { IsRunner heap.now program.now runner.old }
@@ -147,7 +148,8 @@ fn word_after_check(runner: &Runner, stuck: bool) -> Word
     Word::Ready
 }
 
-/// A check of the runner of this place, which goes back into the pool then. Whether the run was halted.
+/// Makes a check with the runner of this place, and puts it back into the pool. It answers whether the run was
+/// halted.
 pub fn give_check<C: Course, R: Wait>(
     rt: &R,
     program: &Program,

@@ -275,8 +275,13 @@ fn serve_all<C: Course + Send + Sync, R: Threads + Wait + Sync, K: Clock + Sync,
     Ok(pool.end(own, room))
 }
 
-/// Turns of all runners by so many workers, until all threads have ended or a check halted the run: then the runners, in their order.
-/// `room` is empty, with room for them. Memory is taken before the first turn: `NoMemory` where it is wanting.
+/// Gives turns of at most `quantum` instructions to all runners, by `workers` workers, until all threads have ended
+/// or a check halted the run. It answers the runners, in their order. `room` is empty, with room for them; `tick` is
+/// in milliseconds.
+///
+/// # Errors
+///
+/// `NoMemory` where an allocation fails, before the first turn.
 pub fn serve_until_over<R: Threads + Wait + Sync, K: Clock + Sync, G: Gate + Sync>(
     rt: &R,
     alloc: Global,

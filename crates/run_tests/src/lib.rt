@@ -1,5 +1,5 @@
-//! Tests of the top call: whole runs, from words and a text in memory to what a sink in memory holds. They stand in a crate of their own, so
-//! that the program isn't proved once more with them.
+//! Tests of the top call: whole runs, from arguments and a text in memory to what a sink in memory holds
+//! (`docs/ARCHITECTURE.md`, "Tests").
 #![tactic(auto)]
 
 #[cfg(test)]

@@ -33,8 +33,10 @@ pub enum WordsFault {
 
 /// What the words of the command line ask for. The first is the program's name and is not looked at.
 ///
-/// `Refused` exactly where `specs/Command.antt` doesn't accept the words, which then ask for nothing; but where memory is wanting,
-/// any words may be answered `NoMemory`.
+/// # Errors
+///
+/// `Refused` only where `specs/Command.antt` doesn't accept the words, which then ask for nothing. `NoMemory` where
+/// an allocation fails, whatever the words are.
 pub fn read_words(alloc: Global, words: &[String]) -> Result<Command, WordsFault>
     ensures ok { IfOk result (λ c. spec.accepted (map (λ w. string_bytes w) words.now) ≡ Some c) }
     ensures refused { result ≡ Err Refused → spec.accepted (map (λ w. string_bytes w) words.now) ≡ None }

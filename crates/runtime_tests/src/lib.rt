@@ -1,5 +1,5 @@
-//! Tests of the runtime: what two threads of one heap answer, log and leave, call by call, and what two workers log that enter and
-//! leave one object. They stand in a crate of their own, so that `lock_runtime` isn't proved once more with them.
+//! Tests of the runtime: what two threads of one heap answer, log and leave, call by call, and what two workers log
+//! that enter and leave one object (`docs/ARCHITECTURE.md`, "Tests").
 #![tactic(auto)]
 
 #[cfg(test)]

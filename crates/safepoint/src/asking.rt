@@ -30,6 +30,9 @@ fn unchecked(why: &Purpose) -> Purpose
 ///
 /// Pending, the thread runs on, and nothing was changed: `Requested { word }` says that a word that was loaded, or that
 /// the exchange found, has a requester, and `Raced { expected, found }` that the exchange found another word with none.
+///
+/// In OpenJDK 8: `VMThread::execute` (`vmThread.cpp`) and the beginning of `SafepointSynchronize::begin`
+/// (`safepoint.cpp`). There the VM thread carries the operation out.
 pub fn request(heap: &Heap, pass: &mut Pass, why: &Purpose) -> Turn<()>
     requires heap { IsOf heap.now pass.old }
     requires due { IsDueOn heap.now pass.old why.now.task (request_steps why.now pass.old.known.thread) }
@@ -72,6 +75,8 @@ fn request_from(
 
 /// Looks whether the thread that asked has its safepoint: `Done` says that by the loaded word no thread runs, and
 /// `Pending(Stopping { word })` that by this `word` one still does. The request stands either way.
+///
+/// In OpenJDK 8: the part of `SafepointSynchronize::begin` (`safepoint.cpp`) that waits until no thread runs.
 pub fn reached(heap: &Heap, pass: &mut Pass, why: &Purpose) -> Turn<()>
     requires heap { IsOf heap.now pass.old }
     requires due { IsDueOn heap.now pass.old why.now.task (reached_steps why.now) }
@@ -88,6 +93,8 @@ pub fn reached(heap: &Heap, pass: &mut Pass, why: &Purpose) -> Turn<()>
 /// Asks for a safepoint, unless the thread's request stands, as `requesting` says, and looks whether it has it.
 ///
 /// Pending as `request` is, the thread runs on. Pending as `reached` is, its request stands.
+///
+/// In OpenJDK 8: `SafepointSynchronize::begin` (`safepoint.cpp`).
 pub fn safepoint(heap: &Heap, pass: &mut Pass, why: &Purpose, requesting: bool) -> Turn<()>
     requires heap { IsOf heap.now pass.old }
     requires due { IsDueOn heap.now pass.old why.now.task (safepoint_steps why.now pass.old.known.thread requesting) }
@@ -104,6 +111,8 @@ pub fn safepoint(heap: &Heap, pass: &mut Pass, why: &Purpose, requesting: bool) 
 
 /// Ends the thread's safepoint by one exchange, which can't miss: nobody asks, and the thread alone runs, at this stage.
 /// No check is unfinished any longer.
+///
+/// In OpenJDK 8: `SafepointSynchronize::end` (`safepoint.cpp`).
 pub fn release_to(heap: &Heap, pass: &mut Pass, why: &Purpose, stage: Stage)
     requires heap { IsOf heap.now pass.old }
     requires due { IsDueOn heap.now pass.old why.now.task (release_to stage why.now pass.old.known.thread) }
@@ -123,6 +132,8 @@ pub fn release_to(heap: &Heap, pass: &mut Pass, why: &Purpose, stage: Stage)
 }
 
 /// Ends the thread's safepoint, and leaves the thread in the middle of nothing.
+///
+/// In OpenJDK 8: `SafepointSynchronize::end` (`safepoint.cpp`).
 #[inline]
 pub fn release(heap: &Heap, pass: &mut Pass, why: &Purpose)
     requires heap { IsOf heap.now pass.old }
@@ -134,6 +145,8 @@ pub fn release(heap: &Heap, pass: &mut Pass, why: &Purpose)
 
 /// Halts the run at the thread's safepoint, by one exchange, which can't miss: the request is gone, no thread runs, and
 /// none will. No check is unfinished any longer.
+///
+/// In OpenJDK 8: nothing.
 pub fn halt(heap: &Heap, pass: &mut Pass, why: &Purpose)
     requires heap { IsOf heap.now pass.old }
     requires due { IsDueOn heap.now pass.old why.now.task (halt_steps why.now pass.old.known.thread) }

@@ -15,6 +15,8 @@ use mark_word::SafeForm;
 ///
 /// `Pending(Requested { word })` says that the loaded `word` names one that does. `Done` says that it names none. The
 /// thread runs on either way; where it is pending, it is to stop.
+///
+/// In OpenJDK 8: the polling page, and the look of `SafepointSynchronize::block` (`safepoint.cpp`).
 pub fn poll(heap: &Heap, pass: &mut Pass, why: &Purpose) -> Turn<()>
     requires heap { IsOf heap.now pass.old }
     requires due { IsDueOn heap.now pass.old why.now.task (poll_steps why.now) }
@@ -30,6 +32,8 @@ pub fn poll(heap: &Heap, pass: &mut Pass, why: &Purpose) -> Turn<()>
 
 /// Publishes the length of the log, and then clears the thread's bit: the thread is stopped, and whoever has a
 /// safepoint from here on can read its log.
+///
+/// In OpenJDK 8: `SafepointSynchronize::block` (`safepoint.cpp`), where it counts its thread as safe.
 #[inline]
 pub fn stop(heap: &Heap, pass: &mut Pass, why: &Purpose)
     requires heap { IsOf heap.now pass.old }
@@ -48,6 +52,8 @@ pub fn stop(heap: &Heap, pass: &mut Pass, why: &Purpose)
 /// Pending, the thread is stopped as before, and nothing was changed: `Halted` and `Requested { word }` say that a word
 /// that was loaded, or that the exchange found, has the halt, or a requester, and `Raced { expected, found }` that the
 /// exchange found another word with neither.
+///
+/// In OpenJDK 8: `SafepointSynchronize::block` (`safepoint.cpp`), where its thread goes on.
 pub fn resume(heap: &Heap, pass: &mut Pass, why: &Purpose) -> Turn<()>
     requires heap { IsOf heap.now pass.old }
     requires due { IsDueOn heap.now pass.old why.now.task (resume_steps why.now (local_of pass.old.known)) }

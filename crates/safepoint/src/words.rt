@@ -48,7 +48,7 @@ pub fn bar(word: u64, form: Option<SafeForm>) -> Option<Why>
     }
 }
 
-/// The bit of a thread.
+/// The bit of a thread in the safepoint word.
 pub fn bit(thread: u32) -> u64
     requires { thread < most_threads }
     ensures { result ≡ 2 ^ thread }
@@ -56,7 +56,7 @@ pub fn bit(thread: u32) -> u64
     1 << thread
 }
 
-/// All bits but that of a thread.
+/// All bits of the safepoint word but that of a thread.
 pub fn all_but(thread: u32) -> u64
     requires { thread < most_threads }
     ensures { result ≡ all_but thread }

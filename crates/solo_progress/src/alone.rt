@@ -61,9 +61,9 @@ pub fn calls_that_revoke_get_through()
         → AnswersAlone f (notify_all_steps s k o now) (RefusedWhere (has_none k o) IsDone) }
 {}
 
-/// Without a hold a wait is refused. Else one that begins is pending for a notify, where the words are quiet and the prototype of the
-/// object's class isn't 0; and one that goes on is done exactly where its waiting word says Notified and no other thread has the lock by
-/// the words, and pending for the one of the two that it lacks.
+/// A wait is refused without a hold. One that begins is pending for a notify, where the words are quiet and the
+/// prototype of the object's class isn't 0. One that goes on is done exactly where its waiting word says Notified and
+/// no other thread has the lock by the words; else it is pending for the one of the two that it lacks.
 pub fn waits_end_where_told()
     ensures begins { (s : Shape) (k : Start) (o now : ℕ) (f : Name → ℕ) → k.local.thread < 32
         → f (Prototype (class_by s f o)) ≢ 0 → Quiet (word_of_one k.requesting k.local.thread) f

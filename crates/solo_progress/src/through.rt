@@ -103,10 +103,14 @@ pub fn a_thread_left_alone_waits_until_it_is_told()
         → GetsThrough heap w t (task.Wait o now) (wait_steps w.shape (start_in w t) o now) (λ a. a ≡ Ok (Done tt)) }
 {}
 
-/// A thread gets through these calls in the same sense wherever the others stand, if these only make no step meanwhile: through a print,
-/// a finish, a stop and a release; through a create, in at most three steps, which answers the thread's next object, and is refused
-/// exactly where the thread has made 1,024; through a poll, which is pending exactly where the safepoint word has a requester; and
-/// through a resume, which is pending exactly where it has one or the halt.
+/// A thread gets through these calls in the same sense wherever the others stand, if these only make no step
+/// meanwhile.
+///
+/// - A print, a finish, a stop and a release are done.
+/// - A create answers the thread's next object, in at most three steps. It is refused exactly where the thread has
+/// made 1,024.
+/// - A poll is pending exactly where the safepoint word has a requester.
+/// - A resume is pending exactly where it has one or the halt.
 pub fn calls_that_need_no_other_thread_get_through()
     ensures print { (heap : Heap) (w : World) (t : ℕ) (value : Value) → MayCall heap w t (task.Print value)
         → GetsThrough heap w t (task.Print value) (print_steps (start_in w t) value) (λ a. Unit {0}) }
@@ -130,10 +134,15 @@ pub fn calls_that_need_no_other_thread_get_through()
         (λ a. Unit {0}) }
 {}
 
-/// And so it is with the parts of operations that may be called by themselves: an enter by a lock record that is given the object's mark
-/// is done, by its first path where the mark is neutral and else by the recursive one; an exit from a lock record leaves it, where it is
-/// recursive or the mark names no monitor, and else answers the monitor by which the lock is to be left; a request is done, and so is the
-/// look whether its safepoint is reached. A release needs no other thread (`calls_that_need_no_other_thread_get_through`).
+/// So it is with the parts of operations that may be called by themselves.
+///
+/// - An enter by a lock record that is given the object's mark is done: by its first path where the mark is neutral,
+/// and else by the recursive one.
+/// - An exit from a lock record leaves it where it is recursive or the mark names no monitor. Else it answers the
+/// monitor by which the lock is to be left.
+/// - A request is done, and so is the look whether its safepoint is reached.
+///
+/// A release needs no other thread (`calls_that_need_no_other_thread_get_through`).
 pub fn a_thread_left_alone_gets_through_parts()
     ensures stack_enter { (heap : Heap) (w : World) (objects : List PlainObject) (t o mark : ℕ)
         → IsReady heap w objects t (task.StackEnter o mark) → w.words (Mark o) ≡ mark
@@ -161,9 +170,9 @@ pub fn a_run_of_one_thread_finds_what_it_left()
         → v.words n ≡ words_left w.words ms n }
 {}
 
-/// In a world of which all clauses hold, and in which a thread is left alone, the words are such as these laws ask for: no mark and no
-/// prototype is 0, the safepoint word is that of the thread alone, and who has the lock of an object by the words is its owner by the
-/// logs.
+/// The words are such as these laws ask for, where all clauses hold and a thread is left alone. No mark and no
+/// prototype is 0, the safepoint word is that of the thread alone, and who has the lock of an object by the words is
+/// its owner by the logs.
 pub fn worlds_with_one_thread_are_quiet()
     ensures words { (w : World) (objects : List PlainObject) (t : ℕ) → IsLeftAlone w t → Fits w objects
         → Quiet (word_of_one (w.known t).requesting t) w.words }

@@ -52,6 +52,9 @@ fn entered(heap: &Heap, pass: &mut Pass, why: &Purpose, object: u32, path: Path,
 
 /// Stores the thread's next hold word of the object at its lowest free place, and logs the Enter with this path, which
 /// it answers. Where the thread's waiting word says that it is entering an object, the word becomes Ready before.
+///
+/// In OpenJDK 8: `TemplateTable::monitorenter` (`templateTable_x86_64.cpp`), which stores `_obj` before the lock is
+/// taken.
 pub fn hold(heap: &Heap, pass: &mut Pass, why: &Purpose, object: u32, path: Path) -> Path
     requires heap { IsOf heap.now pass.old }
     requires object { object < length heap.now.heap.shape.objects }
@@ -150,6 +153,8 @@ fn enter_by(
 /// thread's own record was there, and has one more above it. Either way the hold word is stored and the Enter logged.
 /// `Pending(Raced { expected, found })` says that the exchange expected the neutral mark and found another: the mark is
 /// left as it was, no hold was taken and nothing logged, and only the place's displaced word was stored.
+///
+/// In OpenJDK 8: `ObjectSynchronizer::slow_enter` (`synchronizer.cpp`), its first two branches.
 pub fn stack_enter(
     heap: &Heap,
     pass: &mut Pass,

@@ -17,6 +17,8 @@ use plain_monitor::Entry;
 
 /// Raises the object's stamp to that of the thread's next entry, where the thread has one hold on the object, of which
 /// it has `depth`. So the next owner's Enter is stamped above it.
+///
+/// In OpenJDK 8: nothing.
 pub fn raise(heap: &Heap, pass: &mut Pass, why: &Purpose, object: u32, depth: u32)
     requires heap { IsOf heap.now pass.old }
     requires depth { depth ≡ hold_count object pass.old.known.holds }
@@ -32,6 +34,8 @@ pub fn raise(heap: &Heap, pass: &mut Pass, why: &Purpose, object: u32, depth: u3
 }
 
 /// Clears the hold word of the object at this place of the thread, and logs the Exit.
+///
+/// In OpenJDK 8: `InterpreterMacroAssembler::unlock_object` (`interp_masm_x86_64.cpp`), where it clears `_obj`.
 pub fn leave(heap: &Heap, pass: &mut Pass, why: &Purpose, object: u32, place: u32)
     requires heap { IsOf heap.now pass.old }
     requires due { IsDueOn heap.now pass.old why.now.task (leave_at why.now pass.old.known.thread object place) }
@@ -47,6 +51,8 @@ pub fn leave(heap: &Heap, pass: &mut Pass, why: &Purpose, object: u32, place: u3
 
 /// Clears the hold word at this place of the thread, behind the step that logged its Exit: nothing is unfinished any
 /// more.
+///
+/// In OpenJDK 8: as `leave`.
 pub fn clear(heap: &Heap, pass: &mut Pass, why: &Purpose, place: u32)
     requires heap { IsOf heap.now pass.old }
     requires due { IsDueOn heap.now pass.old why.now.task (clear_at why.now pass.old.known.thread place) }
@@ -148,6 +154,8 @@ fn leave_record(heap: &Heap, pass: &mut Pass, why: &Purpose, object: u32, place:
 /// `Not(Inflating)` that another thread is inflating its lock. `Not(Raced { expected, found })` says that the exchange
 /// expected the mark that named the record and found another. In these three nothing is let go and nothing logged; only
 /// the object's stamp was raised, where this is the thread's last hold.
+///
+/// In OpenJDK 8: `ObjectSynchronizer::fast_exit` (`synchronizer.cpp`).
 pub fn stack_exit(heap: &Heap, pass: &mut Pass, why: &Purpose, object: u32) -> StackOut
     requires heap { IsOf heap.now pass.old }
     requires object { object < length heap.now.heap.shape.objects }

@@ -82,8 +82,12 @@ impl Found {
         }
     }
 
-    /// The choices that lead from the first key to the key with this number, the last one first; none where there is no
-    /// such key.
+    /// The choices that lead from the first key to the key with this number, the last one first; none where there is
+    /// no such key.
+    ///
+    /// # Errors
+    ///
+    /// `NoMemory` where an allocation fails.
     pub fn way_to(&self, alloc: Global, number: usize) -> Result<Vec<u32>, NoMemory>
         ensures { IfOk result (λ choices. (next : List ℕ → ℕ → Option (List ℕ)) (many : ℕ) (first : List ℕ) (most : ℕ)
             → IsUnderWay next many first most self.now → IsWayTo next many first self.now.keys number choices.items) }

@@ -27,9 +27,9 @@ pub fn a_resume_can_race()
         (Pending (Raced 0 (running_too (read_safe 0) 1))) }
 {}
 
-/// Small heaps come to a world in which an object is inflated and a lock record of thread 0 owns its monitor, for which thread 1 is pending
-/// (`owned`); to worlds in which thread 0 waits, alone or beside thread 1, which owns the object (`waits`, `beside`); to a halted one
-/// (`halted`); and to one in which thread 1 is revoking a bias, behind its first store (`revoking`).
+/// Small heaps come to these worlds. A lock record of thread 0 owns the monitor of an inflated object, for which
+/// thread 1 is pending (`owned`). Thread 0 waits, alone or beside thread 1, which owns the object (`waits`,
+/// `beside`). The run is halted (`halted`). Thread 1 is revoking a bias, after its first store (`revoking`).
 pub fn heaps_come_to_such_worlds()
     ensures owned { Comes rivals (world_of rivals contends)
         × (monitor_in ((world_of rivals contends).words (Mark 0)) ≡ Some 0)

@@ -22,8 +22,11 @@ use std::alloc::{AllocError, Global};
 ///
 /// Classes, objects and threads keep their order, names and locals. A `Sync` becomes an enter, its block and an exit; an `If` its test, its
 /// `else`, a jump past its block, and its block; a `While` its test, a jump past the loop, its block, and a jump to the test. Each
-/// instruction that a jump or a test may go to has one label, `L` and its number in the thread, from 1; labels go by rising numbers. No other
-/// error comes than `NoMemory`, where memory doesn't suffice.
+/// instruction that a jump or a test may go to has one label, `L` and its number in the thread, from 1; labels go by rising numbers.
+///
+/// # Errors
+///
+/// `NoMemory` where an allocation fails.
 pub fn compile(alloc: Global, source: &SyncProgram) -> Result<Program, NoMemory>
     ensures code { IfOk result (λ p. p ≡ compiled decimal (sync_text source.now)) }
     ensures same { IfOk result (λ p. DoesTheSame (sync_text source.now) p) }

@@ -39,6 +39,10 @@ fn statement_size(statement: &Statement) -> usize
 }
 
 /// Writes the instructions of the block after these.
+///
+/// # Errors
+///
+/// `AllocError` where an allocation fails.
 #[cycle(emit)]
 pub fn emit_block(code: &mut Vec<Code>, block: &Block) -> Result<(), AllocError>
     requires fits { length code.old.items + size (all_of block.now.statements.items) ≤ most_code }

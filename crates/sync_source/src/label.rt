@@ -9,7 +9,12 @@ use itoa::Buffer;
 use object_program::{Code, LabelDef, Name};
 use std::alloc::{AllocError, Global};
 
-/// A label for each number that an instruction goes to, by rising number.
+/// A label for each number that an instruction goes to, by rising number. It goes over the code once, and marks the
+/// numbers.
+///
+/// # Errors
+///
+/// `AllocError` where an allocation fails.
 pub fn labels(alloc: Global, code: &[Code]) -> Result<Vec<LabelDef>, AllocError>
     requires { length code.now ≤ most_code }
     ensures { IfOk result (λ all. all.items ≡ map (label decimal) (targets code.now)) }

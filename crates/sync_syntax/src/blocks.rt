@@ -25,7 +25,11 @@ pub fn no_blocks(alloc: Global) -> Blocks
     }
 }
 
-/// With one more instruction. Where memory is wanting, `NoMemory`.
+/// With one more instruction.
+///
+/// # Errors
+///
+/// `NoMemory` where an allocation fails.
 pub fn with_instruction(mut blocks: Blocks, code: Code) -> Result<Blocks, NoMemory>
     ensures { IfOk result (λ b. blocks_of b ≡ with_statement (blocks_of blocks) (Plain code Nothing)) }
 {
@@ -35,7 +39,11 @@ pub fn with_instruction(mut blocks: Blocks, code: Code) -> Result<Blocks, NoMemo
     }
 }
 
-/// With one more block. Where memory is wanting, `NoMemory`.
+/// With one more block.
+///
+/// # Errors
+///
+/// `NoMemory` where an allocation fails.
 pub fn with_block(alloc: Global, blocks: Blocks, opener: Opener) -> Result<Blocks, NoMemory>
     ensures { IfOk result (λ b. blocks_of b ≡ with_block (blocks_of blocks) (opener_of opener)) }
 {
@@ -52,7 +60,11 @@ pub fn with_block(alloc: Global, blocks: Blocks, opener: Opener) -> Result<Block
     }
 }
 
-/// Behind a `done`. Where memory is wanting, `NoMemory`.
+/// Closes the innermost block, by its `done`.
+///
+/// # Errors
+///
+/// `NoMemory` where an allocation fails.
 pub fn without_block(alloc: Global, blocks: Blocks) -> Result<Blocks, NoMemory>
     ensures { IfOk result (λ b. blocks_of b ≡ without_block (blocks_of blocks).opened (blocks_of blocks).statements) }
 {
@@ -101,7 +113,11 @@ fn closed(alloc: Global, opener: Opener, statements: Vec<Statement>) -> Statemen
     }
 }
 
-/// Behind an `else`. Where memory is wanting, `NoMemory`.
+/// Ends the first part of the innermost `if`, by its `else`.
+///
+/// # Errors
+///
+/// `NoMemory` where an allocation fails.
 pub fn with_else(alloc: Global, blocks: Blocks) -> Result<Blocks, NoMemory>
     requires { takes_else (blocks_of blocks).opened ≡ true }
     ensures { IfOk result (λ b. blocks_of b ≡ with_else (blocks_of blocks).opened (blocks_of blocks).statements) }
@@ -153,7 +169,7 @@ pub fn changes_held(blocks: &Blocks, code: &Code) -> bool
     some_changes(blocks.opened.as_slice(), code)
 }
 
-/// The same of these blocks.
+/// Whether it gives a value to a local that an open `sync` among these blocks names.
 fn some_changes(opened: &[OpenBlock], code: &Code) -> bool
     ensures { result ≡ list_any (λ b. changes_local code.now (opener_of b.opener)) opened.now }
 {

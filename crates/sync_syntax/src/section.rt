@@ -106,8 +106,12 @@ fn blocks_behind(
     }
 }
 
-/// Behind a line with this word and these operands, which has no cause, with these lines behind it. Where memory is
-/// wanting, `NoMemory`.
+/// Makes of the state what a line with this word and these operands makes of it. The line has no cause, and these lines
+/// come after it.
+///
+/// # Errors
+///
+/// `NoMemory` where an allocation fails.
 pub fn behind_word(
     alloc: Global,
     reader: SyncReader,
@@ -127,7 +131,7 @@ pub fn behind_word(
     }
 }
 
-/// The same of a line of the plain language.
+/// Makes of the state what such a line of the plain language makes of it.
 fn behind_keyword(
     alloc: Global,
     reader: SyncReader,
@@ -152,7 +156,7 @@ fn behind_keyword(
     }
 }
 
-/// Behind a declaration, or the line that opens a section.
+/// Adds a declaration, or opens a section.
 fn behind_outside(
     alloc: Global,
     reader: SyncReader,
@@ -207,7 +211,7 @@ fn behind_declared(
     }
 }
 
-/// Behind the line of a local.
+/// Adds a local to the section.
 fn behind_local(reader: SyncReader, operands: &Words<'_>) -> Result<SyncReader, NoMemory>
     requires section { IsSome reader.plain.section }
     requires name { is_name (operand operands.now 0) ≡ true }
@@ -234,7 +238,7 @@ fn behind_local(reader: SyncReader, operands: &Words<'_>) -> Result<SyncReader, 
     })
 }
 
-/// Behind the line of an instruction other than `end`.
+/// Adds an instruction other than `end`.
 fn behind_code(
     reader: SyncReader,
     keyword: Keyword,
@@ -270,7 +274,7 @@ fn behind_code(
     })
 }
 
-/// Behind a block's line.
+/// Opens, turns over or closes a block, as its line says.
 fn behind_block(
     alloc: Global,
     reader: SyncReader,
@@ -306,7 +310,7 @@ fn behind_block(
     })
 }
 
-/// Behind an `end`.
+/// Closes the section, by its `end`.
 fn behind_end(alloc: Global, reader: SyncReader) -> Result<SyncReader, NoMemory>
     requires section { IsSome reader.plain.section }
     ensures { IfOk result (λ r. (later ws : List (List ℕ)) → sync_before r

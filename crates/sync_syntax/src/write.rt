@@ -22,8 +22,12 @@ use program_syntax::{
 use std::alloc::Global;
 use sync_source::{Block, Statement, SyncProgram, SyncThread, Test};
 
-/// The canonical text of the program with blocks. Where that text has at most 1,048,576 bytes, it is read as this very
-/// program. Where memory is wanting, `NoMemory`.
+/// The canonical text of the program with blocks. Where that text has at most 1,048,576 bytes, it is read as this
+/// very program.
+///
+/// # Errors
+///
+/// `NoMemory` where an allocation fails.
 pub fn write_sync(alloc: Global, program: &SyncProgram) -> Result<Vec<u8>, NoMemory>
     ensures text { IfOk result (λ text. text.items ≡ canonical_sync (sync_text program.now)) }
     ensures read { length (canonical_sync (sync_text program.now)) ≤ most_bytes

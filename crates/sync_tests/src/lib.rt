@@ -1,6 +1,5 @@
-//! Tests of programs with blocks: a program that counts to two under a monitor, and one that makes an object in each pass of a loop, their code,
-//! and what they do with just enough fuel and with one less; texts, and the program or the refusal that each has; what is written of programs.
-//! They stand in a crate of their own, so that `sync_source` and `sync_syntax` aren't proved once more with them.
+//! Tests of programs with blocks (`docs/ARCHITECTURE.md`, "Tests"). The code is of one that counts to two under a
+//! monitor and of one that makes an object in each pass of a loop, with just enough fuel and with one less.
 #![tactic(auto)]
 
 #[cfg(test)]

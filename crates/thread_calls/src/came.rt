@@ -16,7 +16,7 @@ pub enum Went {
     Pending,
 }
 
-/// The same as this answer, with its cause written where it is pending.
+/// Tells what the answer came to, and writes its cause where it is pending.
 pub(crate) fn tell(turn: Turn<bool>, cause: &mut Why) -> Went
     ensures { turn_of result cause.new ≡ turn }
 {

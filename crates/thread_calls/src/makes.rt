@@ -172,7 +172,7 @@ fn dump(heap: &Heap, pass: &mut Pass, number: u32) -> Turn<Entry>
 }
 
 /// Makes the call, which may begin and isn't refused, and is none of those that have a place of their own where calls are made. Calls that
-/// take a moment get the clock's time now, by `tick`.
+/// need a moment get the clock's time now, in milliseconds, by `tick`.
 pub(crate) fn make<C: Clock>(
     heap: &Heap,
     clock: &C,

@@ -19,11 +19,15 @@ use thread_frame::{Frame, Walked};
 
 /// Executes the next instruction of the thread, or makes its next entry where it waits or unwinds.
 ///
-/// `Done` says that an instruction was done, `On` that the thread went on without one: it ends for want of fuel, it left a hold as it
-/// unwinds, or it has ended. `Pending` says that the call that was made is pending, for the cause that is written then, and only then: what
-/// it asks stays what the thread asks next, but for a wait that let go, which then goes on to wait. A `new` makes the thread's next object
-/// on the heap, to which its local then refers; it is never pending. Calls that take a moment get the clock's time now, by `tick`; where
-/// that is 0, the clock is not looked at.
+/// `Done` says that an instruction was done, `On` that the thread went on without one: it ends for want of fuel, it
+/// left a hold as it unwinds, or it has ended. `Pending` says that the call isn't done, for the cause that is written
+/// then, and only then: call `advance` again. Only a `wait` that released the monitor has moved on, and the next
+/// `advance` continues it. A `new` makes the thread's next object on the heap, to which its local then refers; it is
+/// never pending.
+///
+/// `tick` is how many milliseconds one count of the clock stands for, and `fuel` how many instructions the thread
+/// could execute at first. A call that needs a moment gets the clock's time then, by `tick`; where that is 0, the
+/// clock is not looked at.
 pub fn advance<C: Clock>(
     program: &Program,
     heap: &Heap,

@@ -73,7 +73,7 @@ impl Frame {
         look(program, code_of(program, thread), &sight)
     }
 
-    // Behind the instruction, which is paid for unless it calls.
+    // Goes on past the instruction, and pays for it unless it calls.
     #[inline]
     fn make(&mut self, next: Next) -> Walked
         requires local { self.old.mode ≡ None }

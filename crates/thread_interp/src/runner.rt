@@ -32,8 +32,8 @@ impl Model for Runner {
 }
 
 impl Runner {
-    /// The runner of a pass on which no call was made yet, for a thread that may execute so many instructions: at most 200,000. The
-    /// pass's log has room for what so many may log. It takes no memory.
+    /// Makes the runner of a pass on which no call was made yet, for a thread that may execute `fuel` instructions,
+    /// at most 200,000. The pass's log has room for what so many may log. It takes no memory.
     pub fn new(pass: Pass, fuel: u32) -> Runner
         ensures { result ≡ record { pass = pass; frame = first_frame fuel; fuel = fuel } }
     {
@@ -41,14 +41,13 @@ impl Runner {
         Runner { pass, frame, fuel }
     }
 
-    /// A turn of the thread: it goes on by at most `quantum` instructions.
+    /// Gives the thread a turn: it goes on by at most `quantum` instructions.
     ///
     /// The gate is visited first, and the thread set running, unless its request for a safepoint stands. Before each instruction, and each
     /// exit of a thread that unwinds, it polls where it runs: as often as it does instructions at least, or once less where its request
     /// stood. The turn ends behind so many instructions, at the thread's end, or where a call that it began is pending, be that a poll or
-    /// the resume; behind it the thread is stopped, or its request stands. It makes one step of the heap at least. Each call that takes a
-    /// moment gets the clock's time then, by `tick`: the time after some count of ticks, from 1 on. Where `tick` is 0, the clock is not
-    /// looked at.
+    /// the resume; behind it the thread is stopped, or its request stands. It makes one step of the heap at least. Each call that needs a
+    /// moment gets `1 + tick * count`, in milliseconds, for some count of the clock. Where `tick` is 0, the clock is not looked at.
     pub fn turn<C: Clock, G: Gate>(
         &mut self,
         program: &Program,
@@ -122,7 +121,7 @@ impl Runner {
         self.pass.checking()
     }
 
-    /// The pass.
+    /// Gives the pass back.
     pub fn into_pass(self) -> Pass
         ensures { result ≡ self.pass }
     {

@@ -123,7 +123,7 @@ fn set_still(program: &Program, heap: &Heap, fuel: u32, pass: &mut Pass, frame: 
     stop(heap, pass);
 }
 
-/// A turn of the thread.
+/// Gives the thread a turn of at most `quantum` instructions, as `Runner::turn` does behind its gate.
 pub fn turn<C: Clock>(
     program: &Program,
     heap: &Heap,
@@ -157,7 +157,7 @@ pub fn turn<C: Clock>(
     moved
 }
 
-/// A check of the thread.
+/// Looks at a safepoint whether the run is stuck, as `Runner::check` does.
 pub fn check(
     program: &Program,
     heap: &Heap,

@@ -39,8 +39,11 @@ fn unload<T>(mut closed: Closed<T, Global>, mut things: Vec<T>) -> Vec<T>
 }
 
 impl<T, P: TurnRule<T>> Pool<T, P> {
-    /// A pool in which all these things, at most 32, are ready, thing i in slot i; and the one seat, which has all parts. `Err` where memory
-    /// is wanting: the things come back as they were.
+    /// Makes a pool in which all these things, at most 32, are ready, thing i in slot i; and the one seat, which has all parts.
+    ///
+    /// # Errors
+    ///
+    /// The things, as they were, where an allocation fails.
     pub fn new(alloc: Global, things: Vec<T>) -> Result<(Pool<T, P>, PoolSeat<T>), Vec<T>>
         requires few { vec_len things < 33 }
         requires are { (i : ℕ) (y : T) → slice_get things.items i ≡ Some y → P.may_be Ready i y }

@@ -25,19 +25,22 @@ pub fn live_turns_do_their_instructions()
         → unspent r.frame ≡ unspent q.frame + n * quantum }
 {}
 
-/// Let a runner have a turn from a world on to which a heap in the limits comes, in which every other thread has stopped and none of them asks
-/// for a safepoint; and let none of them make a step meanwhile. Such a turn is blocked for an exchange, a poll, a safepoint or an object in
-/// the middle of an inflation never: it is blocked where the plain monitors bar the thread's call, an enter of an object that another thread
-/// owns, or a wait that wasn't notified, or whose object another thread owns; or, at its first step, where the run is halted.
+/// A runner has a turn from a world on to which a heap in the limits comes. Every other thread has stopped, none of
+/// them asks for a safepoint, and none makes a step meanwhile.
+///
+/// Such a turn is never blocked for an exchange, a poll, a safepoint or an object in the middle of an inflation. It
+/// is blocked at its first step where the run is halted, and else only where the plain monitors bar the thread's
+/// call: an enter of an object that another thread owns, or a wait that wasn't notified, or whose object another
+/// thread owns.
 pub fn a_turn_left_alone_is_blocked_by_monitors_or_the_halt()
     ensures { (h : HeapSeen) (quantum t : ℕ) (w v : World) (r q : RunnerSeen) (m : Moved) (why : Why)
         → IsInLimits h.heap.shape → Comes h.heap w → OthersStand w t
         → TurnAlone h quantum t w r v q m → m.state ≡ Blocked why → IsBarred w t why }
 {}
 
-/// So a thread of which all others are left standing ends, or is barred by the plain monitors or the halt, within a number of turns that
-/// follows from its fuel and the quantum: behind so many live turns that one more would need more instructions than it has fuel left
-/// for, the next turn is its last, or is blocked so.
+/// A thread of which all others are left standing ends, or is barred by the plain monitors or the halt, within a
+/// number of turns that follows from its fuel and the quantum. After so many live turns that one more would need more
+/// instructions than it has fuel left for, the next turn is its last, or is blocked so.
 pub fn a_thread_left_alone_ends_or_is_barred()
     ensures { (h : HeapSeen) (quantum t n : ℕ) (w x v : World) (r q z : RunnerSeen) (m : Moved)
         → IsInLimits h.heap.shape → Comes h.heap w → OthersStand w t

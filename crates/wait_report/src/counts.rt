@@ -23,9 +23,13 @@ pub struct ObjectCount {
     pub handovers: u64,
 }
 
-/// The counts of each object that a thread entered, by rising number. The logs are legal for the record's program and fuel. It goes through
-/// the entries once, with a table of the objects up to the greatest that they take: so what it keeps goes by the logs, and not by how many objects
-/// there may be.
+/// The counts of each object that a thread entered, by rising number. The logs are legal for the record's program and
+/// fuel. It goes through the entries once, with a table of the objects up to the greatest that they take: so what it
+/// keeps goes by the logs, and not by how many objects there may be.
+///
+/// # Errors
+///
+/// `NoMemory` where an allocation fails.
 pub fn count_objects(alloc: Global, run: &RunRecord) -> Result<List<ObjectCount>, NoMemory>
     requires legal { IsLegal run.now.program run.now.fuel run.now.logs }
     ensures { IfOk result (λ counts. counts ≡ counts_of run.now.program (order run.now.logs)) }

@@ -22,7 +22,12 @@ pub struct Cycle {
     pub links: List<Link>,
 }
 
-/// All cycles of a machine of the program, each once, by rising first thread. The list is empty exactly where there is none.
+/// All cycles of a machine of the program, each once, by rising first thread. The list is empty exactly where there
+/// is none.
+///
+/// # Errors
+///
+/// `NoMemory` where an allocation fails.
 pub fn find_cycles(
     alloc: Global,
     program: &Program,

@@ -24,9 +24,12 @@ pub fn no_notify_without_its_store()
         → waits_on (w.words (Waiting t)) o ≡ true → ⊥ }
 {}
 
-/// A notify that publishes the log, which logs that it wakes a thread that waits, and stores nothing into that thread's waiting word: its
-/// step leads from no valid world to a valid one (`step`), so that its tree keeps no world valid in which a running thread makes it
-/// (`refused`); and a heap comes to such a world, in which thread 0 waits and thread 1 owns the object (`there`).
+/// A notify that logs that it wakes a waiting thread, by publishing the log, and stores nothing into that thread's
+/// waiting word.
+///
+/// Its step leads from no valid world to a valid one (`step`). So its tree keeps no world valid in which a running
+/// thread makes it (`refused`). And a heap comes to such a world, in which thread 0 waits and thread 1 owns the
+/// object (`there`).
 pub fn no_notify_that_stores_nothing()
     ensures step { (w : World) (o t u n : ℕ) (e : Purpose) → Valid w → (w.known t).running ≡ true
         → waits_on (w.words (Waiting u)) o ≡ true

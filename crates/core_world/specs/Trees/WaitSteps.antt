@@ -168,7 +168,7 @@ monitor_notify_steps e k n o = do
   words ← look_steps e n
   notify_first (by_age (waiters o 0 words)) e k o
 
--- Behind as many as are notified already, each waiter is notified, the oldest first; the last of these steps logs NotifyAll with their number.
+-- Each waiter that is left is notified, the oldest first. The last of these steps logs NotifyAll with the number of all.
 abbrev pub notify_each : List (ℕ × ℕ) → Purpose → ℕ → ℕ → Todo (Unit {0})
 notify_each [] e o notified = done tt
 notify_each (p ∷ []) e o notified = do

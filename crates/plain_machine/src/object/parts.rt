@@ -38,6 +38,10 @@ impl Object {
     }
 
     /// Puts a thread with its count last among those who wait on it.
+    ///
+    /// # Errors
+    ///
+    /// `NoMemory` where an allocation fails.
     pub fn add_waiting(&mut self, t: u32, count: u32) -> Result<(), NoMemory>
         ensures { OnOk result (self.new
             ≡ record self.old { monitor = record self.old.monitor { waits = self.old.monitor.waits ++ (t, count) ∷ [] } }) }
@@ -46,6 +50,10 @@ impl Object {
     }
 
     /// Puts a thread with its count last among those who were notified.
+    ///
+    /// # Errors
+    ///
+    /// `NoMemory` where an allocation fails.
     pub fn add_called(&mut self, t: u32, count: u32) -> Result<(), NoMemory>
         ensures { OnOk result (self.new
             ≡ record self.old { monitor = record self.old.monitor { called = self.old.monitor.called ++ (t, count) ∷ [] } }) }
@@ -54,6 +62,10 @@ impl Object {
     }
 
     /// One more slot, with this value.
+    ///
+    /// # Errors
+    ///
+    /// `NoMemory` where an allocation fails.
     pub fn add_slot(&mut self, value: Value) -> Result<(), NoMemory>
         ensures { OnOk result (self.new ≡ record self.old { slots = self.old.slots ++ value ∷ [] }) }
     {

@@ -39,6 +39,10 @@ impl Thread {
     }
 
     /// One more local, with this value.
+    ///
+    /// # Errors
+    ///
+    /// `NoMemory` where an allocation fails.
     pub fn add_local(&mut self, value: Value) -> Result<(), NoMemory>
         ensures { OnOk result (self.new ≡ record self.old { locals = self.old.locals ++ value ∷ [] }) }
     {

@@ -44,7 +44,11 @@ impl Monitor {
         self.count = count;
     }
 
-    /// Puts a thread with its count last among those who wait. `NoMemory` leaves the monitor as it was.
+    /// Puts a thread with its count last among those who wait.
+    ///
+    /// # Errors
+    ///
+    /// `NoMemory` where an allocation fails. Then the monitor is as it was.
     pub fn add_waiting(&mut self, t: u32, count: u32) -> Result<(), NoMemory>
         ensures plain { OnOk result (self.new.plain
             ≡ record self.old.plain { waits = self.old.plain.waits ++ (t, count) ∷ [] }) }
@@ -57,7 +61,11 @@ impl Monitor {
         Ok(())
     }
 
-    /// Puts a thread with its count last among those who were notified. `NoMemory` leaves the monitor as it was.
+    /// Puts a thread with its count last among those who were notified.
+    ///
+    /// # Errors
+    ///
+    /// `NoMemory` where an allocation fails. Then the monitor is as it was.
     pub fn add_called(&mut self, t: u32, count: u32) -> Result<(), NoMemory>
         ensures plain { OnOk result (self.new.plain
             ≡ record self.old.plain { called = self.old.plain.called ++ (t, count) ∷ [] }) }
