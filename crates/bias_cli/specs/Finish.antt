@@ -20,7 +20,8 @@ use Rattle.bias_check.specs.declared.answer.Checked.{Checked}
 use Rattle.bias_check.specs.declared.answer.CheckFault.{CheckFault}
 use Rattle.bias_check.specs.Parts.{has_journal, program_part, journal_part}
 use Rattle.bias_cli.specs.Seen.{SourceSeen, SinkSeen}
-use Rattle.bias_cli.specs.Input.{most_of_program, most_of_journal, Took, TookSome}
+use Rattle.program_syntax.specs.Text.{most_bytes}
+use Rattle.bias_cli.specs.Input.{most_of_journal, Took, TookSome}
 use Rattle.bias_cli.specs.Output.{Wrote, WroteFront}
 use Rattle.bias_cli.specs.Asked.{settings_of}
 use Rattle.bias_cli.specs.Report.{IsReportWhere}
@@ -42,12 +43,12 @@ use Rattle.bias_cli.specs.declared.finish.Finish.{Finish}
 -- how many bytes the text may have that the arguments ask to read, where they ask for one
 abbrev pub most_asked : Option Command → Option ℕ
 most_asked None = None
-most_asked (Some (Run o)) = Some most_of_program
-most_asked (Some (Sync o)) = Some most_of_program
-most_asked (Some Compile) = Some most_of_program
+most_asked (Some (Run o)) = Some most_bytes
+most_asked (Some (Sync o)) = Some most_bytes
+most_asked (Some Compile) = Some most_bytes
 most_asked (Some (Check fuel start)) = Some most_of_journal
 most_asked (Some (Make items)) = None
-most_asked (Some (Outcomes states witness)) = Some most_of_program
+most_asked (Some (Outcomes states witness)) = Some most_bytes
 
 -- where no text is asked for, the source is as it was; else at most one byte more is taken of it than the text may have
 abbrev pub TakesAtMost : {S : Type 0} → of_source.Ghosts S → Option ℕ → S → S → Type 0

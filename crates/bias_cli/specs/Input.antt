@@ -1,10 +1,7 @@
 -- What reading a text takes from a source.
 use Rattle.std.specs.Prelude.{◌≡◌, ℕ, ◌+◌, ◌≤◌, List, take, drop, Option, Some}
 
--- the most bytes that a program's text may have, and a program with its journal
-abbrev pub most_of_program : ℕ
-most_of_program = 1048576
-
+-- the most bytes that a program with its journal may have
 abbrev pub most_of_journal : ℕ
 most_of_journal = 67108864
 

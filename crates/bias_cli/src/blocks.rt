@@ -7,16 +7,16 @@ ghost use Rattle.sync_source.specs.SourceView.{sync_text};
 ghost use Rattle.sync_syntax.specs.Refusal.{sync_program_of};
 ghost use Rattle.sync_syntax.specs.declared.error.SyncWhy.TheVariants.{Plain};
 ghost use Rattle.bias_cli.specs.inner.Asked.{IsRunnable};
-ghost use Rattle.bias_cli.specs.Input.{most_of_program};
+ghost use Rattle.program_syntax.specs.Text.{most_bytes};
 ghost use Rattle.bias_cli.specs.Seen.{source_seen, sink_seen};
 ghost use Rattle.bias_cli.specs.Finish.{Meets, RunsBlocks, no_sync_program, sync_due, IsGivenUp, IsFinish, TakesAtMost};
 
 use crate::finish::{Finish, give_up, tell};
-use crate::input::{MOST_OF_PROGRAM, ReadError, read_text};
+use crate::input::{ReadError, read_text};
 use crate::refusal::sync_refusal_line;
 use crate::run::run_and_write;
 use plain_monitor::NoMemory;
-use program_syntax::Why;
+use program_syntax::{BYTES, Why};
 use run_io::{Clock, Gate, Sink, Source};
 use run_words::Options;
 use std::alloc::Global;
@@ -45,9 +45,9 @@ pub(crate) fn run_blocks_of<
     ensures over { IsGivenUp sink.old sink.new result ⊎ IsFinish (Some (Sync options.now))
         (source_seen S.Source source.old) (source_seen S.Source source.new)
         (sink_seen K.Sink sink.old) (sink_seen K.Sink sink.new) result }
-    ensures taken { TakesAtMost S.Source (Some most_of_program) source.old source.new }
+    ensures taken { TakesAtMost S.Source (Some most_bytes) source.old source.new }
 {
-    match read_text(alloc, source, MOST_OF_PROGRAM) {
+    match read_text(alloc, source, BYTES) {
         Ok(bytes) => run_blocks_in(rt, alloc, options, bytes.as_slice(), sink, clock, gate),
         Err(ReadError::Fault) => tell(sink, 5, b"read fault\n"),
         Err(ReadError::NoMemory) => give_up(),

@@ -6,15 +6,15 @@ ghost use Rattle.run_words.specs.declared.options.Command.TheVariants.{Compile};
 ghost use Rattle.sync_source.specs.SourceView.{sync_text};
 ghost use Rattle.sync_source.specs.Compiled.{compiled};
 ghost use Rattle.sync_syntax.specs.Refusal.{sync_program_of};
-ghost use Rattle.bias_cli.specs.Input.{most_of_program};
+ghost use Rattle.program_syntax.specs.Text.{most_bytes};
 ghost use Rattle.bias_cli.specs.Seen.{source_seen, sink_seen};
 ghost use Rattle.bias_cli.specs.Finish.{Meets, compile_due, IsGivenUp, IsFinish, TakesAtMost};
 
 use crate::blocks::refuse;
 use crate::finish::{Finish, give_up, tell};
-use crate::input::{MOST_OF_PROGRAM, ReadError, read_text};
+use crate::input::{ReadError, read_text};
 use plain_monitor::NoMemory;
-use program_syntax::write_program;
+use program_syntax::{BYTES, write_program};
 use run_io::{Sink, Source};
 use std::alloc::Global;
 use sync_source::{SyncProgram, compile};
@@ -29,9 +29,9 @@ pub(crate) fn compile_source<S: Source, K: Sink>(
     ensures over { IsGivenUp sink.old sink.new result ⊎ IsFinish (Some Compile)
         (source_seen S.Source source.old) (source_seen S.Source source.new)
         (sink_seen K.Sink sink.old) (sink_seen K.Sink sink.new) result }
-    ensures taken { TakesAtMost S.Source (Some most_of_program) source.old source.new }
+    ensures taken { TakesAtMost S.Source (Some most_bytes) source.old source.new }
 {
-    match read_text(alloc, source, MOST_OF_PROGRAM) {
+    match read_text(alloc, source, BYTES) {
         Ok(bytes) => compile_text(alloc, bytes.as_slice(), sink),
         Err(ReadError::Fault) => tell(sink, 5, b"read fault\n"),
         Err(ReadError::NoMemory) => give_up(),

@@ -9,9 +9,6 @@ ghost use Rattle.bias_cli.specs.inner.Input.{TookMore};
 use run_io::Source;
 use std::alloc::Global;
 
-/// The most bytes that a program's text may have.
-pub(crate) const MOST_OF_PROGRAM: usize = 1_048_576;
-
 /// The most bytes that a program with its journal may have.
 pub(crate) const MOST_OF_JOURNAL: usize = 67_108_864;
 

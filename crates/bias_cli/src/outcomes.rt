@@ -6,7 +6,7 @@ ghost use Rattle.object_program.specs.Valid.{IsProgram};
 ghost use Rattle.outcome_search.specs.EveryEnd.{IsEveryEnd};
 ghost use Rattle.program_syntax.specs.Refusal.{program_of};
 ghost use Rattle.run_words.specs.declared.options.Command.TheVariants as asked;
-ghost use Rattle.bias_cli.specs.Input.{most_of_program};
+ghost use Rattle.program_syntax.specs.Text.{most_bytes};
 ghost use Rattle.bias_check.specs.Parts.{marker};
 ghost use Rattle.outcome_search.specs.Witness.{IsWitness};
 ghost use Rattle.bias_cli.specs.inner.Ends.{Adds, TellsEnds};
@@ -15,13 +15,13 @@ ghost use Rattle.bias_cli.specs.Seen.{source_seen, sink_seen};
 ghost use Rattle.bias_cli.specs.Finish.{Finds, IsFinish, IsGivenUp, Meets, TakesAtMost, finds_due};
 
 use crate::finish::{Finish, give_up, tell};
-use crate::input::{MOST_OF_PROGRAM, ReadError, read_text};
+use crate::input::{ReadError, read_text};
 use crate::refusal::refusal_line;
 use lock_journal::{Line, entry_line};
 use object_program::Program;
 use outcome_search::{End, OutcomeError, Outcomes, find_outcomes, find_witness};
 use plain_monitor::{Logged, NoMemory};
-use program_syntax::{Why, read_program};
+use program_syntax::{BYTES, Why, read_program};
 use run_io::{Sink, Source};
 use state_search::Found;
 use std::alloc::Global;
@@ -38,9 +38,9 @@ pub(crate) fn find_source<S: Source, K: Sink>(
     ensures over { IsGivenUp sink.old sink.new result ⊎ IsFinish (Some (asked.Outcomes states witness))
         (source_seen S.Source source.old) (source_seen S.Source source.new)
         (sink_seen K.Sink sink.old) (sink_seen K.Sink sink.new) result }
-    ensures taken { TakesAtMost S.Source (Some most_of_program) source.old source.new }
+    ensures taken { TakesAtMost S.Source (Some most_bytes) source.old source.new }
 {
-    match read_text(alloc, source, MOST_OF_PROGRAM) {
+    match read_text(alloc, source, BYTES) {
         Ok(bytes) => find_text(alloc, states, witness, bytes.as_slice(), sink),
         Err(ReadError::Fault) => tell(sink, 5, b"read fault\n"),
         Err(ReadError::NoMemory) => give_up(),

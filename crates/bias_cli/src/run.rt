@@ -8,7 +8,7 @@ ghost use Rattle.lock_journal.specs.RunText.{text_of_lines};
 ghost use Rattle.run_words.specs.declared.options.Command.TheVariants.{Run};
 ghost use Rattle.bias_cli.specs.Asked.{settings_of};
 ghost use Rattle.bias_cli.specs.inner.Asked.{IsRunnable};
-ghost use Rattle.bias_cli.specs.Input.{most_of_program};
+ghost use Rattle.program_syntax.specs.Text.{most_bytes};
 ghost use Rattle.bias_cli.specs.Seen.{source_seen, sink_seen};
 ghost use Rattle.bias_cli.specs.Finish.{most_asked, Meets, Runs, run_due, IsGivenUp, IsFinish, IsWritten, TakesAtMost};
 ghost use Rattle.plain_machine.specs.Legal.{IsLegal};
@@ -18,7 +18,7 @@ use crate::blocks::run_blocks_of;
 use crate::check::check_source;
 use crate::compile::compile_source;
 use crate::finish::{Finish, WRITE_FAILED, give_up, tell};
-use crate::input::{MOST_OF_PROGRAM, ReadError, read_text};
+use crate::input::{ReadError, read_text};
 use crate::make::make_program;
 use crate::outcomes::find_source;
 use crate::refusal::refusal_line;
@@ -30,7 +30,7 @@ use object_program::Program;
 use plain_machine::Machine;
 use plain_monitor::{List, NoMemory};
 use program_run::{Ran, Settings, run_program};
-use program_syntax::{Why, read_program};
+use program_syntax::{BYTES, Why, read_program};
 use run_io::{Clock, Gate, Sink, Source};
 use run_words::{Command, Options, WordsFault, read_words};
 use std::alloc::Global;
@@ -87,9 +87,9 @@ fn run_source<R: Threads + Wait + Sync, S: Source, K: Sink, C: Clock + Sync, G: 
     ensures over { IsGivenUp sink.old sink.new result ⊎ IsFinish (Some (Run options.now))
         (source_seen S.Source source.old) (source_seen S.Source source.new)
         (sink_seen K.Sink sink.old) (sink_seen K.Sink sink.new) result }
-    ensures taken { TakesAtMost S.Source (Some most_of_program) source.old source.new }
+    ensures taken { TakesAtMost S.Source (Some most_bytes) source.old source.new }
 {
-    match read_text(alloc, source, MOST_OF_PROGRAM) {
+    match read_text(alloc, source, BYTES) {
         Ok(bytes) => run_text(rt, alloc, options, bytes.as_slice(), sink, clock, gate),
         Err(ReadError::Fault) => tell(sink, 5, b"read fault\n"),
         Err(ReadError::NoMemory) => give_up(),
