@@ -151,7 +151,7 @@ fn faults_end_a_check(rt: HostRuntime) -> Result<(), Fail> {
 /// What a run writes of its journal, behind its program and the marker, is legal.
 #[test]
 fn journals_of_runs_are_legal(rt: HostRuntime) -> Result<(), Fail> {
-    for text in EXAMPLES {
+    for (_, text) in EXAMPLES {
         expect_legal(&rt, text)?;
     }
     Ok(())
