@@ -1,6 +1,7 @@
 //! Journals that are checked, and what is written of them.
 
-use crate::calls::{Call, calling, expect, make};
+use crate::calls::{Call, calling, make};
+use crate::due::expect;
 use example_programs::{ANSWER, EXAMPLES, HASH, WAIT_FOREVER};
 use std::process::Abort;
 use std::sync::Wait;
