@@ -1,6 +1,7 @@
 //! Programs with blocks, run and compiled.
 
-use crate::calls::{Call, calling, expect};
+use crate::calls::{Call, calling};
+use crate::due::expect;
 use example_programs::{
     BOUNDED_BUFFER_SYNC, COUNTING, COUNTING_SYNC, CROSSED_BLOCKS_SYNC, PHILOSOPHERS_SYNC,
     READERS_AND_WRITERS_SYNC,

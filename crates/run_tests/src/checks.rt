@@ -1,6 +1,7 @@
 //! Journals that are checked, and what is written of them.
 
-use crate::calls::{Call, calling, expect, make};
+use crate::calls::{Call, calling, make};
+use crate::due::expect;
 use example_programs::{ANSWER, EXAMPLES, HASH, WAIT_FOREVER};
 use std::process::Abort;
 use std::sync::Wait;
@@ -151,7 +152,7 @@ fn faults_end_a_check(rt: HostRuntime) -> Result<(), Fail> {
 /// What a run writes of its journal, behind its program and the marker, is legal.
 #[test]
 fn journals_of_runs_are_legal(rt: HostRuntime) -> Result<(), Fail> {
-    for text in EXAMPLES {
+    for (_, text) in EXAMPLES {
         expect_legal(&rt, text)?;
     }
     Ok(())

@@ -1,6 +1,7 @@
 //! Threads that have turns while another one is held, and how many are in their turns at once.
 
 use crate::calls::{calling, make_by};
+use crate::due::same;
 use example_programs::CONTENTION;
 use run_io::Gate;
 use std::process::Abort;
@@ -112,10 +113,10 @@ fn run_held<R: Threads + Wait + Abort + AllocGlobal + Sync>(
         saw: AtomicBool::new(false),
     };
     let words: &[&str] = &["run", "--workers", "2", "--quantum", "1"];
-    let made = make_by(rt, calling(words, text), &gate)?;
-    assert_eq!(rt; made.status, 0);
-    assert!(rt; gate.saw.load(Ordering::SeqCst));
-    Ok(())
+    let call = calling(words, text);
+    let made = make_by(rt, call, &gate)?;
+    same(rt, &call, made.status, 0)?;
+    same(rt, &call, gate.saw.load(Ordering::SeqCst), true)
 }
 
 /// Five threads, each of which ends in its first turn.
@@ -162,10 +163,10 @@ fn five_workers_run_five_threads_at_once(rt: HostRuntime) -> Result<(), Fail> {
         saw: AtomicU32::new(0),
     };
     let words: &[&str] = &["run", "--workers", "5"];
-    let made = make_by(&rt, calling(words, FIVE), &gate)?;
-    assert_eq!(rt; made.status, 0);
+    let call = calling(words, FIVE);
+    let made = make_by(&rt, call, &gate)?;
+    same(&rt, &call, made.status, 0)?;
     let came = gate.came.load(Ordering::SeqCst);
-    assert!(rt; came >= 5);
-    assert_eq!(rt; gate.saw.load(Ordering::SeqCst), came);
-    Ok(())
+    same(&rt, &call, came >= 5, true)?;
+    same(&rt, &call, gate.saw.load(Ordering::SeqCst), came)
 }

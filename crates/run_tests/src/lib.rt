@@ -3,11 +3,15 @@
 #![tactic(auto)]
 
 #[cfg(test)]
+mod biases;
+#[cfg(test)]
 mod blocks;
 #[cfg(test)]
 mod calls;
 #[cfg(test)]
 mod checks;
+#[cfg(test)]
+mod due;
 #[cfg(test)]
 mod leads;
 #[cfg(test)]

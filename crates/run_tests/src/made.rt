@@ -1,7 +1,8 @@
 //! Programs whose threads make objects.
 
 use crate::blocks::settings;
-use crate::calls::{Call, calling, expect};
+use crate::calls::{Call, calling};
+use crate::due::expect;
 use example_programs::{MADE, MADE_BY_EACH_SYNC, MADE_QUEUE_SYNC, TOO_MANY};
 use std::process::Abort;
 use std::sync::Wait;

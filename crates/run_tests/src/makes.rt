@@ -1,6 +1,7 @@
 //! Programs that are made, and what becomes of them.
 
-use crate::calls::{Call, calling, expect, expect_around, make};
+use crate::calls::{Call, calling, make};
+use crate::due::{expect, expect_around, same};
 use example_programs::HANDOVER_40;
 use std::test::Fail;
 
@@ -57,8 +58,9 @@ fn faults_end_the_writing(rt: HostRuntime) -> Result<(), Fail> {
 /// program for 40 are.
 #[test]
 fn made_1500(rt: HostRuntime) -> Result<(), Fail> {
-    let made = make(&rt, calling(&["make", "1500"], ""))?;
-    assert_eq!(rt; made.status, 0);
+    let making = calling(&["make", "1500"], "");
+    let made = make(&rt, making)?;
+    same(&rt, &making, made.status, 0)?;
     let run = Call {
         behind: made.held.as_slice(),
         ..calling(&["run", "--stats"], "")

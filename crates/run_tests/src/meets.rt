@@ -1,6 +1,7 @@
 //! Threads of a program that run at the same time.
 
-use crate::calls::{calling, make_by};
+use crate::calls::{Call, calling, make_by};
+use crate::due::same;
 use example_programs::CONTENTION;
 use run_io::Gate;
 use std::process::Abort;
@@ -83,9 +84,9 @@ fn meet<R: Threads + Wait + Abort + AllocGlobal + Sync>(
     rt: &R,
     words: &[&str],
 ) -> Result<(), Fail> {
-    let saw = seen(rt, words, LOOKS)?;
-    assert_eq!(rt; saw, (true, true));
-    Ok(())
+    let call = calling(words, CONTENTION);
+    let saw = seen(rt, call, LOOKS)?;
+    same(rt, &call, saw, (true, true))
 }
 
 /// A run with these words in which the second thread alone sees the other one's flag.
@@ -93,15 +94,15 @@ fn miss<R: Threads + Wait + Abort + AllocGlobal + Sync>(
     rt: &R,
     words: &[&str],
 ) -> Result<(), Fail> {
-    let saw = seen(rt, words, FEWER_LOOKS)?;
-    assert_eq!(rt; saw, (false, true));
-    Ok(())
+    let call = calling(words, CONTENTION);
+    let saw = seen(rt, call, FEWER_LOOKS)?;
+    same(rt, &call, saw, (false, true))
 }
 
-/// Whether in a run with these words the first of two threads sees the flag of the second, and the second that of the first.
+/// Whether in the run the first of two threads sees the flag of the second, and the second that of the first.
 fn seen<R: Threads + Wait + Abort + AllocGlobal + Sync>(
     rt: &R,
-    words: &[&str],
+    call: Call,
     looks: u32,
 ) -> Result<(bool, bool), Fail> {
     let gate = Meeting {
@@ -109,8 +110,8 @@ fn seen<R: Threads + Wait + Abort + AllocGlobal + Sync>(
         second: Side::new(),
         looks,
     };
-    let made = make_by(rt, calling(words, CONTENTION), &gate)?;
-    assert_eq!(rt; made.status, 0);
+    let made = make_by(rt, call, &gate)?;
+    same(rt, &call, made.status, 0)?;
     Ok((
         gate.first.saw.load(Ordering::SeqCst),
         gate.second.saw.load(Ordering::SeqCst),

@@ -3,7 +3,8 @@
 //! All runs are without biases and by one worker, whose threads have turns of a fixed length one after the other, so that what
 //! each turn does can be counted by hand.
 
-use crate::calls::{Made, calling, expect, make};
+use crate::calls::{Made, calling, make};
+use crate::due::{Due, Held, compare, expect, same};
 use std::alloc::{AllocError, Global};
 use std::test::Fail;
 
@@ -219,12 +220,15 @@ fn more_inflations_than_monitors(rt: HostRuntime) -> Result<(), Fail> {
         "110000",
     ];
     let text = crowd(rt.alloc())?;
-    let made = make(&rt, calling(words, text.as_str()))?;
-    assert_eq!(rt; made.held.as_slice(), OF_THE_CROWD.as_bytes());
-    assert_eq!(rt; made.status, 0);
-    assert!(rt; !made.is_stuck);
-    assert_eq!(rt; ring(&made), Some((8192, 8208)));
-    Ok(())
+    let call = calling(words, text.as_str());
+    let made = make(&rt, call)?;
+    let due = Due {
+        status: 0,
+        has_record: true,
+        held: Held::Text(OF_THE_CROWD),
+    };
+    compare(&rt, &call, &made, due)?;
+    same(&rt, &call, ring(&made), Some((8192, 8208)))
 }
 
 /// Two threads contend for an object, and then one of them dumps and enters it again.

@@ -1,13 +1,11 @@
 //! Every end of a program. The counts, and the ways to ends, are worked out by hand from the rules of the language.
 
-use crate::calls::{Call, calling, make};
+use crate::calls::{Call, calling};
+use crate::due::expect;
 use example_programs::{
     ANSWER, DINING_RISING, DINING_THREE, FAULT_BY_ORDER, HASH, LOST_NOTIFY, TWO_ADDERS,
 };
-use std::process::Abort;
-use std::sync::Wait;
 use std::test::Fail;
-use std::thread::Threads;
 
 /// Two threads that take two monitors, each in its own order.
 const CROSSED: &str = "\
@@ -85,20 +83,6 @@ jump l
 end
 ";
 
-/// Makes the call, which leaves no record, and compares what it writes and its status.
-fn expect<R: Threads + Wait + Abort + AllocGlobal + Sync>(
-    rt: &R,
-    call: Call,
-    status: u8,
-    held: &str,
-) -> Result<(), Fail> {
-    let made = make(rt, call)?;
-    assert_eq!(rt; made.held.as_slice(), held.as_bytes(), "{held}");
-    assert_eq!(rt; made.status, status, "{held}");
-    assert!(rt; !made.has_record, "{held}");
-    Ok(())
-}
-
 #[test]
 fn ends_are_counted(rt: HostRuntime) -> Result<(), Fail> {
     let rows: [(&str, u8, &str); 11] = [
@@ -119,7 +103,7 @@ fn ends_are_counted(rt: HostRuntime) -> Result<(), Fail> {
         (HASH, 3, "program: Hash\n"),
     ];
     for (text, status, held) in rows {
-        expect(&rt, calling(&["outcomes"], text), status, held)?;
+        expect(&rt, calling(&["outcomes"], text), status, false, held)?;
     }
     Ok(())
 }
@@ -145,7 +129,7 @@ fn ways_to_ends_are_shown(rt: HostRuntime) -> Result<(), Fail> {
     ];
     for (text, status, held) in rows {
         let words = ["outcomes", "--witness"];
-        expect(&rt, calling(&words, text), status, held)?;
+        expect(&rt, calling(&words, text), status, false, held)?;
     }
     Ok(())
 }
@@ -161,7 +145,7 @@ fn states_are_limited(rt: HostRuntime) -> Result<(), Fail> {
     ];
     for (states, status, held) in rows {
         let words = ["outcomes", "--states", states];
-        expect(&rt, calling(&words, CROSSED), status, held)?;
+        expect(&rt, calling(&words, CROSSED), status, false, held)?;
     }
     Ok(())
 }
@@ -175,11 +159,17 @@ fn searches_that_are_not_made(rt: HostRuntime) -> Result<(), Fail> {
         read_fails: 1,
         ..call
     };
-    expect(&rt, read, 5, "read fault\n")?;
+    expect(&rt, read, 5, false, "read fault\n")?;
     let write = Call {
         write_fails: 1,
         ..call
     };
-    expect(&rt, write, 6, "")?;
-    expect(&rt, calling(&words, "class C\n"), 3, "line 1: Operands\n")
+    expect(&rt, write, 6, false, "")?;
+    expect(
+        &rt,
+        calling(&words, "class C\n"),
+        3,
+        false,
+        "line 1: Operands\n",
+    )
 }

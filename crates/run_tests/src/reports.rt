@@ -1,6 +1,7 @@
 //! Runs with a report.
 
-use crate::calls::{calling, expect, expect_around};
+use crate::calls::calling;
+use crate::due::{expect, expect_around};
 use example_programs::{ANSWER, CROSSWISE, DUMP, HAND_OVER, WAIT_FOREVER};
 use std::alloc::{AllocError, Global};
 use std::test::Fail;

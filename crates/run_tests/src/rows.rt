@@ -1,10 +1,11 @@
 //! Words, texts, and what is written.
 
-use crate::calls::{Call, calling, expect};
+use crate::calls::{Call, calling};
+use crate::due::expect;
 use crate::settings::expect_under_each;
 use example_programs::{
-    ANSWER, CROSSWISE, DUMP, EXIT_TOO_OFTEN, HAND_OVER, HASH, OVERFLOW, TOO_DEEP, UNGUARDED_GET,
-    WAIT_FOREVER, WAIT_WITHOUT_HOLD,
+    ANSWER, BULK_REBIAS, CROSSWISE, DINING_THREE, DUMP, EXIT_TOO_OFTEN, HAND_OVER, HASH, INFLATED,
+    OVERFLOW, STALE_EPOCH, TOO_DEEP, UNGUARDED_GET, WAIT_FOREVER, WAIT_WITHOUT_HOLD,
 };
 use std::test::Fail;
 
@@ -37,7 +38,7 @@ fn running(text: &str) -> Call {
 /// Programs whose output no order of steps changes, under each of the settings.
 #[test]
 fn programs_run(rt: HostRuntime) -> Result<(), Fail> {
-    let rows: [(&'static str, u8, &str); 12] = [
+    let rows: [(&'static str, u8, &str); 15] = [
         (ANSWER, 0, "t1: 42\nthread t1 done\n"),
         (
             EXIT_TOO_OFTEN,
@@ -62,6 +63,9 @@ fn programs_run(rt: HostRuntime) -> Result<(), Fail> {
             "thread t1 blocked on b\nthread t2 blocked on a\n",
         ),
         (DUMP, 0, "dump t1 1\na held by t1 2\nthread t1 done\n"),
+        (INFLATED, 0, "t1: 273329069\nthread t1 done\n"),
+        (BULK_REBIAS, 0, "t2: 20\nthread t1 done\nthread t2 done\n"),
+        (STALE_EPOCH, 0, "t1: 21\nthread t1 done\nthread t2 done\n"),
     ];
     for (text, status, held) in rows {
         expect_under_each(&rt, running(text), status, true, held)?;
@@ -89,9 +93,23 @@ thread t1 done
 @4 t1 done
 ";
 
+/// What is written of `INFLATED` with its journal, without biases. The hash has no room in the lock record, so that its thread inflates the
+/// object, and the second enter finds the free monitor.
+const INFLATED_JOURNAL: &str = "\
+t1: 273329069
+thread t1 done
+@1 t1 enter a stack-first
+@2 t1 hash a 273329069 draw 1
+@3 t1 exit a
+@4 t1 enter a monitor-first
+@5 t1 print 273329069
+@6 t1 exit a
+@7 t1 done
+";
+
 #[test]
 fn words_choose_what_is_written(rt: HostRuntime) -> Result<(), Fail> {
-    let rows: [(&'static [&'static str], &'static str, u8, &str); 7] = [
+    let rows: [(&'static [&'static str], &'static str, u8, &str); 11] = [
         (&["run", "--journal"], ANSWER, 0, BY_BIAS),
         (
             &[
@@ -135,6 +153,30 @@ fn words_choose_what_is_written(rt: HostRuntime) -> Result<(), Fail> {
             HASH,
             0,
             "t1: 273331126\nthread t1 done\n",
+        ),
+        (
+            &["run", "--workers=1", "--quantum=1"],
+            DINING_THREE,
+            4,
+            "thread plato blocked on b\nthread zeno blocked on c\nthread thales blocked on a\n",
+        ),
+        (
+            &["run", "--workers=1"],
+            DINING_THREE,
+            0,
+            "thread plato done\nthread zeno done\nthread thales done\n",
+        ),
+        (
+            &["run", "--journal", "--bias", "off"],
+            INFLATED,
+            0,
+            INFLATED_JOURNAL,
+        ),
+        (
+            &["run", "--stats"],
+            INFLATED,
+            0,
+            "t1: 273329069\nthread t1 done\nclass C single 1 rebias 0 revoke 0 count 1 prototype 5 enters 0 1 0 0 1 0\n",
         ),
     ];
     for (words, text, status, held) in rows {

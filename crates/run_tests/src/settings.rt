@@ -1,6 +1,7 @@
 //! Settings under which programs are run, and many runs of two threads that contend.
 
-use crate::calls::{Call, calling, expect, make};
+use crate::calls::{Call, calling};
+use crate::due::{Held, expect, expect_by_order};
 use example_programs::CONTENTION;
 use std::process::Abort;
 use std::sync::Wait;
@@ -39,6 +40,12 @@ pub fn expect_under_each<R: Threads + Wait + Abort + AllocGlobal + Sync>(
     }
     Ok(())
 }
+
+/// What is written of the contention program, by who is last.
+const COUNTED: &[&str] = &[
+    "t1: 2000\nthread t1 done\nthread t2 done\n",
+    "t2: 2000\nthread t1 done\nthread t2 done\n",
+];
 
 /// Two threads count to 2,000 together under each of the settings, and the last of them prints it.
 #[test]
@@ -99,11 +106,5 @@ fn count_together<R: Threads + Wait + Abort + AllocGlobal + Sync>(
     rt: &R,
     words: &[&str],
 ) -> Result<(), Fail> {
-    let first = b"t1: 2000\nthread t1 done\nthread t2 done\n".as_slice();
-    let second = b"t2: 2000\nthread t1 done\nthread t2 done\n".as_slice();
-    let made = make(rt, calling(words, CONTENTION))?;
-    assert!(rt; made.held.as_slice() == first || made.held.as_slice() == second);
-    assert_eq!(rt; made.status, 0);
-    assert!(rt; !made.is_stuck);
-    Ok(())
+    expect_by_order(rt, calling(words, CONTENTION), 0, Held::OneOf(COUNTED))
 }

@@ -1,6 +1,7 @@
 //! How many turns a thread has.
 
-use crate::calls::{calling, make_by};
+use crate::calls::{Call, calling, make_by};
+use crate::due::same;
 use example_programs::ANSWER;
 use run_io::Gate;
 use std::process::Abort;
@@ -34,21 +35,23 @@ fn a_quantum_is_how_long_a_turn_is(rt: HostRuntime) -> Result<(), Fail> {
         ("1", 7),
     ];
     for (quantum, turns) in rows {
-        let found = turns_of(&rt, &["run", "--quantum", quantum])?;
-        assert_eq!(rt; found, turns, "{quantum}");
+        let words: &[&str] = &["run", "--quantum", quantum];
+        let call = calling(words, ANSWER);
+        let found = turns_of(&rt, call)?;
+        same(&rt, &call, found, turns)?;
     }
     Ok(())
 }
 
-/// The turns of a run with these words.
+/// The turns of a run.
 fn turns_of<R: Threads + Wait + Abort + AllocGlobal + Sync>(
     rt: &R,
-    words: &[&str],
+    call: Call,
 ) -> Result<u32, Fail> {
     let gate = Counting {
         visits: AtomicU32::new(0),
     };
-    let made = make_by(rt, calling(words, ANSWER), &gate)?;
-    assert_eq!(rt; made.status, 0);
+    let made = make_by(rt, call, &gate)?;
+    same(rt, &call, made.status, 0)?;
     Ok(gate.visits.load(Ordering::SeqCst))
 }

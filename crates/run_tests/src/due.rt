@@ -1,0 +1,205 @@
+//! What calls have to come to. A test fails in one of two functions here, which say of which program and which words the call was.
+//!
+//! Each comparison stands in a function, so that a test is proved as one straight line, where a macro would fork with all that is known at it.
+
+use crate::calls::{Call, Made, make};
+use example_programs::{BLOCKS, EXAMPLES};
+use std::alloc::{AllocError, Global};
+use std::fmt::Debug;
+use std::process::Abort;
+use std::sync::Wait;
+use std::test::Fail;
+use std::thread::Threads;
+
+/// What has to be written: a text, or one of some, or what begins and ends so. What stands between, and may be two ways or more, is what
+/// the order of the threads' steps decides.
+#[derive(Clone, Copy)]
+pub enum Held<'a> {
+    Text(&'a str),
+    OneOf(&'a [&'a str]),
+    Around(&'a str, &'a [&'a str]),
+}
+
+/// What a call has to come to: its status, whether it has a record, and what is written.
+#[derive(Clone, Copy)]
+pub struct Due<'a> {
+    pub status: u8,
+    pub has_record: bool,
+    pub held: Held<'a>,
+}
+
+/// Whether the machine behind the record has to be stuck.
+fn is_to_be_stuck(due: &Due) -> bool {
+    due.has_record && due.status == 4
+}
+
+/// Whether this is one of the texts.
+fn is_one_of(held: &[u8], texts: &[&str]) -> bool {
+    let mut found = false;
+    for text in texts {
+        if held == text.as_bytes() {
+            found = true;
+        }
+    }
+    found
+}
+
+/// Whether this ends with one of the texts.
+fn ends_with_one_of(held: &[u8], texts: &[&str]) -> bool {
+    let mut ends = false;
+    for text in texts {
+        if held.ends_with(text.as_bytes()) {
+            ends = true;
+        }
+    }
+    ends
+}
+
+fn is_written(held: &[u8], due: Held) -> bool {
+    match due {
+        Held::Text(text) => held == text.as_bytes(),
+        Held::OneOf(texts) => is_one_of(held, texts),
+        Held::Around(front, backs) => {
+            held.starts_with(front.as_bytes()) && ends_with_one_of(held, backs)
+        }
+    }
+}
+
+/// A call with a record has a closed heap, and is stuck where its status says so.
+fn is_as_due(made: &Made, due: &Due) -> bool {
+    made.status == due.status
+        && made.has_record == due.has_record
+        && made.closed.is_some() == due.has_record
+        && made.is_stuck == is_to_be_stuck(due)
+        && is_written(made.held.as_slice(), due.held)
+}
+
+/// The name of the text in a list of programs.
+fn named_in(programs: &[(&'static str, &'static str)], text: &str) -> Option<&'static str> {
+    let mut found = None;
+    for (name, program) in programs {
+        if *program == text {
+            found = Some(*name);
+        }
+    }
+    found
+}
+
+/// The program of the call: its file, or the text, where it is none of `examples/`.
+fn program_of(alloc: Global, text: &str) -> Result<String, AllocError> {
+    let name = named_in(&EXAMPLES, text).or(named_in(&BLOCKS, text));
+    match name {
+        Some(name) => format!(in alloc; "examples/{name}"),
+        None => format!(in alloc; "this program:\n{text}"),
+    }
+}
+
+/// The call for whom a test fails: its words, its program and what stands behind it, and what of its reads and writes is special.
+fn told(alloc: Global, call: &Call) -> Result<String, AllocError> {
+    let mut line = String::from_str(alloc, "biasrun")?;
+    for word in call.words {
+        line.push_str(" ")?;
+        line.push_str(word)?;
+    }
+    let program = program_of(alloc, call.text)?;
+    let behind = String::from_utf8_lossy(alloc, call.behind)?;
+    let (from, by) = call.clock;
+    let rest = format!(in alloc;
+        " < {program}\n{behind}(empty_lines {}, read_fails {}, write_fails {}, cut {}, clock {from} by {by})",
+        call.empty_lines, call.read_fails, call.write_fails, call.cut
+    )?;
+    line.push_str(rest.as_str())?;
+    Ok(line)
+}
+
+/// What has to be written, for whom a test fails.
+fn shown(alloc: Global, due: Held) -> Result<String, AllocError> {
+    match due {
+        Held::Text(text) => String::from_str(alloc, text),
+        Held::OneOf(texts) => format!(in alloc; "one of {texts:?}\n"),
+        Held::Around(front, backs) => format!(in alloc;
+            "{front}..\nand at the end one of {backs:?}\n"
+        ),
+    }
+}
+
+/// Ends the test where the call came to something else.
+pub fn compare<R: Abort + AllocGlobal>(
+    rt: &R,
+    call: &Call,
+    made: &Made,
+    due: Due,
+) -> Result<(), Fail> {
+    if !is_as_due(made, &due) {
+        let line = told(rt.alloc(), call)?;
+        let wanted = shown(rt.alloc(), due.held)?;
+        let found = String::from_utf8_lossy(rt.alloc(), made.held.as_slice())?;
+        panic!(rt;
+            "{line}\nexpected: status {}, record and heap {}, stuck {}\n{wanted}\ngot: status {}, record {}, heap {}, stuck {}\n{found}",
+            due.status,
+            due.has_record,
+            is_to_be_stuck(&due),
+            made.status,
+            made.has_record,
+            made.closed.is_some(),
+            made.is_stuck
+        );
+    }
+    Ok(())
+}
+
+/// Ends the test where two values differ that tell of the call.
+pub fn same<T: Drop + PartialEq + Debug, R: Abort + AllocGlobal>(
+    rt: &R,
+    call: &Call,
+    found: T,
+    wanted: T,
+) -> Result<(), Fail> {
+    let line = told(rt.alloc(), call)?;
+    assert_eq!(rt; found, wanted, "{line}");
+    Ok(())
+}
+
+/// Makes the call, and compares what became of it.
+pub fn expect<R: Threads + Wait + Abort + AllocGlobal + Sync>(
+    rt: &R,
+    call: Call,
+    status: u8,
+    has_record: bool,
+    held: &str,
+) -> Result<(), Fail> {
+    let made = make(rt, call)?;
+    let due = Due {
+        status,
+        has_record,
+        held: Held::Text(held),
+    };
+    compare(rt, &call, &made, due)
+}
+
+/// Makes the call of a run, and compares what became of it where the order of the threads' steps decides.
+pub fn expect_by_order<R: Threads + Wait + Abort + AllocGlobal + Sync>(
+    rt: &R,
+    call: Call,
+    status: u8,
+    held: Held,
+) -> Result<(), Fail> {
+    let made = make(rt, call)?;
+    let due = Due {
+        status,
+        has_record: true,
+        held,
+    };
+    compare(rt, &call, &made, due)
+}
+
+/// Makes the call of a run, and compares its status, and how what was written begins and how it ends.
+pub fn expect_around<R: Threads + Wait + Abort + AllocGlobal + Sync>(
+    rt: &R,
+    call: Call,
+    status: u8,
+    front: &str,
+    backs: &[&str],
+) -> Result<(), Fail> {
+    expect_by_order(rt, call, status, Held::Around(front, backs))
+}
