@@ -52,7 +52,7 @@ enum biasrun_kind {
     /* The call may not be made; `detail` is the first biasrun_misuse that holds. Nothing has changed. */
     BIASRUN_MISUSE = 3,
     /* The page of the thread's log has no room for the call beside what the thread's holds need for their exits, and the thread for its end.
-       Nothing has changed; biasrun_take_page makes room. Behind calls of this library alone no exit, no finish, and no wait that has let go is
+       Nothing has changed; biasrun_take_page makes room. After calls of this library alone no exit, no finish, and no wait that has let go is
        answered so. */
     BIASRUN_FULL = 4,
     /* There is no memory: of biasrun_begin, add_class, add_object, open, pass, take_page and close alone. Nothing has changed, but that
@@ -133,7 +133,7 @@ enum biasrun_misuse {
     BIASRUN_HOLDING = 21,
     /* A thread has a pass of the heap still. */
     BIASRUN_IN_USE = 22,
-    /* Not all passes of the heap came back. Behind calls of this library alone no call is answered so. */
+    /* Not all passes of the heap came back. After calls of this library alone no call is answered so. */
     BIASRUN_PASS_LOST = 23,
     /* The thread made no such dump. */
     BIASRUN_NO_DUMP = 24
@@ -268,7 +268,7 @@ biasrun_answer biasrun_unfinished(biasrun_handle *pass);
 biasrun_answer biasrun_leave(biasrun_handle *pass);
 
 /* THE LOG of the pass's own thread. It is written page by page, and a page is handed out when the thread asks for it: before it is full, or when a
-   call is answered BIASRUN_FULL. The pages of a thread, one behind the other, and at last what biasrun_close leaves, are its log. Stamps order the
+   call is answered BIASRUN_FULL. The pages of a thread, one after the other, and at last what biasrun_close leaves, are its log. Stamps order the
    entries of all threads; where two have the same, that of the lower thread comes first. */
 
 /* Done: `word` is how many entries the log has, with those that were handed out. */

@@ -9,7 +9,7 @@ A definition is (path, name). What a name stands for:
 - a trait that bounds a signature: its ghost members, and the clauses of its functions, which each implementation has to meet.
 
 Files in `specs/` are read by their tokens. Names that are bound where they stand (patterns, parameters, `λ`, `let`, fields of a
-record in the fields after them) are no references, nor are fields behind a dot or names of fields before a `=`. All fields of a Rust
+record in the fields after them) are no references, nor are fields after a dot or names of fields before a `=`. All fields of a Rust
 type count, private ones too, though a contract sees those only through the type's view: so the list has rather too much than too
 little. Names of the toolchain's libraries are followed no further. A name that is imported from the repository and isn't found
 there is an error, and so is a definition in a form that isn't known here.
@@ -255,7 +255,7 @@ def is_field_name(tokens, i, open_brackets):
 
 
 def split_clause(tokens):
-    """The patterns and the body of a clause, before and behind its first `=` outside brackets."""
+    """The patterns and the body of a clause, before and after its first `=` outside brackets."""
     depth = 0
     for i, token in enumerate(tokens):
         depth += (token in "([{") - (token in ")]}")

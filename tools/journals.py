@@ -151,7 +151,7 @@ class History:
 
 
 def halves(data):
-    """The program, and the journal behind the first line that is the marker."""
+    """The program, and the journal after the first line that is the marker."""
     at = 0 if data.startswith(MARKER) else data.find(b"\n" + MARKER) + 1
     if not data.startswith(MARKER, at):
         raise Refused("program: NoJournal")

@@ -1,7 +1,7 @@
 /*
  * A buffer of 4 numbers between 2 writers and 2 readers, by enter, wait, notify_all and exit of one object. How many numbers there are stands
  * in slot 0 of the object and in a variable of C; the numbers themselves are C's. Who has to wait for an owner or a notify sleeps on a condition
- * variable. The program that the threads run, and behind it the journal of what they did, goes to the file that is named.
+ * variable. The program that the threads run, and after it the journal of what they did, goes to the file that is named.
  */
 #include <pthread.h>
 
@@ -16,7 +16,7 @@ static long sum, waits;
 static const char *const thread_names[] = {"w0", "w1", "r0", "r1"};
 static const char *const object_names[] = {"buffer"};
 
-/* Where threads sleep. A thread that lets the object go counts up and wakes them; it does so behind a notify, too, as it leaves the object then. */
+/* Where threads sleep. A thread that lets the object go counts up and wakes them; it does so after a notify, too, as it leaves the object then. */
 static pthread_mutex_t lot = PTHREAD_MUTEX_INITIALIZER;
 static pthread_cond_t changed = PTHREAD_COND_INITIALIZER;
 static unsigned long changes;

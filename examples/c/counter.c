@@ -1,7 +1,7 @@
 /*
  * 4 threads add to one number, 100,000 times in sum, each time between enter and exit: to slot 0 of the object, and to a variable of C.
  * Both must be exact. A page of a log is far shorter than what a thread logs, so that each hands out page after page. The program that the
- * threads run, and behind it the journal of what they did, goes to the file that is named.
+ * threads run, and after it the journal of what they did, goes to the file that is named.
  */
 #include <pthread.h>
 

@@ -73,7 +73,7 @@ public final class Runner {
         return log(last + 1, kind, parts);
     }
 
-    /** Behind the entry with which the monitor was let go of last. */
+    /** After the entry with which the monitor was let go of last. */
     private long after(Cell cell) {
         return Math.max(last, cell.stamp) + 1;
     }

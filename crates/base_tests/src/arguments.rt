@@ -1,6 +1,6 @@
 //! Words that are accepted, and words that aren't.
 
-use run_words::{Command, Options, WordsFault, read_words};
+use cli_args::{Command, Options, WordsFault, read_words};
 use std::alloc::{AllocError, Global};
 use std::test::Fail;
 

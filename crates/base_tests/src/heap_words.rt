@@ -9,7 +9,7 @@ use mark_word::{
 use std::test::Fail;
 
 #[test]
-fn marks(rt: HostRuntime) -> Result<(), Fail> {
+fn mark_words_are_read_and_written(rt: HostRuntime) -> Result<(), Fail> {
     same(
         &rt,
         decode(0x7F_FFFF_FF79),
@@ -48,7 +48,7 @@ fn marks(rt: HostRuntime) -> Result<(), Fail> {
 }
 
 #[test]
-fn owners(rt: HostRuntime) -> Result<(), Fail> {
+fn owner_words_are_read_and_written(rt: HostRuntime) -> Result<(), Fail> {
     same(&rt, decode_owner(17), Ok(OwnerForm::ByThread { thread: 1 }));
     same(&rt, encode_owner(&OwnerForm::ByThread { thread: 1 }), 17);
     same(
@@ -63,7 +63,7 @@ fn owners(rt: HostRuntime) -> Result<(), Fail> {
 }
 
 #[test]
-fn waits(rt: HostRuntime) -> Result<(), Fail> {
+fn waiting_words_are_read_and_written(rt: HostRuntime) -> Result<(), Fail> {
     same(
         &rt,
         encode_wait(&WaitForm::Waiting {
@@ -84,7 +84,7 @@ fn waits(rt: HostRuntime) -> Result<(), Fail> {
 }
 
 #[test]
-fn hold_words(rt: HostRuntime) -> Result<(), Fail> {
+fn hold_words_are_read_and_written(rt: HostRuntime) -> Result<(), Fail> {
     same(
         &rt,
         decode_hold(129),
@@ -107,7 +107,7 @@ fn hold_words(rt: HostRuntime) -> Result<(), Fail> {
 }
 
 #[test]
-fn safepoints(rt: HostRuntime) -> Result<(), Fail> {
+fn safepoint_words_are_read_and_written(rt: HostRuntime) -> Result<(), Fail> {
     let form = SafeForm {
         running: 1,
         requester: Some(1),

@@ -55,7 +55,7 @@ fn a_list_gives_its_items_back(rt: HostRuntime) -> Result<(), Fail> {
 }
 
 #[test]
-fn values_and_their_words(rt: HostRuntime) {
+fn values_are_read_and_written_as_words(rt: HostRuntime) {
     let greatest = (1_i64 << 61) - 1;
     same(&rt, value_word(&Value::Nil), 0);
     same(&rt, value_word(&Value::Int(0)), 9_223_372_036_854_775_809);

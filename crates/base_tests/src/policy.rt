@@ -20,7 +20,7 @@ fn counts_decay_after_25_seconds(rt: HostRuntime) {
 }
 
 #[test]
-fn first_draws(rt: HostRuntime) {
+fn first_draws_go_by_the_start(rt: HostRuntime) {
     same(&rt, Draw::new(1).next(), 273_329_069);
     same(&rt, Draw::new(2).next(), 273_331_126);
 }

@@ -24,7 +24,7 @@ fn pass<G: Gate>(gate: &G) {
 }
 
 #[test]
-fn source_in_memory(rt: HostRuntime) -> Result<(), Fail> {
+fn a_source_in_memory_gives_its_bytes_or_fails(rt: HostRuntime) -> Result<(), Fail> {
     let bytes = [1, 2, 3, 4, 5].to_vec(rt.alloc())?;
     let fails = [2].to_vec(rt.alloc())?;
     let mut source = MemorySource::new(bytes, fails, 2);
@@ -44,7 +44,7 @@ fn source_in_memory(rt: HostRuntime) -> Result<(), Fail> {
 }
 
 #[test]
-fn sink_in_memory(rt: HostRuntime) -> Result<(), Fail> {
+fn a_sink_in_memory_takes_what_it_has_room_for(rt: HostRuntime) -> Result<(), Fail> {
     let fails = [1].to_vec(rt.alloc())?;
     let made = MemorySink::new(rt.alloc(), 3, fails, 2);
     let mut sink = made.ok().ok_or("memory")?;
@@ -58,7 +58,7 @@ fn sink_in_memory(rt: HostRuntime) -> Result<(), Fail> {
 }
 
 #[test]
-fn clocks(rt: HostRuntime) {
+fn a_step_clock_goes_on_by_its_step(rt: HostRuntime) {
     let clock = StepClock::new(1, 1);
     same(&rt, tell(&clock), 1);
     same(&rt, tell(&clock), 2);
@@ -73,7 +73,7 @@ fn clocks(rt: HostRuntime) {
 }
 
 #[test]
-fn streams(rt: HostRuntime) -> Result<(), Fail> {
+fn bytes_pass_through_streams(rt: HostRuntime) -> Result<(), Fail> {
     let bytes = [1u8, 2, 3];
     let mut source = ReadSource::new(bytes.as_slice());
     let mut into = [0u8; 2];
@@ -87,7 +87,7 @@ fn streams(rt: HostRuntime) -> Result<(), Fail> {
     Ok(())
 }
 
-/// Pieces that fit reach the writer by the flush alone, and one that doesn't fit goes behind a flush of its own.
+/// Pieces that fit reach the writer by the flush alone, and one that doesn't fit goes after a flush of its own.
 #[test]
 fn writes_are_gathered(rt: HostRuntime) -> Result<(), Fail> {
     let mut out: Vec<u8> = Vec::new(rt.alloc());
@@ -106,11 +106,11 @@ fn writes_are_gathered(rt: HostRuntime) -> Result<(), Fail> {
 
 /// Where a write of the sink behind fails, so does the call that came to it, and nothing is lost or written twice.
 #[test]
-fn gathered_write_that_fails(rt: HostRuntime) -> Result<(), Fail> {
+fn a_gathered_write_that_fails_loses_nothing(rt: HostRuntime) -> Result<(), Fail> {
     let fails = [2].to_vec(rt.alloc())?;
-    let behind = MemorySink::new(rt.alloc(), 9, fails, 2);
-    let behind = behind.ok().ok_or("memory")?;
-    let made = BufferedSink::new(rt.alloc(), behind, 3);
+    let inner = MemorySink::new(rt.alloc(), 9, fails, 2);
+    let inner = inner.ok().ok_or("memory")?;
+    let made = BufferedSink::new(rt.alloc(), inner, 3);
     let mut sink = made.ok().ok_or("memory")?;
     same(&rt, write_once(&mut sink, &[1, 2, 3]), Ok(3));
     same(&rt, write_once(&mut sink, &[4, 5]), Err(Failed));

@@ -1,5 +1,6 @@
 -- Texts cut at a byte.
-use Rattle.std.proofs.Common.{◌≡◌, ℕ, suc, ◌+◌, ◌<◌, ◌≤◌, ◌==◌, nat_lt, cond, if◌then◌else◌, List, [], ◌∷◌, ◌++◌, length, take, drop, refl, ap, ◌∙◌, arith, Bool, true, false, Some, None}
+use Rattle.std.proofs.Common.{◌≡◌, ℕ, suc, ◌+◌, ◌<◌, ◌≤◌, ◌==◌, nat_lt, cond, if◌then◌else◌, List, [], ◌∷◌}
+use Rattle.std.proofs.Common.{◌++◌, length, take, drop, refl, ap, ◌∙◌, arith, Bool, true, false, Some, None}
 use Rattle.std.specs.Prelude.{option_map, position}
 use Rattle.std.specs.List.{position_or_len}
 use Rattle.std.proofs.lemmas.Bool.Decides.{nat_tests}
@@ -33,7 +34,8 @@ unbracketed_empty (b ∷ bs) h = absurd (omega arith)
 
 -- the first line of a text
 cut_line_at : (b : ℕ) (bs : List ℕ) (t : Bool) → (b == 10) ≡ t → position_or_len (λ b. b == 10) (b ∷ bs) < length (b ∷ bs)
-    → (position_or_len (λ b. b == 10) bs < length bs → lines_of bs ≡ take (position_or_len (λ b. b == 10) bs + 1) bs ∷ lines_of (drop (position_or_len (λ b. b == 10) bs + 1) bs))
+    → (position_or_len (λ b. b == 10) bs < length bs
+    → lines_of bs ≡ take (position_or_len (λ b. b == 10) bs + 1) bs ∷ lines_of (drop (position_or_len (λ b. b == 10) bs + 1) bs))
     → lines_of (b ∷ bs) ≡ take (position_or_len (λ b. b == 10) (b ∷ bs) + 1) (b ∷ bs) ∷ lines_of (drop (position_or_len (λ b. b == 10) (b ∷ bs) + 1) (b ∷ bs))
 cut_line_at b bs true e h ih = rw e refl
 cut_line_at b bs false e h ih =

@@ -15,7 +15,7 @@ pub mod LineWords
 pub mod TellsRead
 pub mod Rivals
 pub mod MarksRun
-pub mod MarksBehind
+pub mod MarksAfter
 pub mod TakenObjects
 pub mod RunsChecked
 pub mod TrueAnswers

@@ -1,5 +1,6 @@
 -- A line of the journal as words.
-use Rattle.std.proofs.Common.{◌≡◌, ℕ, ◌+◌, ◌<◌, ◌^◌, ◌==◌, ◌||◌, Bool, true, false, not, List, [], ◌∷◌, ◌++◌, length, map, get_or, refl, subst, ◌∙◌, ap, arith, inl, inr, append_assoc, append-nil, codes, slice_get, Option, Some, None}
+use Rattle.std.proofs.Common.{◌≡◌, ℕ, ◌+◌, ◌<◌, ◌^◌, ◌==◌, ◌||◌, Bool, true, false, not, List, [], ◌∷◌, ◌++◌, length, map, get_or, refl}
+use Rattle.std.proofs.Common.{subst, ◌∙◌, ap, arith, inl, inr, append_assoc, append-nil, codes, slice_get, Option, Some, None}
 use Rattle.std.specs.Prelude.{decimal}
 use Rattle.std.specs.Fmt.{signed_decimal}
 use Rattle.std.specs.List.{AllByRecursion, list_all, join_with_byte}
@@ -13,9 +14,11 @@ use Rattle.plain_monitor.specs.declared.entry.Value.TheVariants.{Nil, Int, Ref}
 use Rattle.plain_monitor.specs.declared.entry.Path.{Path}
 use Rattle.plain_monitor.specs.declared.entry.Path.TheVariants.{BiasOwn, BiasTaken, StackFirst, StackAgain, MonitorFirst, MonitorAgain}
 use Rattle.plain_monitor.specs.declared.entry.Fault.{Fault}
-use Rattle.plain_monitor.specs.declared.entry.Fault.TheVariants.{IllegalMonitorState, Unguarded, NotRef, NotInt, Range, Overflow, TooDeep, TooManyDumps, TooMany}
+use Rattle.plain_monitor.specs.declared.entry.Fault.TheVariants.{IllegalMonitorState, Unguarded, NotRef, NotInt}
+use Rattle.plain_monitor.specs.declared.entry.Fault.TheVariants.{Range, Overflow, TooDeep, TooManyDumps, TooMany}
 use Rattle.plain_monitor.specs.declared.entry.Entry.{Entry}
-use Rattle.plain_monitor.specs.declared.entry.Entry.TheVariants.{Enter, Exit, Get, Put, Wait, Resume, Notify, NotifyAll, Hash, New, Print, Dump, Trap, Spent, Done}
+use Rattle.plain_monitor.specs.declared.entry.Entry.TheVariants.{Enter, Exit, Get, Put, Wait, Resume, Notify, NotifyAll}
+use Rattle.plain_monitor.specs.declared.entry.Entry.TheVariants.{Hash, New, Print, Dump, Trap, Spent, Done}
 use Rattle.plain_monitor.specs.declared.entry.Logged.{Logged}
 use Rattle.object_program.specs.declared.program.ObjectDef.{ObjectDef}
 use Rattle.object_program.specs.Program.{ProgramText, declared_total}
@@ -58,7 +61,7 @@ abbrev pub draw_words : Option ℕ → List (List ℕ)
 draw_words None = []
 draw_words (Some n) = codes "draw" ∷ decimal n ∷ []
 
--- the words behind the verb
+-- the words after the verb
 abbrev pub args_of : ProgramText → Entry → List (List ℕ)
 args_of p (Enter o path) = object_text p o ∷ path_text path ∷ []
 args_of p (Exit o) = object_text p o ∷ []
@@ -146,7 +149,8 @@ name_spaceless w h = word_spaceless w (name_word w h)
 
 element_spaceless : (d : ObjectDef) (i : ℕ) (b : Bool) → d.array ≡ b → is_name d.name ≡ true → i < 2 ^ 46 → spaceless (element_text i (Some d)) ≡ true
 element_spaceless d i true a h lt =
-    rw (array_text d i a) (spaceless_append d.name (91 ∷ (decimal i ++ 93 ∷ [])) (name_spaceless d.name h) (spaceless_append (decimal i) (93 ∷ []) (decimal_spaceless i lt) refl))
+    rw (array_text d i a) (spaceless_append d.name (91 ∷ (decimal i ++ 93 ∷ []))
+    (name_spaceless d.name h) (spaceless_append (decimal i) (93 ∷ []) (decimal_spaceless i lt) refl))
 element_spaceless d i false a h lt = rw (single_text d i a) (name_spaceless d.name h)
 
 declared_spaceless : (p : ProgramText) (o : ℕ) → IsProgram p → o < declared_total p → spaceless (object_text p o) ≡ true
@@ -161,7 +165,8 @@ declared_spaceless p o h lt =
 thread_spaceless : (p : ProgramText) (t : ℕ) → IsProgram p → t < length p.threads → spaceless (thread_text p t) ≡ true
 thread_spaceless p t h lt =
     let within : t < length (map (λ d. d.name) p.threads) = omega (arith, lt, length-map p.threads (λ d. d.name)) in
-    rw (thread_name p.threads t) (name_spaceless (get_or (map (λ d. d.name) p.threads) t []) (nth_is_name (map (λ d. d.name) p.threads) t h.thread_names within))
+    rw (thread_name p.threads t) (name_spaceless (get_or (map (λ d. d.name) p.threads) t [])
+    (nth_is_name (map (λ d. d.name) p.threads) t h.thread_names within))
 
 object_spaceless : (p : ProgramText) (o : ℕ) → IsProgram p → HasNumber p o → spaceless (object_text p o) ≡ true
 object_spaceless p o h lt =
@@ -177,7 +182,8 @@ object_spaceless p o h lt =
 class_spaceless : (p : ProgramText) (c : ℕ) → IsProgram p → c < length p.classes → spaceless (class_name (slice_get p.classes c)) ≡ true
 class_spaceless p c h lt =
     let within : c < length (map (λ d. d.name) p.classes) = omega (arith, lt, length-map p.classes (λ d. d.name)) in
-    rw (class_at_name p.classes c) (name_spaceless (get_or (map (λ d. d.name) p.classes) c []) (nth_is_name (map (λ d. d.name) p.classes) c h.class_names within))
+    rw (class_at_name p.classes c)
+    (name_spaceless (get_or (map (λ d. d.name) p.classes) c []) (nth_is_name (map (λ d. d.name) p.classes) c h.class_names within))
 
 value_spaceless : (p : ProgramText) (v : Value) → IsProgram p → IsValueOf (numbers_total p) v → spaceless (value_text p v) ≡ true
 value_spaceless p Nil h valid = refl

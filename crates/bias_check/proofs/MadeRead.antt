@@ -1,5 +1,6 @@
 -- Objects and their words, of those that are declared and those that threads make.
-use Rattle.std.proofs.Common.{◌≡◌, ℕ, ◌+◌, ◌-◌, ◌*◌, ◌/◌, ◌%◌, ◌<◌, ◌≤◌, ◌^◌, ◌==◌, Bool, true, false, List, [], ◌∷◌, ◌++◌, length, map, take, drop, refl, ◌∙◌, ap, arith, inl, inr, append_assoc, codes, Option, Some, None}
+use Rattle.std.proofs.Common.{◌≡◌, ℕ, ◌+◌, ◌-◌, ◌*◌, ◌/◌, ◌%◌, ◌<◌, ◌≤◌, ◌^◌, ◌==◌, Bool, true, false, List, [], ◌∷◌, ◌++◌, length}
+use Rattle.std.proofs.Common.{map, take, drop, refl, ◌∙◌, ap, arith, inl, inr, append_assoc, codes, Option, Some, None}
 use Rattle.std.specs.Prelude.{decimal, nat_lt, position}
 use Rattle.std.proofs.Math.Seq.{take-append_seam, drop-append-add}
 use Rattle.std.proofs.lemmas.Bool.{cases_lt}
@@ -36,7 +37,7 @@ pub record IsMade (p : ProgramText) (o t k : ℕ) : Type 0 where
 dot_text : (a b : List ℕ) → (a ++ codes ".") ++ b ≡ a ++ 46 ∷ b
 dot_text a b = append_assoc a (codes ".") b
 
--- each number behind the declared ones is that of a thread
+-- each number after the declared ones is that of a thread
 pub made_by : (p : ProgramText) (o : ℕ) → declared_total p ≤ o → HasNumber p o → (t : ℕ) × (k : ℕ) × IsMade p o t k
 made_by p o late lt =
     let t = (o - declared_total p) / most_made in
@@ -67,7 +68,8 @@ text_at : (p : ProgramText) (a b t k : ℕ) (name digits w : List ℕ) → a ≡
 text_at p a b t k name digits w maker nth thread place cut = rw (maker, nth, thread, place, cut) refl
 
 -- the k-th object of a thread has this word
-made_word : (p : ProgramText) (t k o : ℕ) (name digits w : List ℕ) → IsThreadWord p name t → IsBelow most_made digits k → declared_total p + (most_made * t + k) ≡ o
+made_word : (p : ProgramText) (t k o : ℕ) (name digits w : List ℕ) → IsThreadWord p name t
+    → IsBelow most_made digits k → declared_total p + (most_made * t + k) ≡ o
     → w ≡ name ++ 46 ∷ digits → IsObjectWord p w o
 made_word p t k o name digits w thread place number cut =
     let maker = thread_back (declared_total p) t k o place.below number in
@@ -79,7 +81,8 @@ made_word p t k o name digits w thread place number cut =
       within = omega (arith, number, place.below, thread.within);
     }
 
-dotted_is : (p : ProgramText) (w : List ℕ) (o : ℕ) (end : Option ℕ) → IsProgram p → end ≡ position (λ b. b == 46) w → dotted_by (names_of p) w end ≡ Some o → IsObjectWord p w o
+dotted_is : (p : ProgramText) (w : List ℕ) (o : ℕ) (end : Option ℕ) → IsProgram p
+    → end ≡ position (λ b. b == 46) w → dotted_by (names_of p) w end ≡ Some o → IsObjectWord p w o
 dotted_is p w o None h at e =
     let is = undotted_is p w o h e in record { text = is.text; within = omega (arith, is.within) }
 dotted_is p w o (Some end) h at e =
@@ -98,7 +101,8 @@ object_is p w o h e = dotted_is p w o (position (λ b. b == 46) w) h refl e
 -- the word of a declared object has no dot
 element_dotless : (d : ObjectDef) (i : ℕ) (b : Bool) → d.array ≡ b → is_name d.name ≡ true → i < 2 ^ 64 → dotless (element_text i (Some d)) ≡ true
 element_dotless d i true a h lt =
-    rw (array_text d i a) (dotless_append d.name (91 ∷ (decimal i ++ 93 ∷ [])) (name_dotless d.name h) (dotless_append (decimal i) (93 ∷ []) (decimal_dotless i lt) refl))
+    rw (array_text d i a) (dotless_append d.name (91 ∷ (decimal i ++ 93 ∷ []))
+    (name_dotless d.name h) (dotless_append (decimal i) (93 ∷ []) (decimal_dotless i lt) refl))
 element_dotless d i false a h lt = rw (single_text d i a) (name_dotless d.name h)
 
 declared_dotless : (p : ProgramText) (o : ℕ) → IsProgram p → o < declared_total p → dotless (object_text p o) ≡ true
@@ -123,7 +127,8 @@ number_read : (p : ProgramText) (o t k : ℕ) → IsProgram p → IsMade p o t k
 number_read p o t k h made =
     let objects = h.objects_few in
     let threads = h.threads_few in
-    let small : nat_lt (declared_total p + (most_made * t + k)) (2 ^ 32) ≡ true = let few : declared_total p + (most_made * t + k) < 2 ^ 32 = omega (arith, objects, threads, made.thread, made.place) in grind (arith, nat_tests) in
+    let small : nat_lt (declared_total p + (most_made * t + k)) (2 ^ 32) ≡ true = let few : declared_total p + (most_made * t + k) < 2 ^ 32 =
+    omega (arith, objects, threads, made.thread, made.place) in grind (arith, nat_tests) in
     rw (thread_read p t h made.thread, below_read most_made k (omega (arith, made.place)) made.place, small) (ap Some made.number)
 
 -- the word of an object is read as it

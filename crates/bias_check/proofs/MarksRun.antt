@@ -1,5 +1,6 @@
 -- What the marks of objects say of their hash entries.
-use Rattle.std.proofs.Common.{◌≡◌, ℕ, ◌+◌, ◌≤◌, ◌==◌, ◌&&◌, ◌||◌, ◌⊎◌, Bool, true, false, not, if◌then◌else◌, List, [], ◌∷◌, ◌++◌, refl, ◌∙◌, arith, inl, inr, Option, Some, None}
+use Rattle.std.proofs.Common.{◌≡◌, ℕ, ◌+◌, ◌≤◌, ◌==◌, ◌&&◌, ◌||◌, ◌⊎◌, Bool, true, false, not, if◌then◌else◌}
+use Rattle.std.proofs.Common.{List, [], ◌∷◌, ◌++◌, refl, ◌∙◌, arith, inl, inr, Option, Some, None}
 use Rattle.std.specs.List.{list_all}
 use Rattle.std.proofs.lemmas.Bool.{and_parts}
 use Rattle.std.proofs.lemmas.Bool.Decides.{nat_tests}
@@ -40,7 +41,8 @@ other_push : (p : ℕ → Bool) (values : List ℕ) (v : ℕ) → p v ≡ false 
 other_push p values v k = list_all-append p values (v ∷ []) ∙ rw k (and_no (list_all p values))
 
 -- another value than the others
-differ_push : (values : List ℕ) (v w : ℕ) → has_none values ≡ false → list_all (λ u. v == u) values ≡ true → (v == w) ≡ false → all_same (values ++ w ∷ []) ≡ false
+differ_push : (values : List ℕ) (v w : ℕ) → has_none values ≡ false
+    → list_all (λ u. v == u) values ≡ true → (v == w) ≡ false → all_same (values ++ w ∷ []) ≡ false
 differ_push [] v w h k e = absurd (cc h)
 differ_push (u ∷ us) v w h k e =
     let parts = and_parts (v == u) (list_all (λ u. v == u) us) k in
@@ -80,12 +82,13 @@ bad_push : (values : List ℕ) (draws : ℕ) (right : Bool) (w : ℕ) (drawn : O
     → IsMark (values ++ w ∷ []) (draws + draw_count drawn) (right && draw_right drawn) Bad
 bad_push values draws right w drawn h = (some_push values w, by_why h.1)
   where
-    by_why : ((all_same values ≡ false) ⊎ ((2 ≤ draws) ⊎ (right ≡ false))) → ((all_same (values ++ w ∷ []) ≡ false) ⊎ ((2 ≤ draws + draw_count drawn) ⊎ ((right && draw_right drawn) ≡ false)))
+    by_why : ((all_same values ≡ false) ⊎ ((2 ≤ draws) ⊎ (right ≡ false)))
+        → ((all_same (values ++ w ∷ []) ≡ false) ⊎ ((2 ≤ draws + draw_count drawn) ⊎ ((right && draw_right drawn) ≡ false)))
     by_why (inl apart) = inl (stays_apart values w apart)
     by_why (inr (inl many)) = inr (inl (omega (arith, many)))
     by_why (inr (inr wrong)) = inr (inr (rw wrong refl))
 
--- the mark behind one more hash entry
+-- the mark after one more hash entry
 pub mark_push : (values : List ℕ) (draws : ℕ) (right : Bool) (mark : Mark) (v : ℕ) (drawn : Option Bool) → IsMark values draws right mark
     → IsMark (values ++ v ∷ []) (draws + draw_count drawn) (right && draw_right drawn) (marked mark v drawn)
 mark_push values draws right Unseen v drawn h = first_push values draws right v drawn (rw h.0 refl) h.1 h.2

@@ -59,7 +59,8 @@ count_is w n h = counted 0 (2 ^ 32 - 1) w n h
 
 pub count_read : (n : ℕ) → n < 2 ^ 32 → count_in (decimal n) ≡ Some n
 count_read n h =
-    ap (λ o. option_map nat_abs o) (int_read (pos 0) (pos (2 ^ 32 - 1)) (pos n) (small_in_range n (omega (arith, h))) (count_within 0 (2 ^ 32 - 1) n (omega arith) (omega (arith, h))))
+    ap (λ o. option_map nat_abs o) (int_read (pos 0) (pos (2 ^ 32 - 1)) (pos n)
+    (small_in_range n (omega (arith, h))) (count_within 0 (2 ^ 32 - 1) n (omega arith) (omega (arith, h))))
 
 pub record IsBelow (limit : ℕ) (w : List ℕ) (n : ℕ) : Type 0 where
   pub text : decimal n ≡ w
@@ -94,4 +95,5 @@ stamp_is (b ∷ digits) s h = stamp_by b digits s (nat_eq b 64) refl h
 
 pub stamp_read : (s : ℕ) → s < 2 ^ 46 → stamp_in (64 ∷ decimal s) ≡ Some s
 stamp_read s h =
-    ap (λ o. option_map nat_abs o) (int_read (pos 0) (pos (2 ^ 46 - 1)) (pos s) (small_in_range s h) (count_within 0 (2 ^ 46 - 1) s (omega arith) (omega (arith, h))))
+    ap (λ o. option_map nat_abs o)
+    (int_read (pos 0) (pos (2 ^ 46 - 1)) (pos s) (small_in_range s h) (count_within 0 (2 ^ 46 - 1) s (omega arith) (omega (arith, h))))

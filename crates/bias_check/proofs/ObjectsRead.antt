@@ -1,5 +1,6 @@
 -- Declared objects and their words.
-use Rattle.std.proofs.Common.{◌≡◌, ℕ, zero, suc, ◌+◌, ◌-◌, ◌<◌, ◌≤◌, ◌^◌, ◌==◌, ◌&&◌, ◌||◌, Bool, true, false, List, [], ◌∷◌, ◌++◌, length, map, take, drop, refl, sym, ◌∙◌, ap, arith, append_assoc, append-nil, length-append, codes, slice_get, Option, Some, None}
+use Rattle.std.proofs.Common.{◌≡◌, ℕ, zero, suc, ◌+◌, ◌-◌, ◌<◌, ◌≤◌, ◌^◌, ◌==◌, ◌&&◌, ◌||◌, Bool, true, false, List, [], ◌∷◌, ◌++◌, length, map, take}
+use Rattle.std.proofs.Common.{drop, refl, sym, ◌∙◌, ap, arith, append_assoc, append-nil, length-append, codes, slice_get, Option, Some, None}
 use Rattle.std.specs.Prelude.{decimal, nat_lt, position}
 use Rattle.std.specs.List.{position_or_len}
 use Rattle.std.proofs.Math.Seq.{take-append_seam, drop-append-add}
@@ -46,7 +47,8 @@ found_at classes m k (e ∷ es) (suc n) i d h at lt =
     (omega (arith, ih.0), omega (arith, ih.1), rw past (ih.2 ∙ ap (λ (x : ℕ). (x, i)) (omega arith)))
 
 -- each object stands somewhere
-stands_by : (classes m k : ℕ) (e : ObjectDef) (es : List ObjectDef) (o : ℕ) (b : Bool) → has_object e o ≡ b → AreObjects classes m (e ∷ es) → m ≤ o → o < m + total_of (e ∷ es)
+stands_by : (classes m k : ℕ) (e : ObjectDef) (es : List ObjectDef) (o : ℕ) (b : Bool)
+    → has_object e o ≡ b → AreObjects classes m (e ∷ es) → m ≤ o → o < m + total_of (e ∷ es)
     → (m + e.size ≤ o → o < m + e.size + total_of es → (n : ℕ) × (i : ℕ) × (d : ObjectDef) × StandsAt (k + 1) es o n i d)
     → (n : ℕ) × (i : ℕ) × (d : ObjectDef) × StandsAt k (e ∷ es) o n i d
 stands_by classes m k e es o true b h low high ih =
@@ -120,14 +122,15 @@ cut_by c x xs false e h ih =
     let t : suc n + 1 ≡ suc (n + 1) = omega arith in
     rw (e, s, t) (ap (λ ys. x ∷ ys) (ih (omega (arith, k))))
 
-cut : (c : ℕ) (xs : List ℕ) → position_or_len (λ b. b == c) xs < length xs → xs ≡ take (position_or_len (λ b. b == c) xs) xs ++ c ∷ drop (position_or_len (λ b. b == c) xs + 1) xs
+cut : (c : ℕ) (xs : List ℕ) → position_or_len (λ b. b == c) xs < length xs
+    → xs ≡ take (position_or_len (λ b. b == c) xs) xs ++ c ∷ drop (position_or_len (λ b. b == c) xs + 1) xs
 cut c [] h = absurd (omega (arith, h))
 cut c (x ∷ xs) h = cut_by c x xs (x == c) refl h (cut c xs)
 
 pub cut_at : (c : ℕ) (xs : List ℕ) (k : ℕ) → Some k ≡ position (λ b. b == c) xs → xs ≡ take k xs ++ c ∷ drop (k + 1) xs
 cut_at c xs k h = let t = first_at (λ b. b == c) xs k h in rw t.same (cut c xs t.less)
 
--- the word that a name and what stands behind its bracket make
+-- the word that a name and what stands after its bracket make
 abbrev pub WordOf : List ℕ → Option (List ℕ) → List ℕ → Type 0
 WordOf name None w = w ≡ name
 WordOf name (Some index) w = w ≡ name ++ 91 ∷ index
@@ -149,7 +152,8 @@ pub record IsDeclaredWord (p : ProgramText) (w : List ℕ) (o : ℕ) : Type 0 wh
   pub within : o < declared_total p
 
 -- element i of a declaration is the object with this word
-element_word : (p : ProgramText) (n i o : ℕ) (d : ObjectDef) (w : List ℕ) → IsProgram p → slice_get p.objects n ≡ Some d → i < d.size → d.first + i ≡ o → element_text i (Some d) ≡ w → IsDeclaredWord p w o
+element_word : (p : ProgramText) (n i o : ℕ) (d : ObjectDef) (w : List ℕ) → IsProgram p
+    → slice_get p.objects n ≡ Some d → i < d.size → d.first + i ≡ o → element_text i (Some d) ≡ w → IsDeclaredWord p w o
 element_word p n i o d w h at lt same text =
     let r = found_at (length p.classes) 0 0 p.objects n i d h.objects at lt in
     let place : place_of p o ≡ (0 + n, i) = rw (← same) r.2 in
@@ -157,7 +161,8 @@ element_word p n i o d w h at lt same text =
     let within : o < declared_total p = omega (arith, same, r.1) in
     record { text = text_of_declared p o within ∙ rw (place, number, at) text; within = within }
 
-single_is : (p : ProgramText) (name : List ℕ) (o : ℕ) (d : ObjectDef) (n : ℕ) (b : Bool) → d.array ≡ b → IsProgram p → slice_get p.objects n ≡ Some d → d.name ≡ name
+single_is : (p : ProgramText) (name : List ℕ) (o : ℕ) (d : ObjectDef) (n : ℕ) (b : Bool)
+    → d.array ≡ b → IsProgram p → slice_get p.objects n ≡ Some d → d.name ≡ name
     → element_of d None ≡ Some o → IsDeclaredWord p name o
 single_is p name o d n true a h at named e = absurd (cc (rw a at e))
 single_is p name o d n false a h at named e =
@@ -165,7 +170,8 @@ single_is p name o d n false a h at named e =
     let some = (AreObjects_at (length p.classes) 0 p.objects n d h.objects at).some in
     element_word p n 0 o d name h at (omega (arith, some)) (omega (arith, first)) (single_text d 0 a ∙ named)
 
-array_is : (p : ProgramText) (name index : List ℕ) (o : ℕ) (d : ObjectDef) (n : ℕ) (b : Bool) → d.array ≡ b → IsProgram p → slice_get p.objects n ≡ Some d → d.name ≡ name
+array_is : (p : ProgramText) (name index : List ℕ) (o : ℕ) (d : ObjectDef) (n : ℕ) (b : Bool)
+    → d.array ≡ b → IsProgram p → slice_get p.objects n ≡ Some d → d.name ≡ name
     → element_of d (Some index) ≡ Some o → IsDeclaredWord p (name ++ 91 ∷ index) o
 array_is p name index o d n false a h at named e = absurd (cc (rw a at e))
 array_is p name index o d n true a h at named e =
@@ -187,7 +193,8 @@ element_is p name (Some index) w o h e word =
     let at = declared_is p name d some in
     rw word (array_is p name index o d at.number d.array refl h at.at at.named f))
 
-object_by_is : (p : ProgramText) (w : List ℕ) (o : ℕ) (end : Option ℕ) → IsProgram p → end ≡ position (λ b. b == 91) w → object_by (names_of p) w end ≡ Some o → IsDeclaredWord p w o
+object_by_is : (p : ProgramText) (w : List ℕ) (o : ℕ) (end : Option ℕ) → IsProgram p
+    → end ≡ position (λ b. b == 91) w → object_by (names_of p) w end ≡ Some o → IsDeclaredWord p w o
 object_by_is p w o None h at e = element_is p w None w o h e refl
 object_by_is p w o (Some k) h at e =
     element_is p (take k w) (Some (drop (k + 1) w)) w o h e (cut_at 91 w k at)
@@ -205,7 +212,8 @@ object_is_name p n d h at =
 no_bracket : (b : ℕ) → (is_letter b || is_digit b) ≡ true → (b == 91) ≡ false
 no_bracket b h = grind (arith, nat_tests)
 
-bracketless : (bs : List ℕ) → list_all (λ c. is_letter c || is_digit c) bs ≡ true → (rest : List ℕ) → position_or_len (λ b. b == 91) (bs ++ rest) ≡ length bs + position_or_len (λ b. b == 91) rest
+bracketless : (bs : List ℕ) → list_all (λ c. is_letter c || is_digit c) bs ≡ true → (rest : List ℕ)
+    → position_or_len (λ b. b == 91) (bs ++ rest) ≡ length bs + position_or_len (λ b. b == 91) rest
 bracketless [] h rest = omega arith
 bracketless (b ∷ bs) h rest =
     let parts = and_parts (is_letter b || is_digit b) (list_all (λ c. is_letter c || is_digit c) bs) h in
@@ -232,7 +240,8 @@ array_position name rest h =
     let less : nat_lt (length name) (length (name ++ 91 ∷ rest)) ≡ true = let n = length-append name (91 ∷ rest) in grind (arith, nat_tests) in
     rw (same, less) refl
 
-single_read : (p : ProgramText) (n i : ℕ) (d : ObjectDef) → IsProgram p → slice_get p.objects n ≡ Some d → i < d.size → d.array ≡ false → undotted_in (names_of p) (element_text i (Some d)) ≡ Some (d.first + i)
+single_read : (p : ProgramText) (n i : ℕ) (d : ObjectDef) → IsProgram p → slice_get p.objects n ≡ Some d
+    → i < d.size → d.array ≡ false → undotted_in (names_of p) (element_text i (Some d)) ≡ Some (d.first + i)
 single_read p n i d h at lt a =
     let good = AreObjects_at (length p.classes) 0 p.objects n d h.objects at in
     let one : d.size ≡ 1 = good.single a in
@@ -242,15 +251,16 @@ single_read p n i d h at lt a =
 array_read : (p : ProgramText) (n i : ℕ) (d : ObjectDef) → IsProgram p → slice_get p.objects n ≡ Some d → i < d.size → d.array ≡ true → d.first + i < 2 ^ 32
     → undotted_in (names_of p) (element_text i (Some d)) ≡ Some (d.first + i)
 array_read p n i d h at lt a fits =
-    let behind = decimal i ++ 93 ∷ [] in
-    let front : take (length d.name) (d.name ++ 91 ∷ behind) ≡ d.name = take-append_seam d.name (91 ∷ behind) in
-    let back : drop (length d.name + 1) (d.name ++ 91 ∷ behind) ≡ behind = drop-append-add d.name (91 ∷ behind) 1 in
-    let digits : unbracketed behind ≡ Some (decimal i) = last_byte 93 (decimal i) 93 in
+    let after = decimal i ++ 93 ∷ [] in
+    let front : take (length d.name) (d.name ++ 91 ∷ after) ≡ d.name = take-append_seam d.name (91 ∷ after) in
+    let back : drop (length d.name + 1) (d.name ++ 91 ∷ after) ≡ after = drop-append-add d.name (91 ∷ after) 1 in
+    let digits : unbracketed after ≡ Some (decimal i) = last_byte 93 (decimal i) 93 in
     let count = below_read d.size i (omega (arith, fits)) lt in
     let small : nat_lt (d.first + i) (2 ^ 32) ≡ true = grind (arith, nat_tests) in
-    rw (array_text d i a, array_position d.name behind (object_is_name p n d h at), front, back, declared_read p n d h at, a, digits, count, small) refl
+    rw (array_text d i a, array_position d.name after (object_is_name p n d h at), front, back, declared_read p n d h at, a, digits, count, small) refl
 
-read_by : (p : ProgramText) (n i : ℕ) (d : ObjectDef) (b : Bool) → IsProgram p → slice_get p.objects n ≡ Some d → i < d.size → d.array ≡ b → d.first + i < 2 ^ 32
+read_by : (p : ProgramText) (n i : ℕ) (d : ObjectDef) (b : Bool) → IsProgram p
+    → slice_get p.objects n ≡ Some d → i < d.size → d.array ≡ b → d.first + i < 2 ^ 32
     → undotted_in (names_of p) (element_text i (Some d)) ≡ Some (d.first + i)
 read_by p n i d true h at lt a fits = array_read p n i d h at lt a fits
 read_by p n i d false h at lt a fits = single_read p n i d h at lt a

@@ -1,5 +1,6 @@
 -- A run's entries split into legal logs.
-use Rattle.std.proofs.Common.{◌≡◌, ℕ, zero, suc, ◌<◌, ◌≤◌, ◌==◌, Bool, true, false, List, [], ◌∷◌, ◌++◌, length, replicate, refl, sym, subst, ◌∙◌, ap, arith, append_assoc, append-nil, Option, Some, None}
+use Rattle.std.proofs.Common.{◌≡◌, ℕ, zero, suc, ◌<◌, ◌≤◌, ◌==◌, Bool, true, false, List, [], ◌∷◌, ◌++◌, length, replicate}
+use Rattle.std.proofs.Common.{refl, sym, subst, ◌∙◌, ap, arith, append_assoc, append-nil, Option, Some, None}
 use Rattle.std.specs.List.{AllByRecursion}
 use Rattle.std.proofs.lemmas.Bool.Decides.{nat_tests}
 use Rattle.std.proofs.lemmas.List.{length-set, length-replicate}
@@ -12,7 +13,7 @@ use Rattle.plain_monitor.proofs.Merging.{empty_order}
 use Rattle.plain_monitor.proofs.Threads.{thread_kept}
 use Rattle.object_program.specs.Program.{ProgramText}
 use Rattle.plain_machine.specs.Machine.{PlainMachine, new_machine}
-use Rattle.plain_machine.specs.Legal.{behind_all, machine_after}
+use Rattle.plain_machine.specs.Legal.{after_all, machine_after}
 use Rattle.bias_check.specs.Steps.{IsAbove, IsRun}
 use Rattle.bias_check.specs.Logs.{SplitsIntoLegalLogs}
 
@@ -33,7 +34,7 @@ not_after x y h = grind (arith, nat_tests)
 not_before_itself : (x : ℕ × Logged) → is_before x x ≡ false
 not_before_itself x = grind (arith, nat_tests)
 
--- an entry behind all others goes last
+-- an entry after all others goes last
 insert_last : (x : ℕ × Logged) (ys : List (ℕ × Logged)) → AllBefore x ys → insert_ordered x ys ≡ ys ++ x ∷ []
 insert_last x [] h = refl
 insert_last x (y ∷ ys) h = rw (not_after x y h.0) (ap (λ (zs : List (ℕ × Logged)). y ∷ zs) (insert_last x ys h.1))
@@ -51,12 +52,13 @@ last_lower : (x : ℕ × Logged) (ys : List (ℕ × Logged)) (n : ℕ) → AllBe
 last_lower x [] n h lt = lt
 last_lower x (y ∷ ys) n h lt = stamps_by x y ys n (y.0 == x.0) refl h lt (λ k g. last_lower x ys k h.1 g)
 
--- logs with one more entry, behind all others
+-- logs with one more entry, after all others
 pub record GoesOn (logs : List (List Logged)) (x : ℕ × Logged) : Type 0 where
   pub rises : AllByRecursion (RisesAbove 0) (appended logs x.0 x.1)
   pub ordered : order (appended logs x.0 x.1) ≡ order logs ++ x ∷ []
 
-goes_last : (logs : List (List Logged)) (x : ℕ × Logged) → AllByRecursion (RisesAbove 0) logs → x.0 < length logs → 1 ≤ x.1.stamp → AllBefore x (order logs) → GoesOn logs x
+goes_last : (logs : List (List Logged)) (x : ℕ × Logged) → AllByRecursion (RisesAbove 0) logs
+    → x.0 < length logs → 1 ≤ x.1.stamp → AllBefore x (order logs) → GoesOn logs x
 goes_last logs x rises within above before =
     let lower : last_above 0 (of_thread x.0 (order logs)) < x.1.stamp = last_lower x (order logs) 0 before (omega (arith, above)) in
     let last : last_stamp (log_of logs x.0) < x.1.stamp = subst (λ (log : List Logged). last_above 0 log < x.1.stamp) (thread_kept logs x.0 rises) lower in
@@ -65,7 +67,7 @@ goes_last logs x rises within above before =
       ordered = order_appended logs x.0 x.1 rises within last ∙ insert_last x (order logs) before;
     }
 
--- the entry before, if there is one, stands behind all of these
+-- the entry before, if there is one, stands after all of these
 abbrev pub IsEnd : Option (ℕ × Logged) → List (ℕ × Logged) → Type 0
 IsEnd None ys = ys ≡ []
 IsEnd (Some b) ys = AllUpTo b ys
@@ -87,20 +89,22 @@ from_one (Some b) x low above = grind (arith, nat_tests)
 
 up_to : (x : ℕ × Logged) (ys : List (ℕ × Logged)) → AllBefore x ys → AllUpTo x (ys ++ x ∷ [])
 up_to x ys h =
-    all_push (λ y. is_before x y ≡ false) ys x (all_weaker (λ y. is_before y x ≡ true) (λ y. is_before x y ≡ false) (λ y k. not_after x y k) ys h) (not_before_itself x)
+    all_push (λ y. is_before x y ≡ false) ys x
+    (all_weaker (λ y. is_before y x ≡ true) (λ y. is_before x y ≡ false) (λ y k. not_after x y k) ys h) (not_before_itself x)
 
--- the logs behind all entries
-abbrev pub logs_behind : List (List Logged) → List (ℕ × Logged) → List (List Logged)
-logs_behind logs [] = logs
-logs_behind logs (x ∷ xs) = logs_behind (appended logs x.0 x.1) xs
+-- the logs after all entries
+abbrev pub logs_after : List (List Logged) → List (ℕ × Logged) → List (List Logged)
+logs_after logs [] = logs
+logs_after logs (x ∷ xs) = logs_after (appended logs x.0 x.1) xs
 
 pub record AreLogsOf (threads : ℕ) (entries : List (ℕ × Logged)) (logs : List (List Logged)) : Type 0 where
   pub counted : length logs ≡ threads
   pub rises : AllByRecursion (RisesAbove 0) logs
   pub ordered : order logs ≡ entries
 
-logs_of_run : (p : ProgramText) (before : Option (ℕ × Logged)) (m n : PlainMachine) (lines : List (List ℕ)) (xs done : List (ℕ × Logged)) (logs : List (List Logged)) → IsRun p before m lines xs n
-    → AreLogsOf (length p.threads) done logs → IsEnd before done → IsFromOne before → AreLogsOf (length p.threads) (done ++ xs) (logs_behind logs xs)
+logs_of_run : (p : ProgramText) (before : Option (ℕ × Logged)) (m n : PlainMachine) (lines : List (List ℕ))
+    (xs done : List (ℕ × Logged)) (logs : List (List Logged)) → IsRun p before m lines xs n
+    → AreLogsOf (length p.threads) done logs → IsEnd before done → IsFromOne before → AreLogsOf (length p.threads) (done ++ xs) (logs_after logs xs)
 logs_of_run p before m n [] [] done logs run a end low = rw append-nil a
 logs_of_run p before m n [] (x ∷ xs) done logs run a end low = absurd run
 logs_of_run p before m n (line ∷ lines) [] done logs run a end low = absurd run
@@ -115,10 +119,11 @@ logs_of_run p before m n (line ∷ lines) (x ∷ xs) done logs run a end low =
       ordered = on.ordered ∙ ap (λ (ys : List (ℕ × Logged)). ys ++ x ∷ []) a.ordered;
     } in
     let rest = logs_of_run p (Some x) run.0 n lines xs (done ++ x ∷ []) (appended logs x.0 x.1) run.2 next (up_to x done first) positive in
-    subst (λ (ys : List (ℕ × Logged)). AreLogsOf (length p.threads) ys (logs_behind (appended logs x.0 x.1) xs)) (append_assoc done (x ∷ []) xs) rest
+    subst (λ (ys : List (ℕ × Logged)). AreLogsOf (length p.threads) ys (logs_after (appended logs x.0 x.1) xs)) (append_assoc done (x ∷ []) xs) rest
 
 -- the machine takes the entries of a run
-run_taken : (p : ProgramText) (before : Option (ℕ × Logged)) (m n : PlainMachine) (lines : List (List ℕ)) (xs : List (ℕ × Logged)) → IsRun p before m lines xs n → behind_all m xs ≡ Some n
+run_taken : (p : ProgramText) (before : Option (ℕ × Logged)) (m n : PlainMachine) (lines : List (List ℕ)) (xs : List (ℕ × Logged))
+    → IsRun p before m lines xs n → after_all m xs ≡ Some n
 run_taken p before m n [] [] run = ap Some (sym run)
 run_taken p before m n [] (x ∷ xs) run = absurd run
 run_taken p before m n (line ∷ lines) [] run = absurd run
@@ -136,12 +141,15 @@ first_logs n = record {
   ordered = empty_order (replicate n []) (empty_logs n);
 }
 
-pub run_splits : (p : ProgramText) (fuel : ℕ) (lines : List (List ℕ)) (entries : List (ℕ × Logged)) (machine : PlainMachine) → IsRun p None (new_machine p fuel) lines entries machine
+pub run_splits : (p : ProgramText) (fuel : ℕ) (lines : List (List ℕ)) (entries : List (ℕ × Logged)) (machine : PlainMachine)
+    → IsRun p None (new_machine p fuel) lines entries machine
     → SplitsIntoLegalLogs p fuel entries machine
 run_splits p fuel lines entries machine run =
-    let logs = logs_behind (replicate (length p.threads) []) entries in
-    let a : AreLogsOf (length p.threads) entries logs = logs_of_run p None (new_machine p fuel) machine lines entries [] (replicate (length p.threads) []) run (first_logs (length p.threads)) refl tt in
-    let under : machine_after p fuel logs ≡ Some machine = ap (behind_all (new_machine p fuel)) a.ordered ∙ run_taken p None (new_machine p fuel) machine lines entries run in
+    let logs = logs_after (replicate (length p.threads) []) entries in
+    let a : AreLogsOf (length p.threads) entries logs = logs_of_run p None (new_machine p fuel) machine lines entries []
+    (replicate (length p.threads) []) run (first_logs (length p.threads)) refl tt in
+    let under : machine_after p fuel logs ≡ Some machine =
+    ap (after_all (new_machine p fuel)) a.ordered ∙ run_taken p None (new_machine p fuel) machine lines entries run in
     record {
       logs = logs;
       threads = a.counted;

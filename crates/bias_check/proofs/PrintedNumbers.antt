@@ -1,5 +1,6 @@
 -- Which words of numbers are written as numbers are printed.
-use Rattle.std.proofs.Common.{◌≡◌, ◌≢◌, ℕ, zero, suc, ◌+◌, ◌-◌, ◌*◌, ◌^◌, ◌<◌, ◌≤◌, Bool, true, false, List, [], ◌∷◌, length, get_or, refl, sym, ap, subst, ◌∙◌, arith, lit<, ℤ, pos, bytes_eq, Some}
+use Rattle.std.proofs.Common.{◌≡◌, ◌≢◌, ℕ, zero, suc, ◌+◌, ◌-◌, ◌*◌, ◌^◌, ◌<◌, ◌≤◌, Bool, true, false, List, [], ◌∷◌}
+use Rattle.std.proofs.Common.{length, get_or, refl, sym, ap, subst, ◌∙◌, arith, lit<, ℤ, pos, bytes_eq, Some}
 use Rattle.std.specs.Prelude.{◌&&◌, not, decimal, nat_eq, nat_le, neg_ℤ}
 use Rattle.std.specs.Fmt.{signed_decimal}
 use Rattle.std.specs.Str.Parse.{AllDigits, digits_value_after}
@@ -12,7 +13,7 @@ use Rattle.std.proofs.lemmas.Str.{digit_value_digit}
 use Rattle.std.proofs.lemmas.Str.Parse.{numerals_by_value, tells_digits}
 use Rattle.std.proofs.Math.Nat.{pow-le-pow_right}
 use Rattle.object_program.specs.Name.{is_digit}
-use Rattle.program_syntax.specs.Number.{number_behind, digits_of, number_of}
+use Rattle.program_syntax.specs.Number.{number_after, digits_of, number_of}
 use Rattle.program_syntax.proofs.CanonicalNames.{same_bytes}
 use Rattle.bias_check.specs.inner.Printed.{is_printed}
 use Rattle.bias_check.proofs.Options.{mapped}
@@ -26,8 +27,8 @@ record HasValue (k : ℕ) (ds : List ℕ) (n : ℕ) : Type 0 where
 digit_bounds : (b : ℕ) → is_digit b ≡ true → (48 ≤ b) × (b ≤ 57)
 digit_bounds b h = (grind (arith, nat_tests), grind (arith, nat_tests))
 
-value_by : (k b : ℕ) (ds : List ℕ) (n : ℕ) (t : Bool) → is_digit b ≡ t → number_behind k (b ∷ ds) ≡ Some n
-    → (number_behind (10 * k + (b - 48)) ds ≡ Some n → HasValue (10 * k + (b - 48)) ds n) → HasValue k (b ∷ ds) n
+value_by : (k b : ℕ) (ds : List ℕ) (n : ℕ) (t : Bool) → is_digit b ≡ t → number_after k (b ∷ ds) ≡ Some n
+    → (number_after (10 * k + (b - 48)) ds ≡ Some n → HasValue (10 * k + (b - 48)) ds n) → HasValue k (b ∷ ds) n
 value_by k b ds n true e h ih =
     let r = ih (rw e at h) in
     let bounds = digit_bounds b e in
@@ -36,7 +37,7 @@ value_by k b ds n true e h ih =
     record { digits = (omega (arith, same, bounds.0, bounds.1), r.digits); value = ap (λ m. digits_value_after 10 m ds) at ∙ r.value }
 value_by k b ds n false e h ih = absurd (cc (rw e at h))
 
-value_of : (k : ℕ) (ds : List ℕ) (n : ℕ) → number_behind k ds ≡ Some n → HasValue k ds n
+value_of : (k : ℕ) (ds : List ℕ) (n : ℕ) → number_after k ds ≡ Some n → HasValue k ds n
 value_of k [] n h = record { digits = tt; value = cc }
 value_of k (b ∷ ds) n h = value_by k b ds n (is_digit b) refl h (value_of (10 * k + (b - 48)) ds n)
 
@@ -92,7 +93,7 @@ digits_printed [] n h = absurd (let k = h.some in omega (arith, k))
 digits_printed (a ∷ []) n h = rw (printed_unled (a ∷ []) n h (λ k. refl)) (same_bytes (a ∷ []))
 digits_printed (a ∷ b ∷ bs) n h = digits_by a b bs n (nat_eq a 48) refl h
 
--- behind a sign no zero leads, and a zero has no sign
+-- after a sign no zero leads, and a zero has no sign
 signed_by : (b : ℕ) (bs : List ℕ) (n : ℕ) (t : Bool) → nat_eq b 48 ≡ t → IsNumber (b ∷ bs) (suc n) → bytes_eq (decimal (suc n)) (b ∷ bs) ≡ not t
 signed_by b bs n true e h =
     let first = first_decimal (suc n) (omega arith) h.small in

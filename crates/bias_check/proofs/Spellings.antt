@@ -6,7 +6,8 @@ use Rattle.std.proofs.lemmas.Slice.Eq.{bytes_eq-Decides}
 use Rattle.plain_monitor.specs.declared.entry.Path.{Path}
 use Rattle.plain_monitor.specs.declared.entry.Path.TheVariants.{BiasOwn, BiasTaken, StackFirst, StackAgain, MonitorFirst, MonitorAgain}
 use Rattle.plain_monitor.specs.declared.entry.Fault.{Fault}
-use Rattle.plain_monitor.specs.declared.entry.Fault.TheVariants.{IllegalMonitorState, Unguarded, NotRef, NotInt, Range, Overflow, TooDeep, TooManyDumps, TooMany}
+use Rattle.plain_monitor.specs.declared.entry.Fault.TheVariants.{IllegalMonitorState, Unguarded, NotRef, NotInt}
+use Rattle.plain_monitor.specs.declared.entry.Fault.TheVariants.{Range, Overflow, TooDeep, TooManyDumps, TooMany}
 use Rattle.lock_journal.specs.Words.{path_text, fault_text}
 use Rattle.bias_check.specs.declared.spelled.Verb.{Verb}
 use Rattle.bias_check.specs.declared.spelled.Verb.TheVariants as verb
@@ -26,14 +27,16 @@ spelled_by {X} P s w x rest true e h here ih =
 spelled_by P s w x rest false e h here ih = ih h
 
 -- what holds of each spelling holds of the word that was found
-spelled_is : {X : Type 0} (P : List ℕ → X → Type 0) (table : List (List ℕ × X)) (w : List ℕ) (x : X) → AllByRecursion (λ s. P s.0 s.1) table → spelled_among table w ≡ Some x → P w x
+spelled_is : {X : Type 0} (P : List ℕ → X → Type 0) (table : List (List ℕ × X)) (w : List ℕ) (x : X)
+    → AllByRecursion (λ s. P s.0 s.1) table → spelled_among table w ≡ Some x → P w x
 spelled_is P [] w x all h = absurd (cc h)
 spelled_is P (s ∷ ss) w x all h =
     spelled_by P s w x (spelled_among ss w) (bytes_eq s.0 w) refl h all.0 (λ k. spelled_is P ss w x all.1 k)
 
 pub verb_is : (w : List ℕ) (v : Verb) → spelled_among verbs w ≡ Some v → verb_text v ≡ w
 verb_is w v h =
-    spelled_is (λ (w : List ℕ) (v : Verb). verb_text v ≡ w) verbs w v (refl, (refl, (refl, (refl, (refl, (refl, (refl, (refl, (refl, (refl, (refl, (refl, (refl, (refl, (refl, tt))))))))))))))) h
+    spelled_is (λ (w : List ℕ) (v : Verb). verb_text v ≡ w) verbs w v
+    (refl, (refl, (refl, (refl, (refl, (refl, (refl, (refl, (refl, (refl, (refl, (refl, (refl, (refl, (refl, tt))))))))))))))) h
 
 pub path_is : (w : List ℕ) (v : Path) → spelled_among paths w ≡ Some v → path_text v ≡ w
 path_is w v h =

@@ -1,4 +1,4 @@
--- How the threads stand behind the last line.
+-- How the threads stand after the last line.
 use Rattle.std.proofs.Common.{◌≡◌, ℕ, zero, suc, ◌+◌, ◌<◌, Bool, false, not, List, [], ◌∷◌, length, drop, refl, arith, add-one, Option, Some, None, slice_get}
 use Rattle.std.specs.Prelude.{option_and_then}
 use Rattle.std.specs.List.{list_all}

@@ -1,5 +1,6 @@
 -- What is read of a line is what the line tells.
-use Rattle.std.proofs.Common.{◌≡◌, ℕ, ◌-◌, ◌^◌, ◌⊎◌, Bool, true, false, List, [], ◌∷◌, ◌++◌, refl, sym, ◌∙◌, ap, arith, inl, inr, codes, bytes_eq, Option, Some, None}
+use Rattle.std.proofs.Common.{◌≡◌, ℕ, ◌-◌, ◌^◌, ◌⊎◌, Bool, true, false, List, [], ◌∷◌, ◌++◌, refl}
+use Rattle.std.proofs.Common.{sym, ◌∙◌, ap, arith, inl, inr, codes, bytes_eq, Option, Some, None}
 use Rattle.std.specs.Prelude.{option_map}
 use Rattle.std.specs.List.{join_with_byte}
 use Rattle.std.proofs.lemmas.Option.{same_Some}
@@ -7,7 +8,8 @@ use Rattle.std.proofs.lemmas.List.Splits.{join_with_byte-slice_split}
 use Rattle.plain_monitor.specs.declared.entry.Value.{Value}
 use Rattle.plain_monitor.specs.declared.entry.Value.TheVariants.{Nil, Ref}
 use Rattle.plain_monitor.specs.declared.entry.Entry.{Entry}
-use Rattle.plain_monitor.specs.declared.entry.Entry.TheVariants.{Enter, Exit, Get, Put, Wait, Resume, Notify, NotifyAll, Hash, New, Print, Dump, Trap, Spent, Done}
+use Rattle.plain_monitor.specs.declared.entry.Entry.TheVariants.{Enter, Exit, Get, Put, Wait, Resume, Notify, NotifyAll}
+use Rattle.plain_monitor.specs.declared.entry.Entry.TheVariants.{Hash, New, Print, Dump, Trap, Spent, Done}
 use Rattle.plain_monitor.specs.declared.entry.Logged.{Logged}
 use Rattle.object_program.specs.Program.{ProgramText}
 use Rattle.object_program.specs.Valid.{IsProgram}
@@ -21,7 +23,9 @@ use Rattle.program_syntax.specs.Line.{spelled_among}
 use Rattle.bias_check.specs.inner.Spelled.{verb_text, verbs, paths, faults}
 use Rattle.bias_check.specs.inner.Words.{unended, words_of}
 use Rattle.bias_check.specs.Lines.{IsEntryIn, Tells}
-use Rattle.bias_check.specs.inner.Table.{names_of, thread_in, class_in, object_in, count_in, stamp_in, value_in, woken_in, sure, print_read, notify_read, get_read, put_read, none_told, one_told, two_told, slot_told, three_told, four_told, told, read_words, read_line}
+use Rattle.bias_check.specs.inner.Table.{names_of, thread_in, class_in, object_in, count_in, stamp_in, value_in, woken_in}
+use Rattle.bias_check.specs.inner.Table.{sure, print_read, notify_read, get_read, put_read, none_told, one_told, two_told}
+use Rattle.bias_check.specs.inner.Table.{slot_told, three_told, four_told, told, read_words, read_line}
 use Rattle.bias_check.proofs.Options.{and_then, mapped}
 use Rattle.bias_check.proofs.Cuts.{last_byte}
 use Rattle.bias_check.proofs.Spellings.{same_word, verb_is, path_is, fault_is, verb_read, path_read, fault_read}
@@ -64,29 +68,36 @@ one_word a b e = rw e refl
 print_is : (p : ProgramText) (a : List ℕ) (v : ValueRead) → ReadsValue p a v → ReadsEntry p verb.Print (a ∷ []) (print_read v)
 print_is p a v h = record {
   plain = record { verb = refl; args = one_word _ _ h.plain.text; valid = h.plain.valid };
-  other = λ e k. mapped _ v.other e k (λ n some same. let at = h.other n some in rw (← same) (record { verb = refl; args = one_word _ _ at.1.text; valid = at.1.valid }, (at.0, (n, refl))));
+  other = λ e k. mapped _ v.other e k (λ n some same. let at = h.other n some in
+      rw (← same) (record { verb = refl; args = one_word _ _ at.1.text; valid = at.1.valid }, (at.0, (n, refl))));
 }
 
 one_is : (p : ProgramText) (v : Verb) (a : List ℕ) (r : EntryRead) → IsProgram p → one_told (names_of p) v a ≡ Some r → ReadsEntry p v (a ∷ []) r
 one_is p verb.Exit a r h e =
-    mapped _ (object_in (names_of p) a) r e (λ o some same. let at = object_is p a o h some in rw (← same) (only_one p verb.Exit (a ∷ []) (Exit o) (record { verb = refl; args = one_word _ _ at.text; valid = at.within })))
+    mapped _ (object_in (names_of p) a) r e (λ o some same. let at = object_is p a o h some in
+    rw (← same) (only_one p verb.Exit (a ∷ []) (Exit o) (record { verb = refl; args = one_word _ _ at.text; valid = at.within })))
 one_is p verb.Wait a r h e =
-    mapped _ (object_in (names_of p) a) r e (λ o some same. let at = object_is p a o h some in rw (← same) (only_one p verb.Wait (a ∷ []) (Wait o) (record { verb = refl; args = one_word _ _ at.text; valid = at.within })))
+    mapped _ (object_in (names_of p) a) r e (λ o some same. let at = object_is p a o h some in
+    rw (← same) (only_one p verb.Wait (a ∷ []) (Wait o) (record { verb = refl; args = one_word _ _ at.text; valid = at.within })))
 one_is p verb.Resume a r h e =
-    mapped _ (object_in (names_of p) a) r e (λ o some same. let at = object_is p a o h some in rw (← same) (only_one p verb.Resume (a ∷ []) (Resume o) (record { verb = refl; args = one_word _ _ at.text; valid = at.within })))
+    mapped _ (object_in (names_of p) a) r e (λ o some same. let at = object_is p a o h some in
+    rw (← same) (only_one p verb.Resume (a ∷ []) (Resume o) (record { verb = refl; args = one_word _ _ at.text; valid = at.within })))
 one_is p verb.Print a r h e =
     mapped _ (value_in (names_of p) a) r e (λ v some same. rw (← same) (print_is p a v (value_is p a v h some)))
 one_is p verb.Dump a r h e =
-    mapped _ (count_in a) r e (λ n some same. let at = count_is a n some in rw (← same) (only_one p verb.Dump (a ∷ []) (Dump n) (record { verb = refl; args = one_word _ _ at.text; valid = omega (arith, at.high_is) })))
+    mapped _ (count_in a) r e (λ n some same. let at = count_is a n some in
+    rw (← same) (only_one p verb.Dump (a ∷ []) (Dump n) (record { verb = refl; args = one_word _ _ at.text; valid = omega (arith, at.high_is) })))
 one_is p v a r h e = absurd (cc e)
 
 two_words : (a b c d : List ℕ) → a ≡ c → b ≡ d → a ∷ b ∷ [] ≡ c ∷ d ∷ []
 two_words a b c d e f = rw (e, f) refl
 
-notify_is : (p : ProgramText) (a b : List ℕ) (o : ℕ) (w : WokenRead) → IsObjectWord p a o → ReadsWoken p b w → ReadsEntry p verb.Notify (a ∷ b ∷ []) (notify_read o w)
+notify_is : (p : ProgramText) (a b : List ℕ) (o : ℕ) (w : WokenRead) → IsObjectWord p a o
+    → ReadsWoken p b w → ReadsEntry p verb.Notify (a ∷ b ∷ []) (notify_read o w)
 notify_is p a b o w object h = record {
   plain = record { verb = refl; args = two_words _ _ _ _ object.text h.plain.text; valid = (object.within, h.plain.valid) };
-  other = λ e k. mapped _ w.other e k (λ t some same. let at = h.other t some in rw (← same) (record { verb = refl; args = two_words _ _ _ _ object.text at.1.text; valid = (object.within, at.1.valid) }, (at.0, (t, refl))));
+  other = λ e k. mapped _ w.other e k (λ t some same. let at = h.other t some in
+      rw (← same) (record { verb = refl; args = two_words _ _ _ _ object.text at.1.text; valid = (object.within, at.1.valid) }, (at.0, (t, refl))));
 }
 
 two_is : (p : ProgramText) (v : Verb) (a b : List ℕ) (r : EntryRead) → IsProgram p → two_told (names_of p) v a b ≡ Some r → ReadsEntry p v (a ∷ b ∷ []) r
@@ -94,7 +105,11 @@ two_is p verb.Enter a b r h e =
     and_then _ (object_in (names_of p) a) r e (λ o some f.
     mapped _ (spelled_among paths b) r f (λ path at same.
     let object = object_is p a o h some in
-    rw (← same) (only_one p verb.Enter (a ∷ b ∷ []) (Enter o path) (record { verb = refl; args = two_words _ _ _ _ object.text (path_is b path at); valid = object.within }))))
+    rw (← same) (only_one p verb.Enter (a ∷ b ∷ []) (Enter o path) (record {
+      verb = refl;
+      args = two_words _ _ _ _ object.text (path_is b path at);
+      valid = object.within;
+    }))))
 two_is p verb.Notify a b r h e =
     and_then _ (object_in (names_of p) a) r e (λ o some f.
     mapped _ (woken_in (names_of p) b) r f (λ w at same.
@@ -104,40 +119,77 @@ two_is p verb.NotifyAll a b r h e =
     mapped _ (count_in b) r f (λ n at same.
     let object = object_is p a o h some in
     let count = count_is b n at in
-    rw (← same) (only_one p verb.NotifyAll (a ∷ b ∷ []) (NotifyAll o n) (record { verb = refl; args = two_words _ _ _ _ object.text count.text; valid = (object.within, omega (arith, count.high_is)) }))))
+    rw (← same) (only_one p verb.NotifyAll (a ∷ b ∷ []) (NotifyAll o n) (record {
+      verb = refl;
+      args = two_words _ _ _ _ object.text count.text;
+      valid = (object.within, omega (arith, count.high_is));
+    }))))
 two_is p verb.Hash a b r h e =
     and_then _ (object_in (names_of p) a) r e (λ o some f.
     mapped _ (count_in b) r f (λ n at same.
     let object = object_is p a o h some in
     let count = count_is b n at in
-    rw (← same) (only_one p verb.Hash (a ∷ b ∷ []) (Hash o n None) (record { verb = refl; args = two_words _ _ _ _ object.text count.text; valid = (object.within, omega (arith, count.high_is), tt) }))))
+    rw (← same) (only_one p verb.Hash (a ∷ b ∷ []) (Hash o n None) (record {
+      verb = refl;
+      args = two_words _ _ _ _ object.text count.text;
+      valid = (object.within, omega (arith, count.high_is), tt);
+    }))))
 two_is p verb.New a b r h e =
     and_then _ (object_in (names_of p) a) r e (λ o some f.
     mapped _ (class_in (names_of p) b) r f (λ c at same.
     let object = object_is p a o h some in
     let class = class_is p b c at in
-    rw (← same) (only_one p verb.New (a ∷ b ∷ []) (New o c) (record { verb = refl; args = two_words _ _ _ _ object.text class.text; valid = (object.within, class.within) }))))
+    rw (← same) (only_one p verb.New (a ∷ b ∷ []) (New o c) (record {
+      verb = refl;
+      args = two_words _ _ _ _ object.text class.text;
+      valid = (object.within, class.within);
+    }))))
 two_is p v a b r h e = absurd (cc e)
 
 three_words : (a b c d e f : List ℕ) → a ≡ d → b ≡ e → c ≡ f → a ∷ b ∷ c ∷ [] ≡ d ∷ e ∷ f ∷ []
 three_words a b c d e f x y z = rw (x, y, z) refl
 
-get_is : (p : ProgramText) (a b c : List ℕ) (o k : ℕ) (v : ValueRead) → IsObjectWord p a o → IsCount 0 (2 ^ 32 - 1) b k → ReadsValue p c v → ReadsEntry p verb.Get (a ∷ b ∷ c ∷ []) (get_read o k v)
+get_is : (p : ProgramText) (a b c : List ℕ) (o k : ℕ) (v : ValueRead) → IsObjectWord p a o
+    → IsCount 0 (2 ^ 32 - 1) b k → ReadsValue p c v → ReadsEntry p verb.Get (a ∷ b ∷ c ∷ []) (get_read o k v)
 get_is p a b c o k v object count h = record {
-  plain = record { verb = refl; args = three_words _ _ _ _ _ _ object.text count.text h.plain.text; valid = (object.within, omega (arith, count.high_is), h.plain.valid) };
+  plain = record {
+    verb = refl;
+    args = three_words _ _ _ _ _ _ object.text count.text h.plain.text;
+    valid = (object.within, omega (arith, count.high_is), h.plain.valid);
+  };
   other = λ e m. mapped _ v.other e m (λ n some same. let at = h.other n some in
-      rw (← same) (record { verb = refl; args = three_words _ _ _ _ _ _ object.text count.text at.1.text; valid = (object.within, omega (arith, count.high_is), at.1.valid) }, (at.0, (n, refl))));
+      rw (← same) (
+        record {
+          verb = refl;
+          args = three_words _ _ _ _ _ _ object.text count.text at.1.text;
+          valid = (object.within, omega (arith, count.high_is), at.1.valid);
+        },
+        (at.0, (n, refl)),
+      ));
 }
 
-put_is : (p : ProgramText) (a b c : List ℕ) (o k : ℕ) (v : ValueRead) → IsObjectWord p a o → IsCount 0 (2 ^ 32 - 1) b k → ReadsValue p c v → ReadsEntry p verb.Put (a ∷ b ∷ c ∷ []) (put_read o k v)
+put_is : (p : ProgramText) (a b c : List ℕ) (o k : ℕ) (v : ValueRead) → IsObjectWord p a o
+    → IsCount 0 (2 ^ 32 - 1) b k → ReadsValue p c v → ReadsEntry p verb.Put (a ∷ b ∷ c ∷ []) (put_read o k v)
 put_is p a b c o k v object count h = record {
-  plain = record { verb = refl; args = three_words _ _ _ _ _ _ object.text count.text h.plain.text; valid = (object.within, omega (arith, count.high_is), h.plain.valid) };
+  plain = record {
+    verb = refl;
+    args = three_words _ _ _ _ _ _ object.text count.text h.plain.text;
+    valid = (object.within, omega (arith, count.high_is), h.plain.valid);
+  };
   other = λ e m. mapped _ v.other e m (λ n some same. let at = h.other n some in
-      rw (← same) (record { verb = refl; args = three_words _ _ _ _ _ _ object.text count.text at.1.text; valid = (object.within, omega (arith, count.high_is), at.1.valid) }, (at.0, (n, refl))));
+      rw (← same) (
+        record {
+          verb = refl;
+          args = three_words _ _ _ _ _ _ object.text count.text at.1.text;
+          valid = (object.within, omega (arith, count.high_is), at.1.valid);
+        },
+        (at.0, (n, refl)),
+      ));
 }
 
 slot_is : (read : ℕ → ℕ → ValueRead → EntryRead) (p : ProgramText) (v : Verb) (a b c : List ℕ) (r : EntryRead) → IsProgram p
-    → ((o k : ℕ) (value : ValueRead) → IsObjectWord p a o → IsCount 0 (2 ^ 32 - 1) b k → ReadsValue p c value → ReadsEntry p v (a ∷ b ∷ c ∷ []) (read o k value))
+    → ((o k : ℕ) (value : ValueRead) → IsObjectWord p a o → IsCount 0 (2 ^ 32 - 1) b k
+    → ReadsValue p c value → ReadsEntry p v (a ∷ b ∷ c ∷ []) (read o k value))
     → slot_told read (names_of p) a b c ≡ Some r → ReadsEntry p v (a ∷ b ∷ c ∷ []) r
 slot_is read p v a b c r h each e =
     and_then _ (object_in (names_of p) a) r e (λ o some f.
@@ -145,15 +197,21 @@ slot_is read p v a b c r h each e =
     mapped _ (value_in (names_of p) c) r g (λ value at same.
     rw (← same) (each o k value (object_is p a o h some) (count_is b k counted) (value_is p c value h at)))))
 
-fault_told_is : (p : ProgramText) (a b c : List ℕ) (r : EntryRead) (t : Bool) → bytes_eq (codes "at") b ≡ t → three_told (names_of p) verb.Fault a b c ≡ Some r → ReadsEntry p verb.Fault (a ∷ b ∷ c ∷ []) r
+fault_told_is : (p : ProgramText) (a b c : List ℕ) (r : EntryRead) (t : Bool) → bytes_eq (codes "at") b ≡ t
+    → three_told (names_of p) verb.Fault a b c ≡ Some r → ReadsEntry p verb.Fault (a ∷ b ∷ c ∷ []) r
 fault_told_is p a b c r true t e =
     and_then _ (spelled_among faults a) r (rw t at e) (λ fault some f.
     mapped _ (count_in c) r f (λ n at same.
     let count = count_is c n at in
-    rw (← same) (only_one p verb.Fault (a ∷ b ∷ c ∷ []) (Trap fault n) (record { verb = refl; args = three_words _ _ _ _ _ _ (fault_is a fault some) (same_word (codes "at") b t) count.text; valid = omega (arith, count.high_is) }))))
+    rw (← same) (only_one p verb.Fault (a ∷ b ∷ c ∷ []) (Trap fault n) (record {
+      verb = refl;
+      args = three_words _ _ _ _ _ _ (fault_is a fault some) (same_word (codes "at") b t) count.text;
+      valid = omega (arith, count.high_is);
+    }))))
 fault_told_is p a b c r false t e = absurd (cc (rw t at e))
 
-three_is : (p : ProgramText) (v : Verb) (a b c : List ℕ) (r : EntryRead) → IsProgram p → three_told (names_of p) v a b c ≡ Some r → ReadsEntry p v (a ∷ b ∷ c ∷ []) r
+three_is : (p : ProgramText) (v : Verb) (a b c : List ℕ) (r : EntryRead) → IsProgram p
+    → three_told (names_of p) v a b c ≡ Some r → ReadsEntry p v (a ∷ b ∷ c ∷ []) r
 three_is p verb.Get a b c r h e = slot_is get_read p verb.Get a b c r h (λ o k v x y z. get_is p a b c o k v x y z) e
 three_is p verb.Put a b c r h e = slot_is put_read p verb.Put a b c r h (λ o k v x y z. put_is p a b c o k v x y z) e
 three_is p verb.Fault a b c r h e = fault_told_is p a b c r (bytes_eq (codes "at") b) refl e
@@ -162,7 +220,8 @@ three_is p v a b c r h e = absurd (cc e)
 four_words : (a b c d e f g i : List ℕ) → a ≡ e → b ≡ f → c ≡ g → d ≡ i → a ∷ b ∷ c ∷ d ∷ [] ≡ e ∷ f ∷ g ∷ i ∷ []
 four_words a b c d e f g i w x y z = rw (w, x, y, z) refl
 
-draw_is : (p : ProgramText) (a b c d : List ℕ) (r : EntryRead) (t : Bool) → bytes_eq (codes "draw") c ≡ t → IsProgram p → four_told (names_of p) verb.Hash a b c d ≡ Some r
+draw_is : (p : ProgramText) (a b c d : List ℕ) (r : EntryRead) (t : Bool)
+    → bytes_eq (codes "draw") c ≡ t → IsProgram p → four_told (names_of p) verb.Hash a b c d ≡ Some r
     → ReadsEntry p verb.Hash (a ∷ b ∷ c ∷ d ∷ []) r
 draw_is p a b c d r true t h e =
     and_then _ (object_in (names_of p) a) r (rw t at e) (λ o some f.
@@ -178,7 +237,8 @@ draw_is p a b c d r true t h e =
     })))))
 draw_is p a b c d r false t h e = absurd (cc (rw t at e))
 
-four_is : (p : ProgramText) (v : Verb) (a b c d : List ℕ) (r : EntryRead) → IsProgram p → four_told (names_of p) v a b c d ≡ Some r → ReadsEntry p v (a ∷ b ∷ c ∷ d ∷ []) r
+four_is : (p : ProgramText) (v : Verb) (a b c d : List ℕ) (r : EntryRead) → IsProgram p
+    → four_told (names_of p) v a b c d ≡ Some r → ReadsEntry p v (a ∷ b ∷ c ∷ d ∷ []) r
 four_is p verb.Hash a b c d r h e = draw_is p a b c d r (bytes_eq (codes "draw") c) refl h e
 four_is p v a b c d r h e = absurd (cc e)
 
@@ -200,7 +260,8 @@ pub record ReadsLine (p : ProgramText) (line : List ℕ) (r : LineRead) : Type 0
   pub other : (e : Entry) → r.entry.other ≡ Some e → Tells p line (told_entry r e) × IsRival r.entry.plain e
 
 tells_words : (p : ProgramText) (line text first second third : List ℕ) (ws : List (List ℕ)) (stamp thread : ℕ) (v : Verb) (e : Entry)
-    → line ≡ text ++ 10 ∷ [] → words_of text ≡ first ∷ second ∷ third ∷ ws → IsStamp first stamp → IsThreadWord p second thread → verb_text v ≡ third → IsEntryOf p v ws e
+    → line ≡ text ++ 10 ∷ [] → words_of text ≡ first ∷ second ∷ third ∷ ws → IsStamp first stamp
+    → IsThreadWord p second thread → verb_text v ≡ third → IsEntryOf p v ws e
     → Tells p line (thread, record { stamp = stamp; entry = e })
 tells_words p line text first second third ws stamp thread v e cut words s t spelled_v entry =
     let x : ℕ × Logged = (thread, record { stamp = stamp; entry = e }) in
@@ -214,7 +275,8 @@ tells_words p line text first second third ws stamp thread v e cut words s t spe
       text = line_is p x ∙ ap (λ (bs : List ℕ). bs ++ 10 ∷ []) joined ∙ sym cut;
     }
 
-words_are : (p : ProgramText) (line text : List ℕ) (words : List (List ℕ)) (r : LineRead) → IsProgram p → line ≡ text ++ 10 ∷ [] → words_of text ≡ words → read_words (names_of p) words ≡ Some r → ReadsLine p line r
+words_are : (p : ProgramText) (line text : List ℕ) (words : List (List ℕ)) (r : LineRead) → IsProgram p
+    → line ≡ text ++ 10 ∷ [] → words_of text ≡ words → read_words (names_of p) words ≡ Some r → ReadsLine p line r
 words_are p line text [] r h cut at e = absurd (cc e)
 words_are p line text (a ∷ []) r h cut at e = absurd (cc e)
 words_are p line text (a ∷ b ∷ []) r h cut at e = absurd (cc e)
@@ -270,7 +332,11 @@ entry_told p (Notify o woken) h valid =
     record { read = notify_read o r.0; is = rw (object_read p o h valid.0, r.1) refl; has = woken_among o woken r.0 r.2 }
 entry_told p (NotifyAll o n) h valid = record { read = sure (NotifyAll o n); is = rw (object_read p o h valid.0, count_read n valid.1) refl; has = inl refl }
 entry_told p (Hash o v None) h valid = record { read = sure (Hash o v None); is = rw (object_read p o h valid.0, count_read v valid.1) refl; has = inl refl }
-entry_told p (Hash o v (Some n)) h valid = record { read = sure (Hash o v (Some n)); is = rw (object_read p o h valid.0, count_read v valid.1, count_read n valid.2) refl; has = inl refl }
+entry_told p (Hash o v (Some n)) h valid = record {
+  read = sure (Hash o v (Some n));
+  is = rw (object_read p o h valid.0, count_read v valid.1, count_read n valid.2) refl;
+  has = inl refl;
+}
 entry_told p (New o c) h valid = record { read = sure (New o c); is = rw (object_read p o h valid.0, class_read p c h valid.1) refl; has = inl refl }
 entry_told p (Print v) h valid =
     let r = value_read p v h valid in

@@ -1,5 +1,6 @@
 -- Values and woken threads, and their words.
-use Rattle.std.proofs.Common.{◌≡◌, ℕ, ◌+◌, ◌<◌, ◌==◌, ◌⊎◌, Bool, true, false, if◌then◌else◌, List, [], ◌∷◌, ◌++◌, length, refl, sym, ◌∙◌, ap, append-nil, arith, codes, inl, inr, ℤ, bytes_eq, Option, Some, None}
+use Rattle.std.proofs.Common.{◌≡◌, ℕ, ◌+◌, ◌<◌, ◌==◌, ◌⊎◌, Bool, true, false, if◌then◌else◌, List, [], ◌∷◌, ◌++◌, length}
+use Rattle.std.proofs.Common.{refl, sym, ◌∙◌, ap, append-nil, arith, codes, inl, inr, ℤ, bytes_eq, Option, Some, None}
 use Rattle.std.specs.Prelude.{decimal, int_le, MatchOption}
 use Rattle.std.specs.Fmt.{signed_decimal}
 use Rattle.std.proofs.lemmas.Bool.{and_parts, cases_lt}
@@ -10,7 +11,7 @@ use Rattle.plain_monitor.specs.Numbers.{IsInRange, least_number, greatest_number
 use Rattle.plain_monitor.specs.declared.entry.Value.{Value}
 use Rattle.plain_monitor.specs.declared.entry.Value.TheVariants.{Nil, Int, Ref}
 use Rattle.object_program.specs.Name.{is_letter, is_digit, is_name}
-use Rattle.program_syntax.specs.Number.{number_of, digits_of, number_behind}
+use Rattle.program_syntax.specs.Number.{number_of, digits_of, number_after}
 use Rattle.object_program.specs.declared.program.ObjectDef.{ObjectDef}
 use Rattle.object_program.specs.Program.{ProgramText, declared_total}
 use Rattle.object_program.specs.Valid.{IsProgram}
@@ -44,7 +45,8 @@ ref_word : (p : ProgramText) (w : List ℕ) (o : ℕ) → IsProgram p → object
 ref_word p w o h e = let at = object_is p w o h e in record { text = at.text; valid = (at.within, tt) }
 
 int_range : (w : List ℕ) (z : ℤ) → IsInt least_number greatest_number w z → IsInRange z
-int_range w z h = let k = and_parts (int_le least_number z) (int_le z greatest_number) h.within in let low = k.0 in let high = k.1 in (grind (arith, ints, nat_tests), grind (arith, ints, nat_tests))
+int_range w z h = let k = and_parts (int_le least_number z) (int_le z greatest_number) h.within in
+    let low = k.0 in let high = k.1 in (grind (arith, ints, nat_tests), grind (arith, ints, nat_tests))
 
 else_is : (p : ProgramText) (w : List ℕ) (r : ValueRead) (z : Option ℤ) → IsProgram p → int_in least_number greatest_number w ≡ z
     → value_else z (object_in (names_of p) w) ≡ Some r → ReadsValue p w r
@@ -56,7 +58,8 @@ else_is p w r None h at e =
     mapped _ (object_in (names_of p) w) r e (λ o some same.
     rw (← same) (record { plain = ref_word p w o h some; other = λ n k. absurd (cc k) }))
 
-value_is_by : (p : ProgramText) (w : List ℕ) (r : ValueRead) (b : Bool) → IsProgram p → bytes_eq (codes "nil") w ≡ b → value_in (names_of p) w ≡ Some r → ReadsValue p w r
+value_is_by : (p : ProgramText) (w : List ℕ) (r : ValueRead) (b : Bool) → IsProgram p
+    → bytes_eq (codes "nil") w ≡ b → value_in (names_of p) w ≡ Some r → ReadsValue p w r
 value_is_by p w r true h at e =
     let same = same_Some _ _ (rw at at e) in
     rw (← same) (record {
@@ -83,7 +86,7 @@ if_none false o h = refl
 letter_is_no_number : (b : ℕ) (bs : List ℕ) → is_letter b ≡ true → number_of (b ∷ bs) ≡ None
 letter_is_no_number b bs h =
     let other = no_digit b h in
-    let digits : digits_of (b ∷ bs) ≡ None = if_none _ (number_behind 0 (b ∷ bs)) (rw other.0 refl) in
+    let digits : digits_of (b ∷ bs) ≡ None = if_none _ (number_after 0 (b ∷ bs)) (rw other.0 refl) in
     rw (other.1, digits) refl
 
 name_is_no_number : (name rest : List ℕ) → is_name name ≡ true → number_of (name ++ rest) ≡ None
@@ -130,7 +133,8 @@ ref_read_by p o false at h lt =
     (record { plain = Ref o; other = None }, rw (at, object_is_no_number p o h lt, object_read p o h lt) refl, inl refl)
 
 -- a value is among the readings of its word
-pub value_read : (p : ProgramText) (v : Value) → IsProgram p → IsValueOf (numbers_total p) v → (r : ValueRead) × (value_in (names_of p) (value_text p v) ≡ Some r) × HasValue r v
+pub value_read : (p : ProgramText) (v : Value) → IsProgram p → IsValueOf (numbers_total p) v
+    → (r : ValueRead) × (value_in (names_of p) (value_text p v) ≡ Some r) × HasValue r v
 value_read p Nil h valid = (record { plain = Nil; other = object_in (names_of p) (codes "nil") }, refl, inl refl)
 value_read p (Int z) h valid = int_read_by p z (bytes_eq (codes "nil") (signed_decimal z)) refl valid.1
 value_read p (Ref o) h valid = ref_read_by p o (bytes_eq (codes "nil") (object_text p o)) refl h valid.0
@@ -175,6 +179,7 @@ thread_read_by p t false at h lt =
     (record { plain = Some t; other = None }, rw (at, thread_read p t h lt) refl, inl refl)
 
 -- a woken thread is among the readings of its word
-pub woken_read : (p : ProgramText) (woken : Option ℕ) → IsProgram p → IsThreadOf p woken → (r : WokenRead) × (woken_in (names_of p) (woken_text p woken) ≡ Some r) × HasWoken r woken
+pub woken_read : (p : ProgramText) (woken : Option ℕ) → IsProgram p → IsThreadOf p woken
+    → (r : WokenRead) × (woken_in (names_of p) (woken_text p woken) ≡ Some r) × HasWoken r woken
 woken_read p None h valid = (record { plain = None; other = thread_in (names_of p) (codes "none") }, refl, inl refl)
 woken_read p (Some t) h valid = thread_read_by p t (bytes_eq (codes "none") (thread_text p t)) refl h valid

@@ -49,7 +49,7 @@ pub record IsLeastBadHash (p : ProgramText) (fuel start : ℕ) (lines : List (Li
   pub bad : hash_fits start entries object ≡ false
   pub least : (o : ℕ) → o < object → hash_fits start entries o ≡ true
 
--- the lines are a run of so many entries, in which all hashes fit, and behind it the threads stand so
+-- the lines are a run of so many entries, in which all hashes fit, and after it the threads stand so
 pub record IsLegalRun (p : ProgramText) (fuel start : ℕ) (lines : List (List ℕ)) (count : ℕ)
     (state : Reached) : Type 0 where
   pub entries : List (ℕ × Logged)

@@ -15,10 +15,10 @@ abbrev pub before_marker : List (List ℕ) → List ℕ
 before_marker [] = []
 before_marker (line ∷ lines) = if is_marker line then [] else line ++ before_marker lines
 
--- the lines behind it
-abbrev pub behind_marker : List (List ℕ) → List (List ℕ)
-behind_marker [] = []
-behind_marker (line ∷ lines) = if is_marker line then lines else behind_marker lines
+-- the lines after it
+abbrev pub after_marker : List (List ℕ) → List (List ℕ)
+after_marker [] = []
+after_marker (line ∷ lines) = if is_marker line then lines else after_marker lines
 
 abbrev pub has_journal : List ℕ → Bool
 has_journal text = list_any is_marker (lines_of text)
@@ -29,7 +29,7 @@ program_part text = before_marker (lines_of text)
 
 -- the lines of the journal
 abbrev pub journal_part : List ℕ → List (List ℕ)
-journal_part text = behind_marker (lines_of text)
+journal_part text = after_marker (lines_of text)
 
 -- the text has a marker, and these are its program and its journal
 pub record ArePartsOf (text program journal : List ℕ) : Type 0 where

@@ -5,7 +5,7 @@ use thiserror::Error;
 /// What a journal is.
 #[derive(Clone, Copy, Debug, PartialEq, Eq)]
 pub enum Checked {
-    /// A legal history, with this many entries, and how the threads stand behind them.
+    /// A legal history, with this many entries, and how the threads stand after them.
     Legal { entries: u64, state: Reached },
     /// Each line is readable, and the one with this number, from 1, is the first that is no step of the machine.
     NoStep { line: u32 },
@@ -13,7 +13,7 @@ pub enum Checked {
     BadHash { object: u32 },
 }
 
-/// How the threads stand behind the last line.
+/// How the threads stand after the last line.
 #[derive(Clone, Copy, Debug, PartialEq, Eq)]
 pub enum Reached {
     /// Each thread has ended.

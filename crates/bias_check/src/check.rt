@@ -21,7 +21,7 @@ use plain_machine::Machine;
 use plain_monitor::{Entry, NoMemory};
 use std::alloc::Global;
 
-/// A check under way: the machine and the hashes behind the lines so far, the stamp and the thread of the last one, and the
+/// A check under way: the machine and the hashes after the lines so far, the stamp and the thread of the last one, and the
 /// number of the first line that was no step, if there was one.
 #[derive(Drop)]
 pub(crate) struct Check {
@@ -74,7 +74,7 @@ impl Check {
         })
     }
 
-    /// Goes on by the line with this number, which tells this. Behind a line that was no step nothing is taken.
+    /// Goes on by the line with this number, which tells this. After a line that was no step nothing is taken.
     fn go(&mut self, number: u32, read: &LineRead) -> Result<(), NoMemory>
         requires machine { read.now.thread < length self.old.machine.threads }
         requires hashes { read.now.thread < length self.old.hashes.drawers }
@@ -109,7 +109,7 @@ impl Check {
         Ok(())
     }
 
-    /// The answer behind the last line, where so many lines were read.
+    /// The answer after the last line, where so many lines were read.
     fn verdict(&self, lines: u32, threads: u32) -> Checked
         requires { threads ≡ length self.now.machine.threads }
         ensures { result ≡ verdict_of self.now lines }

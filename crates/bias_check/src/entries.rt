@@ -1,7 +1,7 @@
 //! What a line tells.
 
 ghost use Rattle.std.specs.Prelude.{◌≡◌, ◌<◌, length, option_copied, IfSome};
-ghost use Rattle.bias_check.specs.inner.Words.{words_behind};
+ghost use Rattle.bias_check.specs.inner.Words.{words_after};
 ghost use Rattle.bias_check.specs.inner.Table.{value_in, woken_in, none_told, one_told, two_told, three_told, four_told, told, read_line, sure, print_read, notify_read, get_read, put_read};
 
 use crate::lines::{ended, next_word};
@@ -23,7 +23,7 @@ pub(crate) struct WokenRead {
     pub(crate) other: Option<u32>,
 }
 
-/// What the words of a line tell behind the thread: an entry, and a second one where a word has two readings.
+/// What the words of a line tell after the thread: an entry, and a second one where a word has two readings.
 #[derive(Clone, Copy)]
 pub(crate) struct EntryRead {
     pub(crate) plain: Entry,
@@ -287,7 +287,7 @@ impl Names {
 
     /// What a verb tells with the words that are left of its line.
     fn told(&self, verb: Verb, rest: Option<&[u8]>) -> Option<EntryRead>
-        ensures { result ≡ told self.now verb (words_behind (option_copied rest.entry)) }
+        ensures { result ≡ told self.now verb (words_after (option_copied rest.entry)) }
     {
         let Some((a, rest)) = next_word(rest) else {
             return none_told(verb);

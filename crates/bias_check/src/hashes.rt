@@ -173,7 +173,7 @@ fn new_drawers(alloc: Global, program: &Program, start: u32) -> Result<Vec<Drawe
     Ok(drawers)
 }
 
-/// The mark behind one more hash entry.
+/// The mark after one more hash entry.
 fn marked(mark: Mark, value: u32, drawn: Option<bool>) -> Mark
     ensures { result ≡ marked mark value drawn }
 {
@@ -185,7 +185,7 @@ fn marked(mark: Mark, value: u32, drawn: Option<bool>) -> Mark
     }
 }
 
-/// The mark behind a hash entry before which none was drawn.
+/// The mark after a hash entry before which none was drawn.
 fn first_mark(value: u32, drawn: Option<bool>) -> Mark
     ensures { result ≡ first_mark value drawn }
 {
@@ -196,7 +196,7 @@ fn first_mark(value: u32, drawn: Option<bool>) -> Mark
     }
 }
 
-/// Whether an object with this mark breaks the rule behind the last line.
+/// Whether an object with this mark breaks the rule after the last line.
 fn is_bad(mark: Mark) -> bool
     ensures { result ≡ is_bad mark }
 {

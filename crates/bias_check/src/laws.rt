@@ -15,7 +15,7 @@ ghost use Rattle.bias_check.specs.Steps.{IsStep, IsRun};
 ghost use Rattle.bias_check.specs.Logs.{SplitsIntoLegalLogs};
 
 /// Where lines are a run, as those of a legal journal are, their entries are the order of the logs that they split into, and
-/// these logs are legal, so that the journal can be replayed. The machine behind the lines is the one under the logs.
+/// these logs are legal, so that the journal can be replayed. The machine after the lines is the one under the logs.
 pub fn runs_split_into_legal_logs()
     ensures { (p : ProgramText) (fuel : ℕ) (lines : List (List ℕ)) (entries : List (ℕ × Logged))
         (machine : PlainMachine) → IsRun p None (new_machine p fuel) lines entries machine
@@ -30,7 +30,7 @@ pub fn a_line_is_at_most_one_step()
 {}
 
 /// The journal that is written of legal logs is a run, where each entry is the program's and no stamp passes 46 bits: its lines are
-/// those of its text, and the machine behind them is the one under the logs.
+/// those of its text, and the machine after them is the one under the logs.
 pub fn journals_of_legal_logs_are_runs()
     ensures run { (p : ProgramText) (fuel : ℕ) (logs : List (List Logged)) (machine : PlainMachine)
         → IsLegal p fuel logs → machine_after p fuel logs ≡ Some machine

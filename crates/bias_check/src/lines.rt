@@ -2,7 +2,7 @@
 
 ghost use Rattle.std.specs.Prelude.{◌≡◌, ◌==◌, ◌+◌, ◌≤◌, [], ◌∷◌, ◌++◌, Some, None, length, position, MatchOption, option_copied};
 ghost use Rattle.bias_check.specs.Lines.{lines_of};
-ghost use Rattle.bias_check.specs.inner.Words.{words_behind, unended};
+ghost use Rattle.bias_check.specs.inner.Words.{words_after, unended};
 
 /// Where the first line feed stands.
 fn line_end(text: &[u8]) -> Option<usize>
@@ -18,7 +18,7 @@ fn space(text: &[u8]) -> Option<usize>
     text.iter().position(|b| *b == b' ')
 }
 
-/// The first line of a text, with its line feed where it has one, and what stands behind it.
+/// The first line of a text, with its line feed where it has one, and what stands after it.
 pub(crate) fn next_line(text: &[u8]) -> (&[u8], &[u8])
     requires { 1 ≤ length text.now }
     ensures lines { lines_of text.now ≡ result.0.now ∷ lines_of result.1.now }
@@ -41,9 +41,9 @@ pub(crate) fn ended(line: &[u8]) -> Option<&[u8]>
     if *last == b'\n' { Some(front) } else { None }
 }
 
-/// The first word of a text, and what stands behind the space after it, or `None` where there is none.
+/// The first word of a text, and what stands after the space after it, or `None` where there is none.
 pub(crate) fn first_word(text: &[u8]) -> (&[u8], Option<&[u8]>)
-    ensures { words_behind (Some text.now) ≡ result.0.now ∷ words_behind (option_copied result.1) }
+    ensures { words_after (Some text.now) ≡ result.0.now ∷ words_after (option_copied result.1) }
 {
     match space(text) {
         None => (text, None),
@@ -51,10 +51,10 @@ pub(crate) fn first_word(text: &[u8]) -> (&[u8], Option<&[u8]>)
     }
 }
 
-/// The next word of what is left of a line, and what is left behind the space after it, if there is one.
+/// The next word of what is left of a line, and what is left after the space after it, if there is one.
 pub(crate) fn next_word(rest: Option<&[u8]>) -> Option<(&[u8], Option<&[u8]>)>
-    ensures { MatchOption result (words_behind (option_copied rest.entry) ≡ [])
-        (λ r. words_behind (option_copied rest.entry) ≡ r.0.now ∷ words_behind (option_copied r.1)) }
+    ensures { MatchOption result (words_after (option_copied rest.entry) ≡ [])
+        (λ r. words_after (option_copied rest.entry) ≡ r.0.now ∷ words_after (option_copied r.1)) }
 {
     match rest {
         None => None,

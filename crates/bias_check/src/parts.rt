@@ -15,7 +15,7 @@ pub struct Parts<'a> {
     pub journal: &'a [u8],
 }
 
-/// What stands before and behind the first line of the text that is exactly `%journal`, with its line feed; `None` exactly where no line
+/// What stands before and after the first line of the text that is exactly `%journal`, with its line feed; `None` exactly where no line
 /// is.
 pub fn split_text(text: &[u8]) -> Option<Parts<'_>>
     ensures { MatchOption result (has_journal text.now ≡ false)

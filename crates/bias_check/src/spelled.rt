@@ -113,7 +113,7 @@ fn verb_among(word: &[u8]) -> Option<Verb>
     }
 }
 
-/// The verb, of those behind the first six, that is spelled so.
+/// The verb, of those after the first six, that is spelled so.
 fn act_of(word: &[u8]) -> Option<Verb>
     ensures { result ≡ spelled_among acts word.now }
 {

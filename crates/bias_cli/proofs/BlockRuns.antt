@@ -7,7 +7,7 @@ use Rattle.program_syntax.specs.Refusal.{program_of}
 use Rattle.program_syntax.specs.Text.{most_bytes}
 use Rattle.program_syntax.proofs.CanonicalPrograms.{program_of-canonical}
 use Rattle.lock_journal.specs.declared.record.RunRecord.{RunRecord}
-use Rattle.run_words.specs.declared.options.Options.{Options}
+use Rattle.cli_args.specs.declared.options.Options.{Options}
 use Rattle.sync_source.specs.Source.{SyncText}
 use Rattle.sync_source.specs.SyncMachine.{IsSyncLegal}
 use Rattle.sync_source.specs.SameMeaning.{DoesTheSame}

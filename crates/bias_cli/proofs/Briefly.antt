@@ -15,7 +15,7 @@ use Rattle.lock_journal.specs.LinesLeft.{prints_of, lines_of_ended}
 use Rattle.lock_journal.specs.EndedLines.{ended_lines, said_text}
 use Rattle.lock_journal.specs.RunText.{class_lines, journal_line, lines_of_run, only_where, state_text, thread_lines}
 use Rattle.lock_journal.specs.declared.record.RunRecord.{RunRecord}
-use Rattle.run_words.specs.declared.options.Options.{Options}
+use Rattle.cli_args.specs.declared.options.Options.{Options}
 use Rattle.bias_cli.specs.Finish.{IsRunOf, is_cut_short, status_of}
 use Rattle.bias_cli.specs.Report.{IsReportWhere}
 use Rattle.bias_cli.proofs.Under.{under_logs}
@@ -41,7 +41,8 @@ state_said m t None (Some e) same some = absurd (cc same)
 state_said m t (Some e) None same some = absurd (cc same)
 state_said m t (Some e) (Some f) same some = ap (λ (r : Option Ending). said_text r) same
 
-lines_from : (m : PlainMachine) (t : ℕ) (ss : List ThreadState) (logs : List (List Logged)) → EndedAt ss logs → thread_lines m t ss ≡ ended_lines m.program t logs
+lines_from : (m : PlainMachine) (t : ℕ) (ss : List ThreadState) (logs : List (List Logged))
+    → EndedAt ss logs → thread_lines m t ss ≡ ended_lines m.program t logs
 lines_from m t [] [] h = refl
 lines_from m t [] (log ∷ logs) h = absurd h
 lines_from m t (s ∷ ss) [] h = absurd h

@@ -1,4 +1,4 @@
--- The lines of entries, written one behind the other.
+-- The lines of entries, written one after the other.
 use Rattle.std.proofs.Common.{◌≡◌, ℕ, ◌+◌, ◌<◌, List, ◌∷◌, ◌++◌, length, drop, map, get_or, sym, ap, ◌∙◌, append_assoc}
 use Rattle.std.proofs.lemmas.List.{at_drop_more}
 use Rattle.plain_monitor.specs.declared.entry.Logged.{Logged}

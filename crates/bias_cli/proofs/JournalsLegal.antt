@@ -1,5 +1,6 @@
 -- The journal of a run is legal for a check.
-use Rattle.std.proofs.Common.{◌≡◌, ◌≢◌, ℕ, ◌<◌, ◌≤◌, ◌^◌, cond, Bool, true, false, List, [], ◌++◌, length, nat_lt, Option, Some, None, Result, Ok, Err, refl, sym, ap, ◌∙◌, subst, decimal}
+use Rattle.std.proofs.Common.{◌≡◌, ◌≢◌, ℕ, ◌<◌, ◌≤◌, ◌^◌, cond, Bool, true, false, List, [], ◌++◌, length, nat_lt}
+use Rattle.std.proofs.Common.{Option, Some, None, Result, Ok, Err, refl, sym, ap, ◌∙◌, subst, decimal}
 use Rattle.std.specs.List.{flat_map}
 use Rattle.std.proofs.lemmas.List.{append-nil}
 use Rattle.std.proofs.lemmas.Option.{none-some, same_Some}
@@ -34,14 +35,15 @@ use Rattle.bias_check.specs.Printed.{journal_of}
 use Rattle.bias_check.proofs.JournalsRun.{journal_lines}
 use Rattle.bias_check.proofs.TrueAnswers.{found_only}
 use Rattle.outcome_search.specs.Outcomes.{has_hash}
-use Rattle.run_words.specs.Command.{accepted}
-use Rattle.run_words.specs.declared.options.Command.{Command}
-use Rattle.run_words.specs.declared.options.Command.TheVariants.{Run, Sync, Compile, Check, Make, Outcomes}
-use Rattle.run_words.specs.declared.options.Options.{Options}
+use Rattle.cli_args.specs.Command.{accepted}
+use Rattle.cli_args.specs.declared.options.Command.{Command}
+use Rattle.cli_args.specs.declared.options.Command.TheVariants.{Run, Sync, Compile, Check, Make, Outcomes}
+use Rattle.cli_args.specs.declared.options.Options.{Options}
 use Rattle.sync_source.specs.Compiled.{compiled}
 use Rattle.bias_cli.specs.declared.finish.Finish.{Finish}
 use Rattle.bias_cli.specs.Seen.{SourceSeen, SinkSeen}
-use Rattle.bias_cli.specs.Finish.{Finds, IsFinish, IsRunOf, LeavesRun, Meets, ReadFault, Reading, Tells, Text, Unread, compile_due, due_of, finds_due, journal_due, run_due, sync_due, text_due}
+use Rattle.bias_cli.specs.Finish.{Finds, IsFinish, IsRunOf, LeavesRun, Meets, ReadFault, Reading, Tells, Text, Unread}
+use Rattle.bias_cli.specs.Finish.{compile_due, due_of, finds_due, journal_due, run_due, sync_due, text_due}
 use Rattle.bias_cli.specs.Input.{most_of_journal}
 use Rattle.bias_cli.specs.Verdict.{IsVerdict, answer_to}
 use Rattle.bias_cli.proofs.BlocksAllowed.{blocks_allowed}
@@ -51,7 +53,7 @@ given : (n : Checked) → Ok n ≢ Err NoMemory
 given n e = absurd (cc e)
 
 module _ (o : Options) (p : ProgramText) (r : RunRecord) (c : ClosedSeen) (m : PlainMachine) where
-  -- the journal stands behind all other lines
+  -- the journal stands after all other lines
   pub journal_written : (stats : Bool) → IsRunOf o p r c m → lines_of_run stats true r m ≡ lines_of_run stats false r m ++ journal_of p r.logs
   journal_written stats run =
       let others : List (List ℕ) = told ++ thread_lines m 0 m.threads ++ only_where stats (class_lines r.program m 0 r.classes (order r.logs)) in
@@ -85,7 +87,8 @@ module _ (o : Options) (p : ProgramText) (r : RunRecord) (c : ClosedSeen) (m : P
     pub journal_verdict : IsVerdict p o.fuel o.start (journal_of p r.logs) (answer_to r)
     journal_verdict = record { holds = journal_legal; given = given _ }
 
-pub journal_only : (o : Options) (p : ProgramText) (r : RunRecord) (c : ClosedSeen) (m : PlainMachine) (answer : Result Checked CheckFault) → IsProgram p → o.fuel ≤ most_fuel
+pub journal_only : (o : Options) (p : ProgramText) (r : RunRecord) (c : ClosedSeen) (m : PlainMachine) (answer : Result Checked CheckFault)
+    → IsProgram p → o.fuel ≤ most_fuel
     → IsRunOf o p r c m → IsVerdict p o.fuel o.start (journal_of p r.logs) answer → answer ≡ answer_to r
 journal_only o p r c m answer is few run h =
     sym (found_only p o.fuel o.start (journal_of p r.logs) answer is h.holds h.given)
@@ -96,7 +99,8 @@ journal_only o p r c m answer is few run h =
 abbrev IsLegalOf : RunRecord → Type 0
 IsLegalOf r = IsVerdict r.program r.fuel r.start (journal_of r.program r.logs) (answer_to r)
 
-run_legal : (o : Options) (p : ProgramText) (r : RunRecord) (c : ClosedSeen) (m : PlainMachine) → IsProgram p → o.fuel ≤ most_fuel → IsRunOf o p r c m → IsLegalOf r
+run_legal : (o : Options) (p : ProgramText) (r : RunRecord) (c : ClosedSeen) (m : PlainMachine)
+    → IsProgram p → o.fuel ≤ most_fuel → IsRunOf o p r c m → IsLegalOf r
 run_legal o p r c m is few run =
     rw (run.ran.of.program, run.ran.of.fuel, run.ran.of.start) (journal_verdict o p r c m is few run)
 
@@ -138,18 +142,21 @@ module _ (before after : SinkSeen) (f : Finish) where
   sync_leaves o (Err e) r few is met h = absurd (none-some r (sym met.0.0 ∙ h))
   sync_leaves o (Ok s) r few is met h = ran_leaves o (compiled decimal s) r few (compiled_is_program s (is s refl)) met.0 h
 
-  text_leaves : (words : List (List ℕ)) (c : Option Command) (bytes : List ℕ) (r : RunRecord) → accepted words ≡ c → Meets before after f (text_due c bytes) → f.run ≡ Some r
+  text_leaves : (words : List (List ℕ)) (c : Option Command) (bytes : List ℕ) (r : RunRecord)
+      → accepted words ≡ c → Meets before after f (text_due c bytes) → f.run ≡ Some r
       → IsLegalOf r
   text_leaves words None bytes r e met h = absurd (none-some r (sym met.0.0 ∙ h))
   text_leaves words (Some (Run o)) bytes r e met h = run_leaves o (program_of bytes) r (runnable words o e).fuel (allowed_law bytes) met h
   text_leaves words (Some (Sync o)) bytes r e met h = sync_leaves o (sync_program_of bytes) r (sync_runnable words o e).fuel (blocks_allowed bytes) met h
   text_leaves words (Some Compile) bytes r e met h = absurd (none-some r (sym (compiled_leaves (sync_program_of bytes) met) ∙ h))
   text_leaves words (Some (Check fuel start)) bytes r e met h =
-      absurd (none-some r (sym (check_leaves fuel start _ _ (journal_part bytes) (nat_lt most_of_journal (length bytes)) (has_journal bytes) (program_of (program_part bytes)) met) ∙ h))
+      absurd (none-some r (sym (check_leaves fuel start _ _ (journal_part bytes)
+      (nat_lt most_of_journal (length bytes)) (has_journal bytes) (program_of (program_part bytes)) met) ∙ h))
   text_leaves words (Some (Make items)) bytes r e met h = absurd (none-some r (sym met.0.0 ∙ h))
   text_leaves words (Some (Outcomes states witness)) bytes r e met h = absurd (none-some r (sym (searched_leaves states witness (program_of bytes) met) ∙ h))
 
-  reading_leaves : (words : List (List ℕ)) (reading : Reading) (r : RunRecord) → Meets before after f (due_of (accepted words) reading) → f.run ≡ Some r → IsLegalOf r
+  reading_leaves : (words : List (List ℕ)) (reading : Reading) (r : RunRecord)
+      → Meets before after f (due_of (accepted words) reading) → f.run ≡ Some r → IsLegalOf r
   reading_leaves words Unread r met h = text_leaves words (accepted words) [] r refl met h
   reading_leaves words ReadFault r met h = absurd (none-some r (sym met.0.0 ∙ h))
   reading_leaves words (Text bytes) r met h = text_leaves words (accepted words) bytes r refl met h

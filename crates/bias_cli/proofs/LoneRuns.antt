@@ -3,14 +3,14 @@ use Rattle.std.proofs.Common.{◌≡◌, ℕ, false, length, Some, refl, sym, ap
 use Rattle.heap_table.specs.Seen.{ClosedSeen}
 use Rattle.lock_journal.specs.RunText.{text_of_run}
 use Rattle.lock_journal.specs.declared.record.RunRecord.{RunRecord}
-use Rattle.lone_logs.specs.LoneRun.{AreSameButForPaths, IsLoneRun}
-use Rattle.lone_logs.specs.Shots.{HasShotsOf}
-use Rattle.lone_logs.proofs.OneWay.{same_runs}
-use Rattle.lone_logs.proofs.Texts.{one_text}
+use Rattle.single_thread_law.specs.LoneRun.{AreSameButForPaths, IsLoneRun}
+use Rattle.single_thread_law.specs.Shots.{HasShotsOf}
+use Rattle.single_thread_law.proofs.OneWay.{same_runs}
+use Rattle.single_thread_law.proofs.Texts.{one_text}
 use Rattle.object_program.specs.Program.{ProgramText}
 use Rattle.plain_machine.specs.Machine.{PlainMachine}
 use Rattle.program_run.proofs.Lone.{lone_run, lone_shots}
-use Rattle.run_words.specs.declared.options.Options.{Options}
+use Rattle.cli_args.specs.declared.options.Options.{Options}
 use Rattle.bias_cli.specs.Asked.{settings_of}
 use Rattle.bias_cli.specs.Finish.{IsRunOf, status_of}
 

@@ -1,15 +1,17 @@
 -- Words that ask for a program to be made say from 1 to 1,500 items, and those that ask for a search keep one state at least.
-use Rattle.std.proofs.Common.{◌≡◌, ℕ, ◌≤◌, ◌&&◌, ◌||◌, Bool, true, false, nat_le, if◌then◌else◌, List, [], ◌∷◌, Option, Some, None, is_some, option_map, option_and_then, refl, subst, arith}
+use Rattle.std.proofs.Common.{◌≡◌, ℕ, ◌≤◌, ◌&&◌, ◌||◌, Bool, true, false, nat_le, if◌then◌else◌, List, [], ◌∷◌}
+use Rattle.std.proofs.Common.{Option, Some, None, is_some, option_map, option_and_then, refl, subst, arith}
 use Rattle.std.specs.Prelude.{codes}
 use Rattle.std.specs.Bool.{⊤}
 use Rattle.std.specs.Str.{bytes_eq}
 use Rattle.std.specs.Str.Parse.{digits_value}
 use Rattle.std.proofs.lemmas.Bool.{leb-true}
-use Rattle.run_words.specs.declared.options.Options.{Options}
-use Rattle.run_words.specs.declared.options.Command.{Command}
-use Rattle.run_words.specs.declared.options.Command.TheVariants.{Run, Sync, Compile, Check, Make, Outcomes}
-use Rattle.run_words.specs.Number.{is_number, number, within}
-use Rattle.run_words.specs.Command.{Text, Values, accepted, compile_of, make_of, check_by, check_values, fuel_of, start_of, has_run_options, has_outcome_options, options_in, outcomes_by, read_or, values_in}
+use Rattle.cli_args.specs.declared.options.Options.{Options}
+use Rattle.cli_args.specs.declared.options.Command.{Command}
+use Rattle.cli_args.specs.declared.options.Command.TheVariants.{Run, Sync, Compile, Check, Make, Outcomes}
+use Rattle.cli_args.specs.Number.{is_number, number, within}
+use Rattle.cli_args.specs.Command.{Text, Values, accepted, compile_of, make_of, check_by, check_values, fuel_of, start_of}
+use Rattle.cli_args.specs.Command.{has_run_options, has_outcome_options, options_in, outcomes_by, read_or, values_in}
 
 -- where a command makes a program or a search, its number is in that range
 abbrev IsFew : Option Command → Type 0

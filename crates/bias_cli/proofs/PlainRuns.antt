@@ -3,7 +3,7 @@ use Rattle.std.proofs.Common.{◌≡◌, ℕ, Bool, true, false, List, [], ◌++
 use Rattle.heap_table.specs.Seen.{ClosedSeen}
 use Rattle.lock_journal.specs.RunText.{text_of_lines, text_of_run}
 use Rattle.lock_journal.specs.declared.record.RunRecord.{RunRecord}
-use Rattle.lone_logs.specs.LoneRun.{with_no_paths}
+use Rattle.single_thread_law.specs.LoneRun.{with_no_paths}
 use Rattle.object_program.specs.Program.{ProgramText}
 use Rattle.plain_machine.specs.Legal.{machine_after}
 use Rattle.plain_machine.specs.Machine.{PlainMachine}
@@ -11,7 +11,7 @@ use Rattle.program_run.specs.PlainRun.{plain_text}
 use Rattle.program_run.proofs.NoPaths.{after_bare}
 use Rattle.program_run.proofs.PlainRuns.{plain_run, plain_text_is}
 use Rattle.program_run.proofs.ChosenPaths.{made}
-use Rattle.run_words.specs.declared.options.Options.{Options}
+use Rattle.cli_args.specs.declared.options.Options.{Options}
 use Rattle.bias_cli.specs.declared.finish.Finish.{Finish}
 use Rattle.bias_cli.specs.Asked.{settings_of}
 use Rattle.bias_cli.specs.Finish.{IsRunOf, IsWritten, LeavesRun, status_of}

@@ -4,8 +4,8 @@ use Rattle.std.proofs.lemmas.Option.{same_Some}
 use Rattle.plain_machine.specs.Legal.{IsLegal}
 use Rattle.lock_journal.specs.declared.record.RunRecord.{RunRecord}
 use Rattle.object_program.specs.Program.{ProgramText}
-use Rattle.run_words.specs.declared.options.Options.{Options}
-use Rattle.run_words.specs.declared.options.Command.{Command}
+use Rattle.cli_args.specs.declared.options.Options.{Options}
+use Rattle.cli_args.specs.declared.options.Command.{Command}
 use Rattle.sync_source.specs.Compiled.{compiled}
 use Rattle.bias_cli.specs.declared.finish.Finish.{Finish}
 use Rattle.bias_cli.specs.Seen.{SourceSeen, SinkSeen}
@@ -16,7 +16,8 @@ record IsReplayed (r : RunRecord) : Type 0 where
   pub legal : IsLegal r.program r.fuel r.logs
   pub threads : length r.logs ≡ length r.program.threads
 
-run_replayed : (before after : SinkSeen) (f : Finish) (r : RunRecord) (o : Options) (p : ProgramText) → LeavesRun before after f o p → f.run ≡ Some r → IsReplayed r
+run_replayed : (before after : SinkSeen) (f : Finish) (r : RunRecord) (o : Options) (p : ProgramText)
+    → LeavesRun before after f o p → f.run ≡ Some r → IsReplayed r
 run_replayed before after f r o p met h =
     let same : met.0 ≡ r = same_Some met.0 r (sym met.2 ∙ h) in
     let ran = (rw same at met.4).run.ran in
@@ -43,5 +44,6 @@ pub replayed_legal : (c : Option Command) (source_before source_after : SourceSe
 replayed_legal c sb sa kb ka f r d h = (replayed c sb sa kb ka f r d h).legal
 
 pub replayed_threads : (c : Option Command) (source_before source_after : SourceSeen) (sink_before sink_after : SinkSeen) (f : Finish) (r : RunRecord)
-    → IsGivenUp sink_before sink_after f ⊎ IsFinish c source_before source_after sink_before sink_after f → f.run ≡ Some r → length r.logs ≡ length r.program.threads
+    → IsGivenUp sink_before sink_after f ⊎ IsFinish c source_before source_after sink_before sink_after f
+    → f.run ≡ Some r → length r.logs ≡ length r.program.threads
 replayed_threads c sb sa kb ka f r d h = (replayed c sb sa kb ka f r d h).threads

@@ -1,16 +1,18 @@
 -- The options of words that are accepted are such that a run can have them.
-use Rattle.std.proofs.Common.{◌≡◌, ℕ, ◌≤◌, ◌&&◌, ◌||◌, Bool, true, false, nat_le, if◌then◌else◌, List, [], ◌∷◌, Option, Some, None, is_some, option_map, option_and_then, refl, subst, arith}
+use Rattle.std.proofs.Common.{◌≡◌, ℕ, ◌≤◌, ◌&&◌, ◌||◌, Bool, true, false, nat_le, if◌then◌else◌, List, [], ◌∷◌}
+use Rattle.std.proofs.Common.{Option, Some, None, is_some, option_map, option_and_then, refl, subst, arith}
 use Rattle.std.specs.Prelude.{codes}
 use Rattle.std.specs.Bool.{⊤}
 use Rattle.std.specs.Str.{bytes_eq}
 use Rattle.std.specs.Str.Parse.{digits_value}
 use Rattle.std.proofs.lemmas.Bool.{leb-true}
 use Rattle.plain_monitor.specs.Limits.{most_threads, most_fuel}
-use Rattle.run_words.specs.declared.options.Options.{Options}
-use Rattle.run_words.specs.declared.options.Command.{Command}
-use Rattle.run_words.specs.declared.options.Command.TheVariants.{Run, Sync, Compile, Check, Make, Outcomes}
-use Rattle.run_words.specs.Number.{is_number, number, within}
-use Rattle.run_words.specs.Command.{Text, Values, accepted, check_by, check_values, compile_of, fuel_of, has_outcome_options, has_run_options, make_of, options_in, options_of, outcomes_by, read_or, run_values, start_of, switch, values_in}
+use Rattle.cli_args.specs.declared.options.Options.{Options}
+use Rattle.cli_args.specs.declared.options.Command.{Command}
+use Rattle.cli_args.specs.declared.options.Command.TheVariants.{Run, Sync, Compile, Check, Make, Outcomes}
+use Rattle.cli_args.specs.Number.{is_number, number, within}
+use Rattle.cli_args.specs.Command.{Text, Values, accepted, check_by, check_values, compile_of, fuel_of, has_outcome_options, has_run_options}
+use Rattle.cli_args.specs.Command.{make_of, options_in, options_of, outcomes_by, read_or, run_values, start_of, switch, values_in}
 use Rattle.bias_cli.specs.inner.Asked.{IsRunnable}
 
 -- where there is a number, it lies between these
@@ -24,7 +26,8 @@ of_within least most n true false e f = tt
 of_within least most n false b e f = tt
 
 of_number : (least most : ℕ) (text : Text) (b : Bool) → IsBetween least most (if b then within least most (digits_value 10 text) else None)
-of_number least most text true = of_within least most (digits_value 10 text) (nat_le least (digits_value 10 text)) (nat_le (digits_value 10 text) most) refl refl
+of_number least most text true =
+    of_within least most (digits_value 10 text) (nat_le least (digits_value 10 text)) (nat_le (digits_value 10 text) most) refl refl
 of_number least most text false = tt
 
 of_text : (default least most : ℕ) → least ≤ default → default ≤ most → (text : Option Text) → IsBetween least most (read_or default (number least most) text)
@@ -52,7 +55,8 @@ joined v workers fuel quantum bias start tick =
       report = v.report;
     })) tick) start) bias) quantum) fuel) workers
 
-of_parts : (v : Values) (workers fuel quantum : Option ℕ) (bias : Option Bool) (start tick : Option ℕ) → IsBetween 1 most_threads workers → IsBetween 1 most_fuel fuel → IsBetween 1 100000 quantum
+of_parts : (v : Values) (workers fuel quantum : Option ℕ) (bias : Option Bool) (start tick : Option ℕ)
+    → IsBetween 1 most_threads workers → IsBetween 1 most_fuel fuel → IsBetween 1 100000 quantum
     → AreRunnable (joined v workers fuel quantum bias start tick)
 of_parts v None fuel quantum bias start tick w f q = tt
 of_parts v (Some a) None quantum bias start tick w f q = tt

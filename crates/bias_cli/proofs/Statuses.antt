@@ -1,5 +1,6 @@
 -- Which calls have status 7.
-use Rattle.std.proofs.Common.{◌≡◌, ◌≢◌, ◌⊎◌, ℕ, Bool, true, false, nat_eq, nat_lt, ◌||◌, if◌then◌else◌, List, length, Option, Some, None, refl, sym, ◌∙◌, arith, inl, inr, decimal}
+use Rattle.std.proofs.Common.{◌≡◌, ◌≢◌, ◌⊎◌, ℕ, Bool, true, false, nat_eq, nat_lt, ◌||◌, if◌then◌else◌, List}
+use Rattle.std.proofs.Common.{length, Option, Some, None, refl, sym, ◌∙◌, arith, inl, inr, decimal}
 use Rattle.std.specs.Prelude.{Result, Ok, Err}
 use Rattle.std.specs.List.{list_any}
 use Rattle.std.specs.Bool.{⊤}
@@ -16,9 +17,9 @@ use Rattle.bias_check.specs.declared.answer.Checked.TheVariants.{Legal, NoStep, 
 use Rattle.bias_check.specs.declared.answer.CheckFault.{CheckFault}
 use Rattle.bias_check.specs.declared.answer.CheckFault.TheVariants.{Unreadable, NoMemory}
 use Rattle.bias_check.specs.Parts.{has_journal, program_part, journal_part}
-use Rattle.run_words.specs.declared.options.Options.{Options}
-use Rattle.run_words.specs.declared.options.Command.{Command}
-use Rattle.run_words.specs.declared.options.Command.TheVariants.{Run, Sync, Compile, Check, Make, Outcomes}
+use Rattle.cli_args.specs.declared.options.Options.{Options}
+use Rattle.cli_args.specs.declared.options.Command.{Command}
+use Rattle.cli_args.specs.declared.options.Command.TheVariants.{Run, Sync, Compile, Check, Make, Outcomes}
 use Rattle.sync_source.specs.Compiled.{compiled}
 use Rattle.bias_cli.specs.declared.finish.Finish.{Finish}
 use Rattle.bias_cli.specs.Seen.{SourceSeen, SinkSeen}
@@ -26,7 +27,8 @@ use Rattle.bias_cli.specs.Input.{most_of_journal}
 use Rattle.bias_cli.specs.Verdict.{verdict_status}
 use Rattle.outcome_search.specs.Outcomes.{has_hash}
 use Rattle.bias_cli.specs.Outcomes.{outcome_status}
-use Rattle.bias_cli.specs.Finish.{Reading, Unread, ReadFault, Text, Due, Tells, Runs, RunsBlocks, Checks, Finds, run_due, sync_due, compile_due, finds_due, journal_due, text_due, due_of, is_cut_short, status_of, IsWritten, LeavesRun, Meets, IsGivenUp, IsFinish}
+use Rattle.bias_cli.specs.Finish.{Reading, Unread, ReadFault, Text, Due, Tells, Runs, RunsBlocks, Checks, Finds, run_due, sync_due, compile_due}
+use Rattle.bias_cli.specs.Finish.{finds_due, journal_due, text_due, due_of, is_cut_short, status_of, IsWritten, LeavesRun, Meets, IsGivenUp, IsFinish}
 
 -- ---- the statuses that are due
 
@@ -122,7 +124,8 @@ met_another before after f (Checks p fuel start lines) another met =
 met_another before after f (Finds p states witness) another met =
     let found = met.1 in
     let o = found.counts in
-    written_another before after f.status (outcome_status o) _ (outcome_another (nat_lt 0 o.stuck) (nat_lt 0 o.faulted || nat_lt 0 o.spent) (nat_lt 0 o.«open»)) found.written
+    written_another before after f.status (outcome_status o) _
+    (outcome_another (nat_lt 0 o.stuck) (nat_lt 0 o.faulted || nat_lt 0 o.spent) (nat_lt 0 o.«open»)) found.written
 
 pub finished_another : (c : Option Command) (sb sa : SourceSeen) (kb ka : SinkSeen) (f : Finish) → IsFinish c sb sa kb ka f → f.status ≢ 7
 finished_another c sb sa kb ka f d = met_another kb ka f (due_of c d.reading) (due_another c d.reading) d.met

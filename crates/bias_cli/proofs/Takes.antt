@@ -1,5 +1,6 @@
 -- Taking bytes from a source and putting them into a sink, piece by piece.
-use Rattle.std.proofs.Common.{◌≡◌, ℕ, zero, suc, ◌+◌, ◌-◌, ◌≤◌, List, [], ◌∷◌, ◌++◌, length, take, drop, refl, ap, sym, ◌∙◌, arith, append_assoc, zero-add, Option, Some, length-drop}
+use Rattle.std.proofs.Common.{◌≡◌, ℕ, zero, suc, ◌+◌, ◌-◌, ◌≤◌, List, [], ◌∷◌, ◌++◌, length, take, drop, refl}
+use Rattle.std.proofs.Common.{ap, sym, ◌∙◌, arith, append_assoc, zero-add, Option, Some, length-drop}
 use Rattle.std.proofs.lemmas.List.{take-append-drop, drop-drop, take_all, drop_all}
 use Rattle.run_io.specs.Source.{IsAtEnd}
 use Rattle.run_io.specs.Sink.{Appends}
@@ -18,8 +19,9 @@ took_more n m l0 l1 l2 bs cs first more left e =
     let b = more (drop n left) a.1 in
     (b.0 ∙ ap (λ xs. xs ++ take m (drop n left)) a.0 ∙ sym (take_joined n m left), b.1 ∙ ap Some (drop-drop m n left))
 
--- where nothing is left behind the first n bytes, they are all
-pub took_to_end : (n most : ℕ) (l0 l1 l2 : Option (List ℕ)) (bs cs : List ℕ) → n ≤ most + 1 → TookFirst n l0 l1 bs → TookMore 0 l1 l2 bs cs → IsAtEnd l1 → Took most l0 l2 cs
+-- where nothing is left after the first n bytes, they are all
+pub took_to_end : (n most : ℕ) (l0 l1 l2 : Option (List ℕ)) (bs cs : List ℕ) → n ≤ most + 1
+    → TookFirst n l0 l1 bs → TookMore 0 l1 l2 bs cs → IsAtEnd l1 → Took most l0 l2 cs
 took_to_end n most l0 l1 l2 bs cs within first more ended left e =
     let none = ended (drop n left) (first left e).1 in
     let short : length left ≤ n = omega (arith, length-drop n left, ap length none) in
@@ -29,15 +31,17 @@ took_to_end n most l0 l1 l2 bs cs within first more ended left e =
     )
 
 -- a write that was offered what is left of the piece
-pub wrote_more : (n m : ℕ) (h0 h1 h2 : Option (List ℕ)) (piece left : List ℕ) → left ≡ drop n piece → Wrote h0 h1 (take n piece) → Appends h1 h2 left m → Wrote h0 h2 (take (n + m) piece)
+pub wrote_more : (n m : ℕ) (h0 h1 h2 : Option (List ℕ)) (piece left : List ℕ) → left ≡ drop n piece
+    → Wrote h0 h1 (take n piece) → Appends h1 h2 left m → Wrote h0 h2 (take (n + m) piece)
 wrote_more n m h0 h1 h2 piece left is first more held e =
     more (held ++ take n piece) (first held e)
-    ∙ ap Some (append_assoc held (take n piece) (take m left) ∙ ap (λ xs. held ++ (take n piece ++ take m xs)) is ∙ ap (λ xs. held ++ xs) (sym (take_joined n m piece)))
+    ∙ ap Some (append_assoc held (take n piece) (take m left)
+    ∙ ap (λ xs. held ++ (take n piece ++ take m xs)) is ∙ ap (λ xs. held ++ xs) (sym (take_joined n m piece)))
 
 pub wrote_front : (n : ℕ) (h0 h1 h2 : Option (List ℕ)) (piece : List ℕ) → Wrote h0 h1 (take n piece) → h2 ≡ h1 → WroteFront h0 h2 piece
 wrote_front n h0 h1 h2 piece first kept = (take n piece, drop n piece, sym (take-append-drop n piece), λ held e. kept ∙ first held e)
 
--- further bytes behind the first, of which only some may have been kept
+-- further bytes after the first, of which only some may have been kept
 pub took_some : (n most : ℕ) (l0 l1 l2 : Option (List ℕ)) (bs : List ℕ) → n ≤ most → TookFirst n l0 l1 bs → TookSome (most - n) l1 l2 → TookSome most l0 l2
 took_some n most l0 l1 l2 bs within first some left e =
     let more = some (drop n left) (first left e).1 in (n + more.0, omega (arith, more.1), more.2 ∙ ap Some (drop-drop more.0 n left))

@@ -18,7 +18,8 @@ pub record WroteSoFar (held_before held_now : Option (List ℕ)) (lines left : L
 pub wrote_none : (h : Option (List ℕ)) (lines left : List (List ℕ)) → left ≡ lines → WroteSoFar h h lines left
 wrote_none h lines left e = record { done = []; all = sym e; wrote = λ held is. is ∙ ap Some (sym (append-nil held)) }
 
-pub wrote_line : (h0 h1 h2 : Option (List ℕ)) (lines left rest : List (List ℕ)) (line : List ℕ) → left ≡ line ∷ rest → WroteSoFar h0 h1 lines left → Wrote h1 h2 line → WroteSoFar h0 h2 lines rest
+pub wrote_line : (h0 h1 h2 : Option (List ℕ)) (lines left rest : List (List ℕ)) (line : List ℕ)
+    → left ≡ line ∷ rest → WroteSoFar h0 h1 lines left → Wrote h1 h2 line → WroteSoFar h0 h2 lines rest
 wrote_line h0 h1 h2 lines left rest line e w more =
     record {
       done = w.done ++ line ∷ [];
@@ -35,7 +36,8 @@ wrote_all h0 h1 lines left e w held is =
     w.wrote held is ∙ ap (λ ls. Some (held ++ text_of_lines ls)) (sym (append-nil w.done) ∙ ap (λ ls. w.done ++ ls) (sym e) ∙ sym w.all)
 
 -- a line of which a front was written
-pub wrote_part : (h0 h1 h2 : Option (List ℕ)) (lines left rest : List (List ℕ)) (line : List ℕ) → left ≡ line ∷ rest → WroteSoFar h0 h1 lines left → WroteFront h1 h2 line
+pub wrote_part : (h0 h1 h2 : Option (List ℕ)) (lines left rest : List (List ℕ)) (line : List ℕ)
+    → left ≡ line ∷ rest → WroteSoFar h0 h1 lines left → WroteFront h1 h2 line
     → WroteFront h0 h2 (text_of_lines lines)
 wrote_part h0 h1 h2 lines left rest line e w part =
     let done = text_of_lines w.done in
@@ -50,7 +52,7 @@ wrote_part h0 h1 h2 lines left rest line e w part =
       λ held is. part.3 (held ++ done) (w.wrote held is) ∙ ap Some (append_assoc held done part.0),
     )
 
--- ---- a text behind another
+-- ---- a text after another
 
 pub wrote_both : (h0 h1 h2 : Option (List ℕ)) (a b : List ℕ) → Wrote h0 h1 a → Wrote h1 h2 b → Wrote h0 h2 (a ++ b)
 wrote_both h0 h1 h2 a b first second held is = second (held ++ a) (first held is) ∙ ap Some (append_assoc held a b)
@@ -59,8 +61,12 @@ pub wrote_of_first : (h0 h1 : Option (List ℕ)) (a b : List ℕ) → WroteFront
 wrote_of_first h0 h1 a b part = (part.0, part.1 ++ b, ap (λ bs. bs ++ b) part.2 ∙ append_assoc part.0 part.1 b, part.3)
 
 pub wrote_of_second : (h0 h1 h2 : Option (List ℕ)) (a b : List ℕ) → Wrote h0 h1 a → WroteFront h1 h2 b → WroteFront h0 h2 (a ++ b)
-wrote_of_second h0 h1 h2 a b first part =
-    (a ++ part.0, part.1, ap (λ bs. a ++ bs) part.2 ∙ sym (append_assoc a part.0 part.1), λ held is. part.3 (held ++ a) (first held is) ∙ ap Some (append_assoc held a part.0))
+wrote_of_second h0 h1 h2 a b first part = (
+  a ++ part.0,
+  part.1,
+  ap (λ bs. a ++ bs) part.2 ∙ sym (append_assoc a part.0 part.1),
+  λ held is. part.3 (held ++ a) (first held is) ∙ ap Some (append_assoc held a part.0),
+)
 
 -- the lines that are left begin with the next one
 pub line_first : (lines : List (List ℕ)) (i : ℕ) (line : List ℕ) → i < length lines → line ≡ get_or lines i line → drop i lines ≡ line ∷ drop (i + 1) lines

@@ -1,6 +1,6 @@
 -- How a program is run by the options of a command.
 use Rattle.program_run.specs.declared.settings.Settings.{Settings}
-use Rattle.run_words.specs.declared.options.Options.{Options}
+use Rattle.cli_args.specs.declared.options.Options.{Options}
 
 abbrev pub settings_of : Options → Settings
 settings_of o =

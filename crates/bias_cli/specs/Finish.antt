@@ -1,5 +1,6 @@
 -- What a call of `biasrun` reads, writes and answers.
-use Rattle.std.specs.Prelude.{◌≡◌, ◌⊎◌, ℕ, ◌+◌, Bool, true, false, nat_lt, if◌then◌else◌, List, [], ◌++◌, codes, decimal, length, IsTrue, Option, Some, None, Result, Ok, Err}
+use Rattle.std.specs.Prelude.{◌≡◌, ◌⊎◌, ℕ, ◌+◌, Bool, true, false, nat_lt, if◌then◌else◌, List, [], ◌++◌}
+use Rattle.std.specs.Prelude.{codes, decimal, length, IsTrue, Option, Some, None, Result, Ok, Err}
 use Rattle.std.specs.List.{list_any}
 use Rattle.run_io.specs.Faults.{rose}
 use Rattle.run_io.specs.declared.source.Source as of_source
@@ -30,10 +31,10 @@ use Rattle.outcome_search.specs.declared.outcome.Outcomes as of_search
 use Rattle.outcome_search.specs.Outcomes.{has_hash}
 use Rattle.bias_cli.specs.Outcomes.{IsSearched, outcome_lines, outcome_status}
 use Rattle.lock_journal.specs.RunText.{text_of_run, text_of_lines}
-use Rattle.run_words.specs.declared.options.Options.{Options}
-use Rattle.run_words.specs.declared.options.Command.{Command}
-use Rattle.run_words.specs.declared.options.Command.TheVariants.{Run, Sync, Compile, Check, Make, Outcomes}
-use Rattle.made_program.specs.HandoverText.{handover_text}
+use Rattle.cli_args.specs.declared.options.Options.{Options}
+use Rattle.cli_args.specs.declared.options.Command.{Command}
+use Rattle.cli_args.specs.declared.options.Command.TheVariants.{Run, Sync, Compile, Check, Make, Outcomes}
+use Rattle.handover_program.specs.HandoverText.{handover_text}
 use Rattle.bias_cli.specs.Refused.{refusal_text, sync_refusal_text}
 use Rattle.lock_journal.specs.declared.record.RunRecord.{RunRecord}
 use Rattle.heap_table.specs.Seen.{ClosedSeen}
@@ -161,14 +162,14 @@ status_of m =
     else if list_any (λ s. is_cut_short (ending_in s.mode)) m.threads then 1
     else 0
 
--- a run of the program under these options left the record and the closed heap, and this is the machine under it: the one behind
+-- a run of the program under these options left the record and the closed heap, and this is the machine under it: the one after
 -- all logged entries in stamped order
 pub record IsRunOf (o : Options) (p : ProgramText) (r : RunRecord) (c : ClosedSeen)
     (machine : PlainMachine) : Type 0 where
   pub ran : IsRan (settings_of o) p r c
   pub under : machine_after p o.fuel r.logs ≡ Some machine
 
--- a run: its status is that of the machine under the record, and its text is written, and behind it the report where it is
+-- a run: its status is that of the machine under the record, and its text is written, and after it the report where it is
 -- asked for
 pub record IsRun (o : Options) (p : ProgramText) (before after : SinkSeen) (status : ℕ) (r : RunRecord)
     (c : ClosedSeen) : Type 0 where
@@ -186,7 +187,7 @@ pub record IsCheck (p : ProgramText) (fuel start : ℕ) (lines : List (List ℕ)
   pub verdict : IsVerdict p fuel start lines answer
   pub written : IsWritten before after status (verdict_status answer) (verdict_text p answer)
 
--- a search for every end: its counts are written, and behind them the way to an end where it is asked for, with the status by the counts
+-- a search for every end: its counts are written, and after them the way to an end where it is asked for, with the status by the counts
 pub record HasSearched (p : ProgramText) (states : ℕ) (witness : Bool) (before after : SinkSeen) (status : ℕ) : Type 0 where
   pub counts : of_search.Outcomes
   pub lines : List (List ℕ)

@@ -9,7 +9,7 @@ use Rattle.object_program.specs.Program.{ProgramText}
 use Rattle.plain_machine.specs.Machine.{PlainMachine}
 use Rattle.plain_monitor.specs.declared.entry.Logged.{Logged}
 use Rattle.program_run.specs.PlainRun.{IsPlainRun, plain_text}
-use Rattle.run_words.specs.declared.options.Options.{Options}
+use Rattle.cli_args.specs.declared.options.Options.{Options}
 use Rattle.bias_cli.specs.Finish.{IsRunOf, IsWritten, status_of}
 use Rattle.bias_cli.specs.Seen.{SinkSeen}
 

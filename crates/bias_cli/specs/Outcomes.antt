@@ -34,7 +34,7 @@ outcome_lines o =
 abbrev pub end_to_show : Outcomes → Option End
 end_to_show o = if nat_lt 0 o.stuck then Some Stuck else if nat_lt 0 o.faulted then Some Faulted else None
 
--- where one is to be shown, the lines behind the marker are a journal that leads to such an end, or it is said that there is none
+-- where one is to be shown, the lines after the marker are a journal that leads to such an end, or it is said that there is none
 abbrev pub IsShown : ProgramText → Option End → List (List ℕ) → Type 0
 IsShown p None lines = lines ≡ []
 IsShown p (Some end) lines =

@@ -1,13 +1,14 @@
 -- What is written of a text that has no program: the line, and the cause by its name.
 use Rattle.std.specs.Prelude.{ℕ, ◌==◌, if◌then◌else◌, List, ◌++◌, codes, decimal}
 use Rattle.program_syntax.specs.declared.error.ProgramError.{ProgramError}
-use Rattle.program_syntax.specs.declared.error.Why.{Why}
+use Rattle.program_syntax.specs.declared.error.RefusalCause.{RefusalCause}
 use Rattle.sync_syntax.specs.declared.error.SyncError.{SyncError}
-use Rattle.sync_syntax.specs.declared.error.SyncWhy.{SyncWhy}
-use Rattle.sync_syntax.specs.declared.error.SyncWhy.TheVariants.{Plain, Open, Stray, Assigned, Deep}
-use Rattle.program_syntax.specs.declared.error.Why.TheVariants.{NotAscii, UnknownWord, Operands, BadName, Twice, Undeclared, BadNumber, Limit, NoThread, NoEnd, Later, NoMemory}
+use Rattle.sync_syntax.specs.declared.error.SyncRefusalCause.{SyncRefusalCause}
+use Rattle.sync_syntax.specs.declared.error.SyncRefusalCause.TheVariants.{Plain, Open, Stray, Assigned, Deep}
+use Rattle.program_syntax.specs.declared.error.RefusalCause.TheVariants.{NotAscii, UnknownWord, Operands, BadName, Twice, Undeclared}
+use Rattle.program_syntax.specs.declared.error.RefusalCause.TheVariants.{BadNumber, Limit, NoThread, NoEnd, Later, NoMemory}
 
-abbrev pub cause_text : Why → List ℕ
+abbrev pub cause_text : RefusalCause → List ℕ
 cause_text NotAscii = codes "NotAscii"
 cause_text UnknownWord = codes "UnknownWord"
 cause_text Operands = codes "Operands"
@@ -32,7 +33,7 @@ abbrev pub refusal_text : ProgramError → List ℕ
 refusal_text e = cause_line e.line (cause_text e.why)
 
 -- the same of a text that has no program with blocks
-abbrev pub sync_cause_text : SyncWhy → List ℕ
+abbrev pub sync_cause_text : SyncRefusalCause → List ℕ
 sync_cause_text (Plain why) = cause_text why
 sync_cause_text Open = codes "Open"
 sync_cause_text Stray = codes "Stray"

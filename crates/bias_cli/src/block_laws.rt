@@ -4,7 +4,7 @@ ghost use Rattle.std.specs.Prelude.{◌≡◌, ◌≤◌, decimal, length, List,
 ghost use Rattle.program_syntax.specs.Canonical.{canonical};
 ghost use Rattle.program_syntax.specs.Refusal.{program_of};
 ghost use Rattle.program_syntax.specs.Text.{most_bytes};
-ghost use Rattle.run_words.specs.declared.options.Options.{Options};
+ghost use Rattle.cli_args.specs.declared.options.Options.{Options};
 ghost use Rattle.sync_source.specs.Compiled.{compiled};
 ghost use Rattle.sync_source.specs.Source.{SyncText};
 ghost use Rattle.sync_syntax.specs.Refusal.{sync_program_of};

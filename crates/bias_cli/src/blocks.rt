@@ -1,29 +1,29 @@
 //! A text of the language with blocks: it is read, and its code is run.
 
 ghost use Rattle.std.specs.Prelude.{◌≢◌, ◌⊎◌, Some};
-ghost use Rattle.program_syntax.specs.declared.error.Why.TheVariants as why;
-ghost use Rattle.run_words.specs.declared.options.Command.TheVariants.{Sync};
+ghost use Rattle.program_syntax.specs.declared.error.RefusalCause.TheVariants as why;
+ghost use Rattle.cli_args.specs.declared.options.Command.TheVariants.{Sync};
 ghost use Rattle.sync_source.specs.SourceView.{sync_text};
 ghost use Rattle.sync_syntax.specs.Refusal.{sync_program_of};
-ghost use Rattle.sync_syntax.specs.declared.error.SyncWhy.TheVariants.{Plain};
+ghost use Rattle.sync_syntax.specs.declared.error.SyncRefusalCause.TheVariants.{Plain};
 ghost use Rattle.bias_cli.specs.inner.Asked.{IsRunnable};
 ghost use Rattle.program_syntax.specs.Text.{most_bytes};
 ghost use Rattle.bias_cli.specs.Seen.{source_seen, sink_seen};
 ghost use Rattle.bias_cli.specs.Finish.{Meets, RunsBlocks, no_sync_program, sync_due, IsGivenUp, IsFinish, TakesAtMost};
 
-use crate::finish::{Finish, give_up, tell};
+use crate::finish::{Finish, finish_with, out_of_memory};
 use crate::input::{ReadError, read_text};
 use crate::refusal::sync_refusal_line;
 use crate::run::run_and_write;
+use cli_args::Options;
 use plain_monitor::NoMemory;
-use program_syntax::{BYTES, Why};
+use program_syntax::{BYTES, RefusalCause};
 use run_io::{Clock, Gate, Sink, Source};
-use run_words::Options;
 use std::alloc::Global;
 use std::sync::Wait;
 use std::thread::Threads;
 use sync_source::{SyncProgram, compile};
-use sync_syntax::{SyncError, SyncWhy, read_sync};
+use sync_syntax::{SyncError, SyncRefusalCause, read_sync};
 
 /// Reads the source and runs the program with blocks of its text.
 pub(crate) fn run_blocks_of<
@@ -49,8 +49,8 @@ pub(crate) fn run_blocks_of<
 {
     match read_text(alloc, source, BYTES) {
         Ok(bytes) => run_blocks_in(rt, alloc, options, bytes.as_slice(), sink, clock, gate),
-        Err(ReadError::Fault) => tell(sink, 5, b"read fault\n"),
-        Err(ReadError::NoMemory) => give_up(),
+        Err(ReadError::Fault) => finish_with(sink, 5, b"read fault\n"),
+        Err(ReadError::NoMemory) => out_of_memory(),
     }
 }
 
@@ -92,7 +92,7 @@ fn run_blocks<R: Threads + Wait + Sync, K: Sink, C: Clock + Sync, G: Gate + Sync
 {
     match compile(alloc, blocks) {
         Ok(program) => run_and_write(rt, alloc, options, program, sink, clock, gate),
-        Err(NoMemory) => give_up(),
+        Err(NoMemory) => out_of_memory(),
     }
 }
 
@@ -102,9 +102,9 @@ pub(crate) fn refuse<K: Sink>(sink: &mut K, error: SyncError) -> Finish
         ⊎ ((error.why ≢ Plain why.NoMemory)
         × Meets (sink_seen K.Sink sink.old) (sink_seen K.Sink sink.new) result (no_sync_program error)) }
 {
-    if error.why == SyncWhy::Plain(Why::NoMemory) {
-        give_up()
+    if error.why == SyncRefusalCause::Plain(RefusalCause::NoMemory) {
+        out_of_memory()
     } else {
-        tell(sink, 3, sync_refusal_line(error).bytes())
+        finish_with(sink, 3, sync_refusal_line(error).bytes())
     }
 }

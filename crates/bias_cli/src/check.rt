@@ -2,19 +2,19 @@
 
 ghost use Rattle.std.specs.Prelude.{◌⊎◌, ◌≤◌, length, Some};
 ghost use Rattle.program_syntax.specs.Refusal.{program_of};
-ghost use Rattle.run_words.specs.declared.options.Command.TheVariants.{Check};
+ghost use Rattle.cli_args.specs.declared.options.Command.TheVariants.{Check};
 ghost use Rattle.bias_check.specs.Lines.{lines_of};
 ghost use Rattle.bias_cli.specs.Seen.{source_seen, sink_seen};
 ghost use Rattle.bias_cli.specs.Input.{most_of_journal};
 ghost use Rattle.bias_cli.specs.Finish.{Meets, Checks, check_due, journal_due, IsGivenUp, IsFinish, TakesAtMost};
 
-use crate::finish::{Finish, give_up, tell};
+use crate::finish::{Finish, finish_with, out_of_memory};
 use crate::input::{MOST_OF_JOURNAL, ReadError, read_text};
 use crate::refusal::refusal_line;
 use crate::verdict::{verdict_line, verdict_status};
 use bias_check::{CheckFault, Parts, check_journal, split_text};
 use object_program::Program;
-use program_syntax::{Why, read_program};
+use program_syntax::{RefusalCause, read_program};
 use run_io::{Sink, Source};
 use std::alloc::Global;
 
@@ -33,8 +33,8 @@ pub(crate) fn check_source<S: Source, K: Sink>(
 {
     match read_text(alloc, source, MOST_OF_JOURNAL) {
         Ok(bytes) => check_text(alloc, fuel, start, bytes.as_slice(), sink),
-        Err(ReadError::Fault) => tell(sink, 5, b"read fault\n"),
-        Err(ReadError::NoMemory) => give_up(),
+        Err(ReadError::Fault) => finish_with(sink, 5, b"read fault\n"),
+        Err(ReadError::NoMemory) => out_of_memory(),
     }
 }
 
@@ -44,11 +44,11 @@ fn check_text<K: Sink>(alloc: Global, fuel: u32, start: u32, bytes: &[u8], sink:
         ⊎ Meets (sink_seen K.Sink sink.old) (sink_seen K.Sink sink.new) result (check_due fuel start bytes.now) }
 {
     if bytes.len() > MOST_OF_JOURNAL {
-        return tell(sink, 3, b"program: Limit\n");
+        return finish_with(sink, 3, b"program: Limit\n");
     }
     match split_text(bytes) {
         Some(parts) => check_parts(alloc, fuel, start, parts, sink),
-        None => tell(sink, 3, b"program: NoJournal\n"),
+        None => finish_with(sink, 3, b"program: NoJournal\n"),
     }
 }
 
@@ -62,8 +62,8 @@ fn check_parts<K: Sink>(alloc: Global, fuel: u32, start: u32, parts: Parts, sink
     match read_program(alloc, parts.program) {
         Ok(program) => check_lines(alloc, fuel, start, &program, parts.journal, sink),
         Err(error) => match error.why {
-            Why::NoMemory => give_up(),
-            _ => tell(sink, 3, refusal_line(error).bytes()),
+            RefusalCause::NoMemory => out_of_memory(),
+            _ => finish_with(sink, 3, refusal_line(error).bytes()),
         },
     }
 }
@@ -83,8 +83,8 @@ fn check_lines<K: Sink>(
         (Checks program.now fuel start (lines_of lines.now)) }
 {
     match check_journal(alloc, program, fuel, start, lines) {
-        Err(CheckFault::NoMemory) => give_up(),
-        answer => tell(
+        Err(CheckFault::NoMemory) => out_of_memory(),
+        answer => finish_with(
             sink,
             verdict_status(answer),
             verdict_line(program, answer).bytes(),

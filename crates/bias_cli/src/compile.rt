@@ -2,7 +2,7 @@
 
 ghost use Rattle.std.specs.Prelude.{◌≡◌, ◌⊎◌, decimal, IfOk, Ok, Some};
 ghost use Rattle.program_syntax.specs.Canonical.{canonical};
-ghost use Rattle.run_words.specs.declared.options.Command.TheVariants.{Compile};
+ghost use Rattle.cli_args.specs.declared.options.Command.TheVariants.{Compile};
 ghost use Rattle.sync_source.specs.SourceView.{sync_text};
 ghost use Rattle.sync_source.specs.Compiled.{compiled};
 ghost use Rattle.sync_syntax.specs.Refusal.{sync_program_of};
@@ -11,7 +11,7 @@ ghost use Rattle.bias_cli.specs.Seen.{source_seen, sink_seen};
 ghost use Rattle.bias_cli.specs.Finish.{Meets, compile_due, IsGivenUp, IsFinish, TakesAtMost};
 
 use crate::blocks::refuse;
-use crate::finish::{Finish, give_up, tell};
+use crate::finish::{Finish, finish_with, out_of_memory};
 use crate::input::{ReadError, read_text};
 use plain_monitor::NoMemory;
 use program_syntax::{BYTES, write_program};
@@ -33,8 +33,8 @@ pub(crate) fn compile_source<S: Source, K: Sink>(
 {
     match read_text(alloc, source, BYTES) {
         Ok(bytes) => compile_text(alloc, bytes.as_slice(), sink),
-        Err(ReadError::Fault) => tell(sink, 5, b"read fault\n"),
-        Err(ReadError::NoMemory) => give_up(),
+        Err(ReadError::Fault) => finish_with(sink, 5, b"read fault\n"),
+        Err(ReadError::NoMemory) => out_of_memory(),
     }
 }
 
@@ -57,8 +57,8 @@ fn write_code<K: Sink>(alloc: Global, blocks: &SyncProgram, sink: &mut K) -> Fin
         (compile_due (Ok (sync_text blocks.now))) }
 {
     match code_text(alloc, blocks) {
-        Ok(text) => tell(sink, 0, text.as_slice()),
-        Err(NoMemory) => give_up(),
+        Ok(text) => finish_with(sink, 0, text.as_slice()),
+        Err(NoMemory) => out_of_memory(),
     }
 }
 

@@ -17,7 +17,7 @@ use run_io::Sink;
 /// | 1 | a program ran, some thread faulted or was spent, and the machine isn't stuck; or that is an end that was found; or a line of a journal is no step, or a hash is bad |
 /// | 2 | the arguments are not accepted |
 /// | 3 | the text has no program, its line and cause are written; or no journal, or a line of it is unreadable; or ends are asked for of a program with a `hash` |
-/// | 4 | a program ran, and the machine behind the record is stuck; or such an end was found |
+/// | 4 | a program ran, and the machine under the record is stuck; or such an end was found |
 /// | 5 | a read failed |
 /// | 6 | a write failed, in place of any of the above |
 /// | 7 | out of memory, before the first write; no contract says when that is |
@@ -36,7 +36,7 @@ pub struct Finish {
 pub(crate) const WRITE_FAILED: u8 = 6;
 
 /// A call that runs nothing: it writes this text, and answers this status, or 6 where a write failed.
-pub(crate) fn tell<K: Sink>(sink: &mut K, status: u8, text: &[u8]) -> Finish
+pub(crate) fn finish_with<K: Sink>(sink: &mut K, status: u8, text: &[u8]) -> Finish
     ensures left { LeavesNothing result }
     ensures written { IsWritten (sink_seen K.Sink sink.old) (sink_seen K.Sink sink.new)
         result.status status text.now }
@@ -48,7 +48,7 @@ pub(crate) fn tell<K: Sink>(sink: &mut K, status: u8, text: &[u8]) -> Finish
 }
 
 /// Out of memory. Nothing is written.
-pub(crate) fn give_up() -> Finish
+pub(crate) fn out_of_memory() -> Finish
     ensures status { result.status ≡ 7 }
     ensures left { LeavesNothing result }
 {

@@ -46,7 +46,7 @@ pub(crate) fn read_text<S: Source>(
     Ok(bytes)
 }
 
-/// Reads once, and puts what was read behind the bytes. 0 says that nothing was left.
+/// Reads once, and puts what was read after the bytes. 0 says that nothing was left.
 fn read_piece<S: Source>(
     source: &mut S,
     bytes: &mut Vec<u8>,

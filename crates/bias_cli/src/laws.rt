@@ -9,15 +9,15 @@ ghost use Rattle.plain_machine.specs.Legal.{IsLegal};
 ghost use Rattle.plain_machine.specs.Machine.{PlainMachine};
 ghost use Rattle.lock_journal.specs.RunText.{lines_of_run, text_of_lines, text_of_run};
 ghost use Rattle.lock_journal.specs.declared.record.RunRecord.{RunRecord};
-ghost use Rattle.lone_logs.specs.LoneRun.{AreSameButForPaths};
+ghost use Rattle.single_thread_law.specs.LoneRun.{AreSameButForPaths};
 ghost use Rattle.bias_check.specs.declared.answer.Checked.{Checked};
 ghost use Rattle.bias_check.specs.declared.answer.CheckFault.{CheckFault};
 ghost use Rattle.bias_check.specs.Answer.{IsTrueOf};
 ghost use Rattle.bias_check.specs.Lines.{lines_of};
 ghost use Rattle.bias_check.specs.Printed.{journal_of};
-ghost use Rattle.run_words.specs.Command.{accepted};
-ghost use Rattle.run_words.specs.declared.options.Command.{Command};
-ghost use Rattle.run_words.specs.declared.options.Options.{Options};
+ghost use Rattle.cli_args.specs.Command.{accepted};
+ghost use Rattle.cli_args.specs.declared.options.Command.{Command};
+ghost use Rattle.cli_args.specs.declared.options.Options.{Options};
 ghost use Rattle.bias_cli.specs.declared.finish.Finish.{Finish};
 ghost use Rattle.bias_cli.specs.Seen.{SourceSeen, SinkSeen};
 ghost use Rattle.bias_cli.specs.Finish.{IsGivenUp, IsFinish, IsRunOf, status_of};
@@ -73,7 +73,7 @@ pub fn one_thread_decides_what_is_written()
         → IsRunOf o p r c m → IsRunOf q p s d n → status_of m ≡ status_of n }
 {}
 
-/// The journal of each run is legal for a check. Its lines are those that `--journal` writes behind the prints and dumps, the threads and the
+/// The journal of each run is legal for a check. Its lines are those that `--journal` writes after the prints and dumps, the threads and the
 /// statistics, and the text of them falls into just these lines. Of them the answer holds that they are legal, that they are as many as the run
 /// logged, and that all threads have ended, or are stuck where the run was halted. No other answer holds, and the lines have fewer than 2^32
 /// bytes, as `check_journal` asks; so by its own contract, and unless memory runs out, it answers just this to the lines, under the fuel

@@ -6,7 +6,7 @@
 #![tactic(auto)]
 
 ghost use Rattle.std.specs.Prelude.{◌≡◌, ◌≢◌, map, string_bytes};
-ghost use Rattle.run_words.specs.Command.{accepted};
+ghost use Rattle.cli_args.specs.Command.{accepted};
 ghost use Rattle.bias_cli.specs.Seen.{source_seen, sink_seen};
 ghost use Rattle.bias_cli.specs.Finish.{most_asked, IsGivenUp, IsFinish, TakesAtMost};
 
@@ -29,6 +29,7 @@ mod text;
 mod verdict;
 
 pub use block_laws::compiling_first_changes_nothing;
+pub use cli_args::{Command, Options, WordsFault, read_words};
 pub use finish::Finish;
 pub use heap_table::{ClassCounts, Closed};
 pub use laws::{
@@ -38,7 +39,6 @@ pub use laws::{
 pub use lock_journal::{Cell, ClassLine, Line, Lines, Merge, RunRecord, Shot, replay};
 pub use outcome_laws::runs_end_as_a_search_found;
 use run_io::{Clock, Gate, Sink, Source};
-pub use run_words::{Command, Options, WordsFault, read_words};
 pub use settings_laws::settings_change_nothing_that_may_be_written;
 use std::alloc::Global;
 use std::sync::Wait;
@@ -55,7 +55,7 @@ use std::thread::Threads;
 /// and if not, from which line on it isn't.
 /// - `outcomes` reads a program, looks for every end of it, and writes how many states it kept and how they end, with
 /// a journal that leads to an end where one is asked for.
-/// - `make` reads nothing, and writes the handover program for a number of items (`made_program::handover`).
+/// - `make` reads nothing, and writes the handover program for a number of items (`handover_program::handover`).
 ///
 /// Where the arguments are not accepted, a read fails, or the text has no program, that is what is written. Only
 /// `run` and `sync` leave a record (`Finish` has the statuses). At the first write that fails the writing stops, with
@@ -89,5 +89,5 @@ pub fn biasrun<R: Threads + Wait + Sync, S: Source, K: Sink, C: Clock + Sync, G:
     ensures taken { TakesAtMost S.Source
         (most_asked (accepted (map (λ w. string_bytes w) words.now))) source.old source.new }
 {
-    run::run_words(rt, alloc, words, source, sink, clock, gate)
+    run::run_command(rt, alloc, words, source, sink, clock, gate)
 }

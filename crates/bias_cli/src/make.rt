@@ -1,12 +1,12 @@
 //! Making a program: its text, of the number of its items alone.
 
 ghost use Rattle.std.specs.Prelude.{◌≡◌, ◌⊎◌, ◌≤◌, IfOk};
-ghost use Rattle.made_program.specs.HandoverText.{handover_text};
+ghost use Rattle.handover_program.specs.HandoverText.{handover_text};
 ghost use Rattle.bias_cli.specs.Seen.{sink_seen};
 ghost use Rattle.bias_cli.specs.Finish.{Meets, program_made, IsGivenUp};
 
-use crate::finish::{Finish, give_up, tell};
-use made_program::handover;
+use crate::finish::{Finish, finish_with, out_of_memory};
+use handover_program::handover;
 use plain_monitor::NoMemory;
 use program_syntax::write_program;
 use run_io::Sink;
@@ -20,8 +20,8 @@ pub(crate) fn make_program<K: Sink>(alloc: Global, items: u32, sink: &mut K) -> 
         ⊎ Meets (sink_seen K.Sink sink.old) (sink_seen K.Sink sink.new) result (program_made items) }
 {
     match text_made(alloc, items) {
-        Ok(text) => tell(sink, 0, text.as_slice()),
-        Err(NoMemory) => give_up(),
+        Ok(text) => finish_with(sink, 0, text.as_slice()),
+        Err(NoMemory) => out_of_memory(),
     }
 }
 

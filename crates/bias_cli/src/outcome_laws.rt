@@ -6,7 +6,7 @@ ghost use Rattle.object_program.specs.Program.{ProgramText};
 ghost use Rattle.plain_machine.specs.Machine.{PlainMachine, is_stuck};
 ghost use Rattle.heap_table.specs.Seen.{ClosedSeen};
 ghost use Rattle.lock_journal.specs.declared.record.RunRecord.{RunRecord};
-ghost use Rattle.run_words.specs.declared.options.Options.{Options};
+ghost use Rattle.cli_args.specs.declared.options.Options.{Options};
 ghost use Rattle.every_outcome.specs.Covered.{IsSeen};
 ghost use Rattle.every_outcome.specs.Fuel.{HasSpent, refuelled};
 ghost use Rattle.outcome_search.specs.declared.outcome.Outcomes.{Outcomes};

@@ -5,7 +5,7 @@ ghost use Rattle.lock_journal.specs.RunText.{journal_line, text_of_lines};
 ghost use Rattle.object_program.specs.Valid.{IsProgram};
 ghost use Rattle.outcome_search.specs.EveryEnd.{IsEveryEnd};
 ghost use Rattle.program_syntax.specs.Refusal.{program_of};
-ghost use Rattle.run_words.specs.declared.options.Command.TheVariants as asked;
+ghost use Rattle.cli_args.specs.declared.options.Command.TheVariants as asked;
 ghost use Rattle.program_syntax.specs.Text.{most_bytes};
 ghost use Rattle.bias_check.specs.Parts.{marker};
 ghost use Rattle.outcome_search.specs.Witness.{IsWitness};
@@ -14,14 +14,14 @@ ghost use Rattle.bias_cli.specs.Outcomes.{IsShown, end_to_show, outcome_line, ra
 ghost use Rattle.bias_cli.specs.Seen.{source_seen, sink_seen};
 ghost use Rattle.bias_cli.specs.Finish.{Finds, IsFinish, IsGivenUp, Meets, TakesAtMost, finds_due};
 
-use crate::finish::{Finish, give_up, tell};
+use crate::finish::{Finish, finish_with, out_of_memory};
 use crate::input::{ReadError, read_text};
 use crate::refusal::refusal_line;
 use lock_journal::{Line, entry_line};
 use object_program::Program;
 use outcome_search::{End, OutcomeError, Outcomes, find_outcomes, find_witness};
 use plain_monitor::{Logged, NoMemory};
-use program_syntax::{BYTES, Why, read_program};
+use program_syntax::{BYTES, RefusalCause, read_program};
 use run_io::{Sink, Source};
 use state_search::Found;
 use std::alloc::Global;
@@ -42,8 +42,8 @@ pub(crate) fn find_source<S: Source, K: Sink>(
 {
     match read_text(alloc, source, BYTES) {
         Ok(bytes) => find_text(alloc, states, witness, bytes.as_slice(), sink),
-        Err(ReadError::Fault) => tell(sink, 5, b"read fault\n"),
-        Err(ReadError::NoMemory) => give_up(),
+        Err(ReadError::Fault) => finish_with(sink, 5, b"read fault\n"),
+        Err(ReadError::NoMemory) => out_of_memory(),
     }
 }
 
@@ -63,8 +63,8 @@ fn find_text<K: Sink>(
     match read_program(alloc, bytes) {
         Ok(program) => find_ends(alloc, states, witness, &program, sink),
         Err(error) => match error.why {
-            Why::NoMemory => give_up(),
-            _ => tell(sink, 3, refusal_line(error).bytes()),
+            RefusalCause::NoMemory => out_of_memory(),
+            _ => finish_with(sink, 3, refusal_line(error).bytes()),
         },
     }
 }
@@ -84,8 +84,8 @@ fn find_ends<K: Sink>(
 {
     match find_outcomes(alloc, program, states as usize) {
         Ok((counts, found)) => write_ends(alloc, witness, program, &counts, &found, sink),
-        Err(OutcomeError::Hash) => tell(sink, 3, b"program: Hash\n"),
-        Err(OutcomeError::NoMemory | OutcomeError::NoState) => give_up(),
+        Err(OutcomeError::Hash) => finish_with(sink, 3, b"program: Hash\n"),
+        Err(OutcomeError::NoMemory | OutcomeError::NoState) => out_of_memory(),
     }
 }
 
@@ -102,8 +102,8 @@ fn write_ends<K: Sink>(
         ⊎ Meets (sink_seen K.Sink sink.old) (sink_seen K.Sink sink.new) result (Finds program.now states witness) }
 {
     match ends_text(alloc, witness, program, counts, found) {
-        Ok(text) => tell(sink, outcome_status(counts), text.as_slice()),
-        Err(NoMemory) => give_up(),
+        Ok(text) => finish_with(sink, outcome_status(counts), text.as_slice()),
+        Err(NoMemory) => out_of_memory(),
     }
 }
 
@@ -125,7 +125,7 @@ fn ends_text(
     Ok(text)
 }
 
-/// Writes the counts behind the text.
+/// Writes the counts after the text.
 fn push_counts(counts: &Outcomes, text: &mut Vec<u8>) -> Result<(), NoMemory>
     ensures { OnOk result (text.new.items ≡ text.old.items ++ text_of_lines (outcome_lines counts.now)) }
 {
@@ -137,7 +137,7 @@ fn push_counts(counts: &Outcomes, text: &mut Vec<u8>) -> Result<(), NoMemory>
     push_rare(b"open", counts.open, text)
 }
 
-/// Writes a count behind the text, where it isn't 0.
+/// Writes a count after the text, where it isn't 0.
 fn push_rare(name: &'static [u8], count: usize, text: &mut Vec<u8>) -> Result<(), NoMemory>
     requires { length name.now ≤ 10 }
     ensures { OnOk result (text.new.items ≡ text.old.items ++ text_of_lines (rare_line name.now count)) }
@@ -148,7 +148,7 @@ fn push_rare(name: &'static [u8], count: usize, text: &mut Vec<u8>) -> Result<()
     push_count(name, count, text)
 }
 
-/// Writes a count behind the text.
+/// Writes a count after the text.
 fn push_count(name: &'static [u8], count: usize, text: &mut Vec<u8>) -> Result<(), NoMemory>
     requires { length name.now ≤ 10 }
     ensures { OnOk result (text.new.items ≡ text.old.items ++ outcome_line name.now count) }
@@ -161,14 +161,14 @@ fn push_count(name: &'static [u8], count: usize, text: &mut Vec<u8>) -> Result<(
     push_bytes(line.bytes(), text)
 }
 
-/// Writes these bytes behind the text.
+/// Writes these bytes after the text.
 fn push_bytes(bytes: &[u8], text: &mut Vec<u8>) -> Result<(), NoMemory>
     ensures { OnOk result (text.new.items ≡ text.old.items ++ bytes.now) }
 {
     text.extend_from_slice(bytes).map_err(|_| NoMemory)
 }
 
-/// Writes the way to an end behind the text, where there is one to show.
+/// Writes the way to an end after the text, where there is one to show.
 fn push_witness(
     alloc: Global,
     program: &Program,
@@ -184,7 +184,7 @@ fn push_witness(
     }
 }
 
-/// Writes the way to such an end behind the text.
+/// Writes the way to such an end after the text.
 fn push_way(
     alloc: Global,
     program: &Program,
@@ -229,7 +229,7 @@ fn first_end(counts: &Outcomes, end: End) -> Option<usize> {
     }
 }
 
-/// Writes a journal with its marker behind the text.
+/// Writes a journal with its marker after the text.
 fn push_journal(
     program: &Program,
     entries: &[(u32, Logged)],
@@ -241,7 +241,7 @@ fn push_journal(
     push_entries(program, entries, text)
 }
 
-/// Writes the lines of these entries behind the text.
+/// Writes the lines of these entries after the text.
 fn push_entries(
     program: &Program,
     entries: &[(u32, Logged)],
@@ -255,7 +255,7 @@ fn push_entries(
     Ok(())
 }
 
-/// Writes the line of an entry of a thread behind the text.
+/// Writes the line of an entry of a thread after the text.
 fn push_entry(program: &Program, entry: &(u32, Logged), text: &mut Vec<u8>) -> Result<(), NoMemory>
     ensures { OnOk result (text.new.items ≡ text.old.items ++ journal_line program.now entry.now) }
 {

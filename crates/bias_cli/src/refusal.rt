@@ -4,8 +4,8 @@ ghost use Rattle.std.specs.Prelude.{◌≡◌, ◌≤◌, ◌++◌, [], length};
 ghost use Rattle.bias_cli.specs.Refused.{cause_line, cause_text, place_text, refusal_text, sync_cause_text, sync_refusal_text};
 
 use lock_journal::Line;
-use program_syntax::{ProgramError, Why};
-use sync_syntax::{SyncError, SyncWhy};
+use program_syntax::{ProgramError, RefusalCause};
+use sync_syntax::{SyncError, SyncRefusalCause};
 
 /// The line on a text that has no program.
 pub(crate) fn refusal_line(error: ProgramError) -> Line
@@ -49,36 +49,36 @@ fn push_place(line: &mut Line, number: u32)
 }
 
 /// The cause by its name, in at most 11 bytes.
-fn cause_text(why: Why) -> &'static [u8]
+fn cause_text(why: RefusalCause) -> &'static [u8]
     ensures text { result.now ≡ cause_text why }
     ensures short { length result.now ≤ 11 }
 {
     match why {
-        Why::NotAscii => b"NotAscii",
-        Why::UnknownWord => b"UnknownWord",
-        Why::Operands => b"Operands",
-        Why::BadName => b"BadName",
-        Why::Twice => b"Twice",
-        Why::Undeclared => b"Undeclared",
-        Why::BadNumber => b"BadNumber",
-        Why::Limit => b"Limit",
-        Why::NoThread => b"NoThread",
-        Why::NoEnd => b"NoEnd",
-        Why::Later => b"Later",
-        Why::NoMemory => b"NoMemory",
+        RefusalCause::NotAscii => b"NotAscii",
+        RefusalCause::UnknownWord => b"UnknownWord",
+        RefusalCause::Operands => b"Operands",
+        RefusalCause::BadName => b"BadName",
+        RefusalCause::Twice => b"Twice",
+        RefusalCause::Undeclared => b"Undeclared",
+        RefusalCause::BadNumber => b"BadNumber",
+        RefusalCause::Limit => b"Limit",
+        RefusalCause::NoThread => b"NoThread",
+        RefusalCause::NoEnd => b"NoEnd",
+        RefusalCause::Later => b"Later",
+        RefusalCause::NoMemory => b"NoMemory",
     }
 }
 
 /// The name of a cause of refusal of a text with blocks.
-fn sync_cause_text(why: SyncWhy) -> &'static [u8]
+fn sync_cause_text(why: SyncRefusalCause) -> &'static [u8]
     ensures text { result.now ≡ sync_cause_text why }
     ensures short { length result.now ≤ 11 }
 {
     match why {
-        SyncWhy::Plain(why) => cause_text(why),
-        SyncWhy::Open => b"Open",
-        SyncWhy::Stray => b"Stray",
-        SyncWhy::Assigned => b"Assigned",
-        SyncWhy::Deep => b"Deep",
+        SyncRefusalCause::Plain(why) => cause_text(why),
+        SyncRefusalCause::Open => b"Open",
+        SyncRefusalCause::Stray => b"Stray",
+        SyncRefusalCause::Assigned => b"Assigned",
+        SyncRefusalCause::Deep => b"Deep",
     }
 }

@@ -133,7 +133,7 @@ fn object_text(program: &Program, object: u32) -> Line
     text
 }
 
-/// A number behind a space.
+/// A number after a space.
 fn number_text(number: u64) -> Line
     ensures { result ≡ number_text number }
 {

@@ -3,9 +3,9 @@
 ghost use Rattle.std.specs.Prelude.{◌≡◌, ◌⊎◌, ◌++◌, length, map, string_bytes, Some, IfOk};
 ghost use Rattle.object_program.specs.Program.{ProgramText};
 ghost use Rattle.program_syntax.specs.Refusal.{program_of};
-ghost use Rattle.run_words.specs.Command.{accepted};
+ghost use Rattle.cli_args.specs.Command.{accepted};
 ghost use Rattle.lock_journal.specs.RunText.{text_of_lines};
-ghost use Rattle.run_words.specs.declared.options.Command.TheVariants.{Run};
+ghost use Rattle.cli_args.specs.declared.options.Command.TheVariants.{Run};
 ghost use Rattle.bias_cli.specs.Asked.{settings_of};
 ghost use Rattle.bias_cli.specs.inner.Asked.{IsRunnable};
 ghost use Rattle.program_syntax.specs.Text.{most_bytes};
@@ -17,28 +17,28 @@ ghost use Rattle.bias_cli.specs.inner.Briefly.{IsToldBy, IsRunBy, IsReportBy, Is
 use crate::blocks::run_blocks_of;
 use crate::check::check_source;
 use crate::compile::compile_source;
-use crate::finish::{Finish, WRITE_FAILED, give_up, tell};
+use crate::finish::{Finish, WRITE_FAILED, finish_with, out_of_memory};
 use crate::input::{ReadError, read_text};
 use crate::make::make_program;
 use crate::outcomes::find_source;
 use crate::refusal::refusal_line;
 use crate::report::report_where;
 use crate::text::{status_by, write_text};
+use cli_args::{Command, Options, WordsFault, read_words};
 use heap_table::Closed;
 use lock_journal::{RunRecord, have_ended, replay};
 use object_program::Program;
 use plain_machine::Machine;
 use plain_monitor::{List, NoMemory};
 use program_run::{Ran, Settings, run_program};
-use program_syntax::{BYTES, Why, read_program};
+use program_syntax::{BYTES, RefusalCause, read_program};
 use run_io::{Clock, Gate, Sink, Source};
-use run_words::{Command, Options, WordsFault, read_words};
 use std::alloc::Global;
 use std::sync::Wait;
 use std::thread::Threads;
 
 /// Does what the words ask for. A run starts its workers, and waits for them.
-pub(crate) fn run_words<
+pub(crate) fn run_command<
     R: Threads + Wait + Sync,
     S: Source,
     K: Sink,
@@ -68,8 +68,8 @@ pub(crate) fn run_words<
         Ok(Command::Outcomes { states, witness }) => {
             find_source(alloc, states, witness, source, sink)
         }
-        Err(WordsFault::Refused) => tell(sink, 2, b"words refused\n"),
-        Err(WordsFault::NoMemory) => give_up(),
+        Err(WordsFault::Refused) => finish_with(sink, 2, b"words refused\n"),
+        Err(WordsFault::NoMemory) => out_of_memory(),
     }
 }
 
@@ -91,8 +91,8 @@ fn run_source<R: Threads + Wait + Sync, S: Source, K: Sink, C: Clock + Sync, G: 
 {
     match read_text(alloc, source, BYTES) {
         Ok(bytes) => run_text(rt, alloc, options, bytes.as_slice(), sink, clock, gate),
-        Err(ReadError::Fault) => tell(sink, 5, b"read fault\n"),
-        Err(ReadError::NoMemory) => give_up(),
+        Err(ReadError::Fault) => finish_with(sink, 5, b"read fault\n"),
+        Err(ReadError::NoMemory) => out_of_memory(),
     }
 }
 
@@ -114,8 +114,8 @@ fn run_text<R: Threads + Wait + Sync, K: Sink, C: Clock + Sync, G: Gate + Sync>(
     match read_program(alloc, bytes) {
         Ok(program) => run_and_write(rt, alloc, options, program, sink, clock, gate),
         Err(error) => match error.why {
-            Why::NoMemory => give_up(),
-            _ => tell(sink, 3, refusal_line(error).bytes()),
+            RefusalCause::NoMemory => out_of_memory(),
+            _ => finish_with(sink, 3, refusal_line(error).bytes()),
         },
     }
 }
@@ -137,7 +137,7 @@ pub(crate) fn run_and_write<R: Threads + Wait + Sync, K: Sink, C: Clock + Sync, 
 {
     match run_of(rt, alloc, options, program, clock, gate) {
         Ok(done) => write_run(sink, options, done),
-        Err(NoMemory) => give_up(),
+        Err(NoMemory) => out_of_memory(),
     }
 }
 

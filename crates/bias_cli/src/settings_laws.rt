@@ -6,7 +6,7 @@ ghost use Rattle.object_program.specs.Program.{ProgramText};
 ghost use Rattle.plain_machine.specs.Machine.{PlainMachine};
 ghost use Rattle.lock_journal.specs.RunText.{text_of_run};
 ghost use Rattle.lock_journal.specs.declared.record.RunRecord.{RunRecord};
-ghost use Rattle.run_words.specs.declared.options.Options.{Options};
+ghost use Rattle.cli_args.specs.declared.options.Options.{Options};
 ghost use Rattle.bias_cli.specs.declared.finish.Finish.{Finish};
 ghost use Rattle.bias_cli.specs.Seen.{SinkSeen};
 ghost use Rattle.bias_cli.specs.Finish.{IsRunOf, LeavesRun, status_of};

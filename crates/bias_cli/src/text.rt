@@ -10,11 +10,11 @@ ghost use Rattle.bias_cli.specs.Finish.{status_of, is_cut_short};
 ghost use Rattle.bias_cli.specs.inner.Briefly.{IsShownBy, left_by, lines_by, logs_cut_short, status_by};
 
 use crate::output::write_piece;
+use cli_args::Options;
 use lock_journal::{Line, Lines, RunRecord, last_said};
 use plain_machine::Machine;
 use plain_monitor::{Ending, List, Logged};
 use run_io::{Failed, Sink};
-use run_words::Options;
 
 /// Writes the lines of the run's text, with statistics and the journal where asked, each by a write call of its own, and stops at
 /// the first write that fails. `Failed` comes only where the sink's count of faults rose, and then a front of the text is written.
@@ -54,7 +54,7 @@ fn next_line(lines: &mut Lines, run: &RunRecord, machine: &Option<Machine>, out:
     }
 }
 
-/// Writes the lines of the run's text, with what the options ask for, and behind them those of the report.
+/// Writes the lines of the run's text, with what the options ask for, and after them those of the report.
 pub(crate) fn write_text<K: Sink>(
     sink: &mut K,
     run: &RunRecord,

@@ -2,7 +2,7 @@
 use Rattle.std.specs.Prelude.{◌≡◌}
 use Rattle.core_world.specs.declared.answer.BiasTry.{BiasTry}
 use Rattle.core_world.specs.declared.answer.BiasTry.TheVariants.{Took}
-use Rattle.core_world.specs.Threads.Known.{Local}
+use Rattle.core_world.specs.Threads.ThreadView.{Local}
 
 -- the thread's log and its own words are as they were, unless the hold was taken
 abbrev pub IsKeptUnlessTook : BiasTry → Local → Local → Type 0

@@ -2,14 +2,14 @@
 ghost use Rattle.std.specs.Prelude.{◌≡◌, Some};
 ghost use Rattle.mark_word.specs.declared.mark.MarkForm.TheVariants.{Neutral};
 ghost use Rattle.mark_word.specs.Mark.{mark_of};
-ghost use Rattle.core_world.specs.Threads.Known.{local_of};
+ghost use Rattle.core_world.specs.Threads.ThreadView.{local_of};
 ghost use Rattle.core_world.specs.Trees.BiasSteps.{unbias_swap_steps, bias_drop_at, bias_drop_by, bias_drop_steps};
-ghost use Rattle.heap_table.specs.Parts.{IsDueOn, HasRun};
+ghost use Rattle.heap_table.specs.Parts.{IsDueOn, HasMadeSteps};
 ghost use Rattle.heap_table.specs.Seen.{IsOf};
 ghost use Rattle.bias_lock.specs.inner.Parts.{prototype_drop};
 
-use core_world::{BiasTry, Name, Stage};
-use heap_table::{Heap, Pass, Purpose, class_epoch, is_biased, mark_of_word};
+use core_world::{BiasTry, Stage, WordId};
+use heap_table::{CallContext, Heap, Pass, class_epoch, is_biased, mark_of_word};
 use mark_word::{MarkForm, encode};
 
 /// Exchanges the biased mark for this neutral one. `Unbiased` has the neutral mark, which stands now. `Raced` has the
@@ -20,17 +20,17 @@ use mark_word::{MarkForm, encode};
 pub fn unbias(
     heap: &Heap,
     pass: &mut Pass,
-    why: &Purpose,
+    call: &CallContext,
     object: u32,
     mark: u64,
     neutral: u64,
 ) -> BiasTry
     requires heap { IsOf heap.now pass.old }
-    requires due { IsDueOn heap.now pass.old why.now.task (unbias_swap_steps why.now object mark neutral) }
-    ensures { HasRun heap.now (unbias_swap_steps why.now object mark neutral) pass.old pass.new result }
+    requires due { IsDueOn heap.now pass.old call.now.task (unbias_swap_steps call.now object mark neutral) }
+    ensures { HasMadeSteps heap.now (unbias_swap_steps call.now object mark neutral) pass.old pass.new result }
 {
-    let at = Name::Mark { object };
-    let found = heap.exchange(pass, why, Stage::Calm, at, mark, neutral);
+    let at = WordId::Mark { object };
+    let found = heap.exchange(pass, call, Stage::Settled, at, mark, neutral);
     if found != mark {
         return BiasTry::Raced {
             expected: mark,
@@ -41,39 +41,39 @@ pub fn unbias(
 }
 
 // The mark is exchanged for the neutral one without a hash.
-fn make_neutral(heap: &Heap, pass: &mut Pass, why: &Purpose, object: u32, mark: u64) -> BiasTry
+fn make_neutral(heap: &Heap, pass: &mut Pass, call: &CallContext, object: u32, mark: u64) -> BiasTry
     requires heap { IsOf heap.now pass.old }
-    requires due { IsDueOn heap.now pass.old why.now.task
-        (unbias_swap_steps why.now object mark (mark_of (Neutral 0 0))) }
-    ensures { HasRun heap.now (unbias_swap_steps why.now object mark (mark_of (Neutral 0 0)))
+    requires due { IsDueOn heap.now pass.old call.now.task
+        (unbias_swap_steps call.now object mark (mark_of (Neutral 0 0))) }
+    ensures { HasMadeSteps heap.now (unbias_swap_steps call.now object mark (mark_of (Neutral 0 0)))
         pass.old pass.new result }
 {
     let neutral = encode(&MarkForm::Neutral { hash: 0, age: 0 });
-    unbias(heap, pass, why, object, mark, neutral)
+    unbias(heap, pass, call, object, mark, neutral)
 }
 
 // The end of a bias of this form, where the class's epoch is this one: a valid bias to a thread stays.
 fn drop_at(
     heap: &Heap,
     pass: &mut Pass,
-    why: &Purpose,
+    call: &CallContext,
     object: u32,
     mark: u64,
     form: MarkForm,
     epoch: u8,
 ) -> BiasTry
     requires heap { IsOf heap.now pass.old }
-    requires due { IsDueOn heap.now pass.old why.now.task (bias_drop_at (Some form) epoch why.now object mark) }
-    ensures { HasRun heap.now (bias_drop_at (Some form) epoch why.now object mark) pass.old pass.new result }
+    requires due { IsDueOn heap.now pass.old call.now.task (bias_drop_at (Some form) epoch call.now object mark) }
+    ensures { HasMadeSteps heap.now (bias_drop_at (Some form) epoch call.now object mark) pass.old pass.new result }
 {
     match form {
         MarkForm::Biased { epoch: old, .. } => {
             if old == epoch {
                 return BiasTry::Valid { mark };
             }
-            make_neutral(heap, pass, why, object, mark)
+            make_neutral(heap, pass, call, object, mark)
         }
-        MarkForm::Anonymous { .. } => make_neutral(heap, pass, why, object, mark),
+        MarkForm::Anonymous { .. } => make_neutral(heap, pass, call, object, mark),
         _ => unreachable!(),
     }
 }
@@ -82,20 +82,20 @@ fn drop_at(
 fn drop_by(
     heap: &Heap,
     pass: &mut Pass,
-    why: &Purpose,
+    call: &CallContext,
     object: u32,
     mark: u64,
     prototype: u64,
     epoch: Option<u8>,
 ) -> BiasTry
     requires heap { IsOf heap.now pass.old }
-    requires due { IsDueOn heap.now pass.old why.now.task (bias_drop_by epoch why.now object mark prototype) }
-    ensures { HasRun heap.now (bias_drop_by epoch why.now object mark prototype) pass.old pass.new result }
+    requires due { IsDueOn heap.now pass.old call.now.task (bias_drop_by epoch call.now object mark prototype) }
+    ensures { HasMadeSteps heap.now (bias_drop_by epoch call.now object mark prototype) pass.old pass.new result }
 {
     match epoch {
-        None => unbias(heap, pass, why, object, mark, prototype),
+        None => unbias(heap, pass, call, object, mark, prototype),
         Some(epoch) => match mark_of_word(mark) {
-            Some(form) => drop_at(heap, pass, why, object, mark, form, epoch),
+            Some(form) => drop_at(heap, pass, call, object, mark, form, epoch),
             None => unreachable!(),
         },
     }
@@ -105,18 +105,18 @@ fn drop_by(
 fn drop_biased(
     heap: &Heap,
     pass: &mut Pass,
-    why: &Purpose,
+    call: &CallContext,
     class: u32,
     object: u32,
     mark: u64,
 ) -> BiasTry
     requires heap { IsOf heap.now pass.old }
-    requires due { IsDueOn heap.now pass.old why.now.task (prototype_drop why.now class object mark) }
-    ensures { HasRun heap.now (prototype_drop why.now class object mark) pass.old pass.new result }
+    requires due { IsDueOn heap.now pass.old call.now.task (prototype_drop call.now class object mark) }
+    ensures { HasMadeSteps heap.now (prototype_drop call.now class object mark) pass.old pass.new result }
 {
-    let prototype = heap.load(pass, why, Stage::Calm, Name::Prototype { class });
+    let prototype = heap.load(pass, call, Stage::Settled, WordId::Prototype { class });
     let epoch = class_epoch(prototype);
-    drop_by(heap, pass, why, object, mark, prototype, epoch)
+    drop_by(heap, pass, call, object, mark, prototype, epoch)
 }
 
 /// Ends the object's bias, as far as that needs no safepoint.
@@ -129,16 +129,16 @@ fn drop_biased(
 ///
 /// In OpenJDK 8: `BiasedLocking::revoke_and_rebias` with `attempt_rebias` false (`biasedLocking.cpp`), up to where it
 /// needs a safepoint.
-pub fn bias_drop(heap: &Heap, pass: &mut Pass, why: &Purpose, object: u32) -> BiasTry
+pub fn bias_drop(heap: &Heap, pass: &mut Pass, call: &CallContext, object: u32) -> BiasTry
     requires heap { IsOf heap.now pass.old }
-    requires due { IsDueOn heap.now pass.old why.now.task (bias_drop_steps heap.now.heap.shape why.now object) }
-    ensures run { HasRun heap.now (bias_drop_steps heap.now.heap.shape why.now object) pass.old pass.new result }
+    requires due { IsDueOn heap.now pass.old call.now.task (bias_drop_steps heap.now.heap.shape call.now object) }
+    ensures run { HasMadeSteps heap.now (bias_drop_steps heap.now.heap.shape call.now object) pass.old pass.new result }
     ensures kept { local_of pass.new.known ≡ local_of pass.old.known }
 {
-    let mark = heap.load(pass, why, Stage::Calm, Name::Mark { object });
+    let mark = heap.load(pass, call, Stage::Settled, WordId::Mark { object });
     if is_biased(mark) {
-        let class = heap.class_of(pass, why, Stage::Calm, object);
-        return drop_biased(heap, pass, why, class, object, mark);
+        let class = heap.class_of(pass, call, Stage::Settled, object);
+        return drop_biased(heap, pass, call, class, object, mark);
     }
     BiasTry::Unbiased { mark }
 }

@@ -1,17 +1,17 @@
 //! How a thread takes a hold under a bias.
 ghost use Rattle.std.specs.Prelude.{◌≡◌, ◌<◌, length, Some};
 ghost use Rattle.mark_word.specs.Mark.{read_mark};
-ghost use Rattle.core_world.specs.Threads.Known.{local_of};
+ghost use Rattle.core_world.specs.Threads.ThreadView.{local_of};
 ghost use Rattle.core_world.specs.Trees.BiasSteps.{took_steps, rebias_steps, bias_valid_steps};
 ghost use Rattle.core_world.specs.Trees.BiasSteps.{bias_enter_at, bias_enter_by, bias_enter_steps};
-ghost use Rattle.heap_table.specs.Parts.{IsDueOn, HasRun};
+ghost use Rattle.heap_table.specs.Parts.{IsDueOn, HasMadeSteps};
 ghost use Rattle.heap_table.specs.Seen.{IsOf};
 ghost use Rattle.bias_lock.specs.Kept.{IsKeptUnlessTook};
 ghost use Rattle.bias_lock.specs.inner.Parts.{prototype_enter};
 
 use crate::drops::unbias;
-use core_world::{BiasTry, Name, Stage};
-use heap_table::{Heap, Pass, Purpose, is_biased, mark_of_word};
+use core_world::{BiasTry, Stage, WordId};
+use heap_table::{CallContext, Heap, Pass, is_biased, mark_of_word};
 use mark_word::{MarkForm, encode};
 use plain_monitor::Path;
 use stack_lock::hold;
@@ -19,25 +19,39 @@ use stack_lock::hold;
 /// Stores the hold under a bias to the thread, and logs the Enter with this path. It answers `Took` with the path.
 ///
 /// In OpenJDK 8: the end of `MacroAssembler::biased_locking_enter` (`macroAssembler_x86.cpp`).
-pub fn took(heap: &Heap, pass: &mut Pass, why: &Purpose, object: u32, path: Path) -> BiasTry
+pub fn log_biased_enter(
+    heap: &Heap,
+    pass: &mut Pass,
+    call: &CallContext,
+    object: u32,
+    path: Path,
+) -> BiasTry
     requires heap { IsOf heap.now pass.old }
     requires object { object < length heap.now.heap.shape.objects }
-    requires due { IsDueOn heap.now pass.old why.now.task (took_steps why.now (local_of pass.old.known) object path) }
+    requires due { IsDueOn heap.now pass.old call.now.task (took_steps call.now (local_of pass.old.known) object path) }
     requires room { length pass.old.known.log < pass.old.limit }
-    ensures { HasRun heap.now (took_steps why.now (local_of pass.old.known) object path) pass.old pass.new result }
+    ensures { HasMadeSteps heap.now (took_steps call.now (local_of pass.old.known) object path)
+        pass.old pass.new result }
 {
-    BiasTry::Took(hold(heap, pass, why, object, path))
+    BiasTry::Took(hold(heap, pass, call, object, path))
 }
 
 // The bias is stale, or valid and anonymous: the mark is exchanged for the bias to this thread in this epoch.
-fn rebias(heap: &Heap, pass: &mut Pass, why: &Purpose, object: u32, mark: u64, epoch: u8) -> BiasTry
+fn rebias(
+    heap: &Heap,
+    pass: &mut Pass,
+    call: &CallContext,
+    object: u32,
+    mark: u64,
+    epoch: u8,
+) -> BiasTry
     requires heap { IsOf heap.now pass.old }
     requires object { object < length heap.now.heap.shape.objects }
     requires epoch { epoch < 4 }
-    requires due { IsDueOn heap.now pass.old why.now.task
-        (rebias_steps why.now (local_of pass.old.known) object mark epoch) }
+    requires due { IsDueOn heap.now pass.old call.now.task
+        (rebias_steps call.now (local_of pass.old.known) object mark epoch) }
     requires room { length pass.old.known.log < pass.old.limit }
-    ensures { HasRun heap.now (rebias_steps why.now (local_of pass.old.known) object mark epoch)
+    ensures { HasMadeSteps heap.now (rebias_steps call.now (local_of pass.old.known) object mark epoch)
         pass.old pass.new result }
 {
     let thread = pass.thread();
@@ -46,37 +60,37 @@ fn rebias(heap: &Heap, pass: &mut Pass, why: &Purpose, object: u32, mark: u64, e
         epoch,
         age: 0,
     });
-    let stage = Stage::Takes { object };
-    let found = heap.exchange(pass, why, stage, Name::Mark { object }, mark, own);
+    let stage = Stage::BiasAcquired { object };
+    let found = heap.exchange(pass, call, stage, WordId::Mark { object }, mark, own);
     if found != mark {
         return BiasTry::Raced {
             expected: mark,
             found,
         };
     }
-    took(heap, pass, why, object, Path::BiasTaken)
+    log_biased_enter(heap, pass, call, object, Path::BiasTaken)
 }
 
 // The bias is valid, and to the thread of this number: only where that is this thread, it enters under it.
 fn enter_valid(
     heap: &Heap,
     pass: &mut Pass,
-    why: &Purpose,
+    call: &CallContext,
     object: u32,
     mark: u64,
     thread: u32,
 ) -> BiasTry
     requires heap { IsOf heap.now pass.old }
     requires object { object < length heap.now.heap.shape.objects }
-    requires due { IsDueOn heap.now pass.old why.now.task
-        (bias_valid_steps why.now (local_of pass.old.known) object mark thread) }
+    requires due { IsDueOn heap.now pass.old call.now.task
+        (bias_valid_steps call.now (local_of pass.old.known) object mark thread) }
     requires room { length pass.old.known.log < pass.old.limit }
-    ensures { HasRun heap.now (bias_valid_steps why.now (local_of pass.old.known) object mark thread)
+    ensures { HasMadeSteps heap.now (bias_valid_steps call.now (local_of pass.old.known) object mark thread)
         pass.old pass.new result }
 {
     let own = pass.thread();
     if thread == own {
-        return took(heap, pass, why, object, Path::BiasOwn);
+        return log_biased_enter(heap, pass, call, object, Path::BiasOwn);
     }
     BiasTry::Valid { mark }
 }
@@ -85,7 +99,7 @@ fn enter_valid(
 fn enter_at(
     heap: &Heap,
     pass: &mut Pass,
-    why: &Purpose,
+    call: &CallContext,
     object: u32,
     mark: u64,
     form: MarkForm,
@@ -94,10 +108,10 @@ fn enter_at(
     requires heap { IsOf heap.now pass.old }
     requires object { object < length heap.now.heap.shape.objects }
     requires epoch { epoch < 4 }
-    requires due { IsDueOn heap.now pass.old why.now.task
-        (bias_enter_at (Some form) epoch why.now (local_of pass.old.known) object mark) }
+    requires due { IsDueOn heap.now pass.old call.now.task
+        (bias_enter_at (Some form) epoch call.now (local_of pass.old.known) object mark) }
     requires room { length pass.old.known.log < pass.old.limit }
-    ensures { HasRun heap.now (bias_enter_at (Some form) epoch why.now (local_of pass.old.known) object mark)
+    ensures { HasMadeSteps heap.now (bias_enter_at (Some form) epoch call.now (local_of pass.old.known) object mark)
         pass.old pass.new result }
 {
     match form {
@@ -107,20 +121,20 @@ fn enter_at(
             ..
         } => {
             if old == epoch {
-                return enter_valid(heap, pass, why, object, mark, thread);
+                return enter_valid(heap, pass, call, object, mark, thread);
             }
-            rebias(heap, pass, why, object, mark, epoch)
+            rebias(heap, pass, call, object, mark, epoch)
         }
-        MarkForm::Anonymous { .. } => rebias(heap, pass, why, object, mark, epoch),
+        MarkForm::Anonymous { .. } => rebias(heap, pass, call, object, mark, epoch),
         _ => unreachable!(),
     }
 }
 
 // An enter by a biased mark, where the class's prototype is of this form.
-fn enter_by(
+fn enter_by_prototype(
     heap: &Heap,
     pass: &mut Pass,
-    why: &Purpose,
+    call: &CallContext,
     object: u32,
     mark: u64,
     prototype: u64,
@@ -129,16 +143,16 @@ fn enter_by(
     requires heap { IsOf heap.now pass.old }
     requires object { object < length heap.now.heap.shape.objects }
     requires form { read_mark prototype ≡ Some form }
-    requires due { IsDueOn heap.now pass.old why.now.task
-        (bias_enter_by (Some form) why.now (local_of pass.old.known) object mark prototype) }
+    requires due { IsDueOn heap.now pass.old call.now.task
+        (bias_enter_by (Some form) call.now (local_of pass.old.known) object mark prototype) }
     requires room { length pass.old.known.log < pass.old.limit }
-    ensures { HasRun heap.now (bias_enter_by (Some form) why.now (local_of pass.old.known) object mark prototype)
+    ensures { HasMadeSteps heap.now (bias_enter_by (Some form) call.now (local_of pass.old.known) object mark prototype)
         pass.old pass.new result }
 {
     match form {
-        MarkForm::Neutral { .. } => unbias(heap, pass, why, object, mark, prototype),
+        MarkForm::Neutral { .. } => unbias(heap, pass, call, object, mark, prototype),
         MarkForm::Anonymous { epoch, .. } => match mark_of_word(mark) {
-            Some(bias) => enter_at(heap, pass, why, object, mark, bias, epoch),
+            Some(bias) => enter_at(heap, pass, call, object, mark, bias, epoch),
             None => unreachable!(),
         },
         _ => unreachable!(),
@@ -149,22 +163,22 @@ fn enter_by(
 fn enter_biased(
     heap: &Heap,
     pass: &mut Pass,
-    why: &Purpose,
+    call: &CallContext,
     class: u32,
     object: u32,
     mark: u64,
 ) -> BiasTry
     requires heap { IsOf heap.now pass.old }
     requires object { object < length heap.now.heap.shape.objects }
-    requires due { IsDueOn heap.now pass.old why.now.task
-        (prototype_enter why.now (local_of pass.old.known) class object mark) }
+    requires due { IsDueOn heap.now pass.old call.now.task
+        (prototype_enter call.now (local_of pass.old.known) class object mark) }
     requires room { length pass.old.known.log < pass.old.limit }
-    ensures { HasRun heap.now (prototype_enter why.now (local_of pass.old.known) class object mark)
+    ensures { HasMadeSteps heap.now (prototype_enter call.now (local_of pass.old.known) class object mark)
         pass.old pass.new result }
 {
-    let prototype = heap.load(pass, why, Stage::Calm, Name::Prototype { class });
+    let prototype = heap.load(pass, call, Stage::Settled, WordId::Prototype { class });
     match mark_of_word(prototype) {
-        Some(form) => enter_by(heap, pass, why, object, mark, prototype, form),
+        Some(form) => enter_by_prototype(heap, pass, call, object, mark, prototype, form),
         None => unreachable!(),
     }
 }
@@ -182,21 +196,21 @@ fn enter_biased(
 /// In OpenJDK 8: `MacroAssembler::biased_locking_enter` (`macroAssembler_x86.cpp`), and
 /// `BiasedLocking::revoke_and_rebias` with `attempt_rebias` true (`biasedLocking.cpp`), up to where it needs a
 /// safepoint.
-pub fn bias_enter(heap: &Heap, pass: &mut Pass, why: &Purpose, object: u32) -> BiasTry
+pub fn bias_enter(heap: &Heap, pass: &mut Pass, call: &CallContext, object: u32) -> BiasTry
     requires heap { IsOf heap.now pass.old }
     requires object { object < length heap.now.heap.shape.objects }
-    requires due { IsDueOn heap.now pass.old why.now.task
-        (bias_enter_steps heap.now.heap.shape why.now (local_of pass.old.known) object) }
+    requires due { IsDueOn heap.now pass.old call.now.task
+        (bias_enter_steps heap.now.heap.shape call.now (local_of pass.old.known) object) }
     requires room { length pass.old.known.log < pass.old.limit }
-    ensures run { HasRun heap.now
-        (bias_enter_steps heap.now.heap.shape why.now (local_of pass.old.known) object)
+    ensures run { HasMadeSteps heap.now
+        (bias_enter_steps heap.now.heap.shape call.now (local_of pass.old.known) object)
         pass.old pass.new result }
     ensures kept { IsKeptUnlessTook result (local_of pass.old.known) (local_of pass.new.known) }
 {
-    let mark = heap.load(pass, why, Stage::Calm, Name::Mark { object });
+    let mark = heap.load(pass, call, Stage::Settled, WordId::Mark { object });
     if is_biased(mark) {
-        let class = heap.class_of(pass, why, Stage::Calm, object);
-        return enter_biased(heap, pass, why, class, object, mark);
+        let class = heap.class_of(pass, call, Stage::Settled, object);
+        return enter_biased(heap, pass, call, class, object, mark);
     }
     BiasTry::Unbiased { mark }
 }

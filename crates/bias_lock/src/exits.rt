@@ -1,30 +1,31 @@
 //! How a thread leaves a hold under a bias.
 ghost use Rattle.std.specs.Prelude.{◌≡◌, ◌<◌, length, false};
 ghost use Rattle.core_world.specs.Locks.{hold_count};
-ghost use Rattle.core_world.specs.Threads.Known.{local_of};
+ghost use Rattle.core_world.specs.Threads.ThreadView.{local_of};
 ghost use Rattle.core_world.specs.Trees.BiasSteps.{bias_exit_steps};
 ghost use Rattle.core_world.specs.Trees.Plans.{top_place};
-ghost use Rattle.heap_table.specs.Parts.{IsDueOn, HasRun};
+ghost use Rattle.heap_table.specs.Parts.{IsDueOn, HasMadeSteps};
 ghost use Rattle.heap_table.specs.Seen.{IsOf};
 ghost use Rattle.bias_lock.specs.inner.Parts.{marked_exit};
 
-use core_world::{Name, Stage};
-use heap_table::{Heap, Pass, Purpose, is_biased};
+use core_world::{Stage, WordId};
+use heap_table::{CallContext, Heap, Pass, is_biased};
 use stack_lock::{leave, place_at_depth, raise};
 
 // The mark says whether it is a bias under which the hold is left.
-fn leave_marked(heap: &Heap, pass: &mut Pass, why: &Purpose, object: u32, place: u32) -> bool
+fn leave_marked(heap: &Heap, pass: &mut Pass, call: &CallContext, object: u32, place: u32) -> bool
     requires heap { IsOf heap.now pass.old }
     requires place { place ≡ top_place object pass.old.known.holds }
-    requires due { IsDueOn heap.now pass.old why.now.task
-        (marked_exit why.now (local_of pass.old.known) object) }
+    requires due { IsDueOn heap.now pass.old call.now.task
+        (marked_exit call.now (local_of pass.old.known) object) }
     requires room { length pass.old.known.log < pass.old.limit }
-    ensures run { HasRun heap.now (marked_exit why.now (local_of pass.old.known) object) pass.old pass.new result }
+    ensures run { HasMadeSteps heap.now (marked_exit call.now (local_of pass.old.known) object)
+        pass.old pass.new result }
     ensures kept { result ≡ false → local_of pass.new.known ≡ local_of pass.old.known }
 {
-    let mark = heap.load(pass, why, Stage::Calm, Name::Mark { object });
+    let mark = heap.load(pass, call, Stage::Settled, WordId::Mark { object });
     if is_biased(mark) {
-        leave(heap, pass, why, object, place);
+        leave(heap, pass, call, object, place);
         return true;
     }
     false
@@ -37,18 +38,18 @@ fn leave_marked(heap: &Heap, pass: &mut Pass, why: &Purpose, object: u32, place:
 /// before, where this is the thread's last hold.
 ///
 /// In OpenJDK 8: `MacroAssembler::biased_locking_exit` (`macroAssembler_x86.cpp`).
-pub fn bias_exit(heap: &Heap, pass: &mut Pass, why: &Purpose, object: u32) -> bool
+pub fn bias_exit(heap: &Heap, pass: &mut Pass, call: &CallContext, object: u32) -> bool
     requires heap { IsOf heap.now pass.old }
     requires object { object < length heap.now.heap.shape.objects }
     requires held { 0 < hold_count object pass.old.known.holds }
-    requires due { IsDueOn heap.now pass.old why.now.task (bias_exit_steps why.now (local_of pass.old.known) object) }
+    requires due { IsDueOn heap.now pass.old call.now.task (bias_exit_steps call.now (local_of pass.old.known) object) }
     requires room { length pass.old.known.log < pass.old.limit }
-    ensures run { HasRun heap.now (bias_exit_steps why.now (local_of pass.old.known) object)
+    ensures run { HasMadeSteps heap.now (bias_exit_steps call.now (local_of pass.old.known) object)
         pass.old pass.new result }
     ensures kept { result ≡ false → local_of pass.new.known ≡ local_of pass.old.known }
 {
     let depth = pass.held(object);
     let place = place_at_depth(pass, object, depth);
-    raise(heap, pass, why, object, depth);
-    leave_marked(heap, pass, why, object, place)
+    raise(heap, pass, call, object, depth);
+    leave_marked(heap, pass, call, object, place)
 }

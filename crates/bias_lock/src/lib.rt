@@ -8,12 +8,12 @@
 //! answers what the tree answers. None takes memory.
 #![tactic(auto)]
 
-mod afters;
 mod drops;
+mod enter_after_revocation;
 mod enters;
 mod exits;
 
-pub use afters::{bias_after, stage_after};
 pub use drops::bias_drop;
+pub use enter_after_revocation::{bias_after, stage_after};
 pub use enters::bias_enter;
 pub use exits::bias_exit;

@@ -4,8 +4,8 @@ use Rattle.std.specs.Io.KnownBytes.{append_known}
 use Rattle.object_program.specs.Program.{ProgramText}
 use Rattle.lock_journal.specs.declared.record.RunRecord.{RunRecord}
 use Rattle.heap_table.specs.Seen.{ClosedSeen}
-use Rattle.run_words.specs.declared.options.Options.{Options}
-use Rattle.run_words.specs.declared.options.Command.{Command}
+use Rattle.cli_args.specs.declared.options.Options.{Options}
+use Rattle.cli_args.specs.declared.options.Command.{Command}
 use Rattle.bias_cli.specs.Seen.{SourceSeen, SinkSeen}
 use Rattle.bias_cli.specs.Finish.{Due, IsWritten, IsRun, LeavesRun, Meets, IsFinish, due_of}
 use Rattle.bias_cli.specs.Finish.Due.{Tells, Runs, RunsBlocks, Checks, Finds}

@@ -1,8 +1,8 @@
-//! The top call over a sink that gathers what it writes, and the last write behind it.
+//! The top call over a sink that gathers what it writes, and the last write after it.
 
 ghost use Rattle.std.specs.Prelude.{◌≡◌, ◌≢◌, [], map, string_bytes};
 ghost use Rattle.std.specs.Io.KnownBytes.{append_known};
-ghost use Rattle.run_words.specs.Command.{accepted};
+ghost use Rattle.cli_args.specs.Command.{accepted};
 ghost use Rattle.bias_cli.specs.Seen.{source_seen, sink_seen};
 ghost use Rattle.bias_cli.specs.Finish.{most_asked, IsGivenUp, IsFinish, TakesAtMost};
 ghost use Rattle.biasrun.specs.inner.CutOff.{buffered_seen, IsCutOff};

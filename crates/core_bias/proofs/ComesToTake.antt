@@ -1,35 +1,40 @@
 -- A running thread that stands in the middle of nothing comes to stand in that of taking an object under a bias: no clause says more of it there.
-use Rattle.core_locks.proofs.Prelude.{◌≡◌, ◌⊎◌, ℕ, ◌+◌, ◌<◌, true, false, List, [], Some, None, refl, sym, ap, ◌∙◌, subst, inl, inr, PlainObject, Name, Mark, Waiting, Recursions, Calm, Waits, Resumes, TakesOver, is_biased, monitor_in, waits_on, inflation_in, recursions_ahead, recursions_behind, revocation_in, Known, last_seen, World, with_known, OwnedBy, lock, displaced_words, recursion_count, owner_at, waits_at, notified_at, Fits, SeenFit, Stays, RecursionsFit, each_with_known, header_stays, Takes, IsKeptOrNamed, with_knowledge, stays_back}
+use Rattle.core_locks.proofs.Prelude.{◌≡◌, ◌⊎◌, ℕ, ◌+◌, ◌<◌, true, false, List, [], Some, None, refl, sym, ap, ◌∙◌, subst, inl, inr, PlainObject}
+use Rattle.core_locks.proofs.Prelude.{WordId, Mark, Waiting, Recursions, Settled, Waits, Resumes, OwnerConverted, is_biased, monitor_in, waits_on}
+use Rattle.core_locks.proofs.Prelude.{inflation_in, recursions_ahead, recursions_lowered, revocation_in, ThreadView, last_seen, World, with_known}
+use Rattle.core_locks.proofs.Prelude.{OwnedBy, lock, displaced_words, recursion_count, owner_at, waits_at, notified_at, Fits, SeenFit, Stays}
+use Rattle.core_locks.proofs.Prelude.{RecursionsFit, each_with_known, header_stays, BiasAcquired, IsKeptOrNamed, with_knowledge, stays_back}
 use Rattle.core_world.specs.Words.Names.{has_class}
 use Rattle.core_world.specs.Clauses.SeenWords.{AreTheSteps, HasMet}
 use Rattle.core_locks.proofs.Clauses.{kept_parts, parts_stand, AllHold}
 use Rattle.core_locks.proofs.Clauses as clause
 use Rattle.core_locks.proofs.EvenSteps.{IsEven, even_by, even_step, held_even}
-use Rattle.core_locks.proofs.MonitorSeen.{others_by}
+use Rattle.core_locks.proofs.monitor.MonitorSeen.{others_by}
 use Rattle.core_locks.proofs.OwnSeen.{back_by}
 use Rattle.core_locks.proofs.Steps.{GoesOnTo, IsStep, next, seen_next, step_fits, turning, inflates_stay}
 
 -- it knows what it knew, but for its stage, and for its steps, by which it last saw the same words
-pub record OnlyTakes (k l : Known) (o : ℕ) : Type 0 where
-  pub is : l ≡ record k { stage = Takes o; seen = l.seen; seen_at_safepoint = l.seen_at_safepoint; steps = l.steps }
-  pub seen : (n : Name) → last_seen n l.seen ≡ last_seen n k.seen
+pub record OnlyTakes (k l : ThreadView) (o : ℕ) : Type 0 where
+  pub is : l ≡ record k { stage = BiasAcquired o; seen = l.seen; seen_at_safepoint = l.seen_at_safepoint; steps = l.steps }
+  pub seen : (n : WordId) → last_seen n l.seen ≡ last_seen n k.seen
 
-module _ (w : World) (P : List PlainObject) (t o : ℕ) (l : Known) (within : t < w.shape.threads) (runs : (w.known t).running ≡ true) (calm : (w.known t).stage ≡ Calm)
+module _ (w : World) (P : List PlainObject) (t o : ℕ) (l : ThreadView) (within : t < w.shape.threads)
+    (runs : (w.known t).running ≡ true) (calm : (w.known t).stage ≡ Settled)
     (only : OnlyTakes (w.known t) l o) (v : Fits w P) where
   abbrev x : World
   x = with_knowledge t l w
 
-  stage : l.stage ≡ Takes o
-  stage = ap (λ (k : Known). k.stage) only.is
+  stage : l.stage ≡ BiasAcquired o
+  stage = ap (λ (k : ThreadView). k.stage) only.is
 
   goes_on : GoesOnTo (w.known t) l
-  goes_on = inl (ap (λ (k : Known). k.unfinished) only.is)
+  goes_on = inl (ap (λ (k : ThreadView). k.unfinished) only.is)
 
   before : IsEven (w.known t).stage
-  before = subst IsEven (sym calm) (even_by Calm refl)
+  before = subst IsEven (sym calm) (even_by Settled refl)
 
   now : IsEven l.stage
-  now = subst IsEven (sym stage) (even_by (Takes o) refl)
+  now = subst IsEven (sym stage) (even_by (BiasAcquired o) refl)
 
   inflates : inflation_in l.stage ≡ inflation_in (w.known t).stage
   inflates = ap inflation_in stage ∙ sym (ap inflation_in calm)
@@ -41,12 +46,12 @@ module _ (w : World) (P : List PlainObject) (t o : ℕ) (l : Known) (within : t 
         only.is
         ∙ (λ i. record (w.known t) {
           stage = sym stage i;
-          unfinished = sym (ap (λ (k : Known). k.unfinished) only.is) i;
-          checking = sym (ap (λ (k : Known). k.checking) only.is) i;
+          unfinished = sym (ap (λ (k : ThreadView). k.unfinished) only.is) i;
+          checking = sym (ap (λ (k : ThreadView). k.checking) only.is) i;
           seen = l.seen;
           seen_at_safepoint = l.seen_at_safepoint;
           steps = l.steps;
-          call = sym (ap (λ (k : Known). k.call) only.is) i;
+          call = sym (ap (λ (k : ThreadView). k.call) only.is) i;
         });
     others = λ k. refl;
   }
@@ -55,54 +60,65 @@ module _ (w : World) (P : List PlainObject) (t o : ℕ) (l : Known) (within : t 
   unreached u e = let stopped = (v.safe.safepoint u e).1 t in absurd (cc (stopped, runs))
 
   -- what it counts on now it counted on before
-  stays_mine : (n : Name) (s : ℕ) → Stays x l (owner_at P) t n s → Stays w (w.known t) (owner_at P) t n s
+  stays_mine : (n : WordId) (s : ℕ) → Stays x l (owner_at P) t n s → Stays w (w.known t) (owner_at P) t n s
   stays_mine n s =
       stays_back w x (w.known t) l (owner_at P) (owner_at P) t
-      (back_by w x (w.known t) l (owner_at P) (owner_at P) t refl refl (λ h. runs) (ap (λ (k : Known). k.requesting) only.is) inflates (λ e. v.quiet.none_revokes t) (ap (λ (k : Known). k.kept) only.is)
+      (back_by w x (w.known t) l (owner_at P) (owner_at P) t refl refl (λ h. runs)
+      (ap (λ (k : ThreadView). k.requesting) only.is) inflates (λ e. v.quiet.none_revokes t) (ap (λ (k : ThreadView). k.kept) only.is)
       (λ i h. h) (λ i a g h. held_even step before now (owner_at P) i a h)) n s
 
-  saw : (n : Name) (s : ℕ) → last_seen n l.seen ≡ Some s → last_seen n (w.known t).seen ≡ Some s
+  saw : (n : WordId) (s : ℕ) → last_seen n l.seen ≡ Some s → last_seen n (w.known t).seen ≡ Some s
   saw n s h = sym (only.seen n) ∙ h
 
   seen_law : SeenFit x P
   seen_law = record {
     stays = λ u n s. each_with_known (λ u y. last_seen n y.seen ≡ Some s → Stays x y (owner_at P) u n s → w.words n ≡ s) t l w.known u
         (λ h st. v.seen.stays t n s (saw n s h) (stays_mine n s st)) (λ d h st. v.seen.stays u n s h (others_by w x (owner_at P) refl refl u n s st));
-    unbiased = λ u i s. each_with_known (λ u y. last_seen (Mark i) y.seen ≡ Some s → (y.running ≡ true) ⊎ (y.requesting ≡ true) → is_biased s ≡ false → is_biased (w.words (Mark i)) ≡ false) t l w.known u
+    unbiased = λ u i s. each_with_known (λ u y. last_seen (Mark i) y.seen ≡ Some s
+        → (y.running ≡ true) ⊎ (y.requesting ≡ true) → is_biased s ≡ false → is_biased (w.words (Mark i)) ≡ false) t l w.known u
         (λ h a b. v.seen.unbiased t i s (saw (Mark i) s h) (inl runs) b) (λ d. v.seen.unbiased u i s);
     classed = v.seen.classed;
     saw_classed = λ u i s. each_with_known (λ u y. last_seen (Mark i) y.seen ≡ Some s → (y.running ≡ true) ⊎ (y.requesting ≡ true) → is_biased s ≡ true
         → has_class w.shape w.words i ≡ true) t l w.known u
         (λ h a b. v.seen.saw_classed t i s (saw (Mark i) s h) (inl runs) b) (λ d. v.seen.saw_classed u i s);
-    unwaiting = λ u y i s. each_with_known (λ u z. last_seen (Waiting y) z.seen ≡ Some s → z.running ≡ true → owner_at P i u ≡ true → waits_on s i ≡ false → waits_on (w.words (Waiting y)) i ≡ false) t l w.known u
+    unwaiting = λ u y i s. each_with_known (λ u z. last_seen (Waiting y) z.seen ≡ Some s → z.running ≡ true
+        → owner_at P i u ≡ true → waits_on s i ≡ false → waits_on (w.words (Waiting y)) i ≡ false) t l w.known u
         (λ h a b c. v.seen.unwaiting t y i s (saw (Waiting y) s h) runs b c) (λ d. v.seen.unwaiting u y i s);
-    unwaited = λ u i s. each_with_known (λ u z. last_seen (Mark i) z.seen ≡ Some s → z.running ≡ true → owner_at P i u ≡ true → monitor_in s ≡ None → waits_at P i ≡ []) t l w.known u
+    unwaited = λ u i s. each_with_known (λ u z. last_seen (Mark i) z.seen ≡ Some s → z.running ≡ true
+        → owner_at P i u ≡ true → monitor_in s ≡ None → waits_at P i ≡ []) t l w.known u
         (λ h a b c. v.seen.unwaited t i s (saw (Mark i) s h) runs b c) (λ d. v.seen.unwaited u i s);
-    stands = λ u n s. each_with_known (λ u y. y.reached ≡ true → last_seen n y.seen_at_safepoint ≡ Some s → w.words n ≡ s) t l w.known u (λ a h. absurd (unreached t (sym (ap (λ (k : Known). k.reached) only.is) ∙ a))) (λ d. v.seen.stands u n s);
-    alone = λ u. each_with_known (λ u y. y.reached ≡ true → revocation_in y.stage ≡ None → AreTheSteps w.words y.seen_at_safepoint) t l w.known u (λ a h. absurd (unreached t (sym (ap (λ (k : Known). k.reached) only.is) ∙ a))) (λ d. v.seen.alone u);
+    stands = λ u n s. each_with_known (λ u y. y.reached ≡ true → last_seen n y.seen_at_safepoint ≡ Some s → w.words n ≡ s) t l w.known u
+        (λ a h. absurd (unreached t (sym (ap (λ (k : ThreadView). k.reached) only.is) ∙ a))) (λ d. v.seen.stands u n s);
+    alone = λ u. each_with_known (λ u y. y.reached ≡ true → revocation_in y.stage ≡ None → AreTheSteps w.words y.seen_at_safepoint) t l w.known u
+        (λ a h. absurd (unreached t (sym (ap (λ (k : ThreadView). k.reached) only.is) ∙ a))) (λ d. v.seen.alone u);
     monitors = λ u m s. each_with_known (λ u y. y.running ≡ true → HasMet y.seen m s → IsKeptOrNamed x y m) t l w.known u
         (λ a h. forth m (v.seen.monitors t m s runs (h.0, h.1, saw h.0 s h.2))) (λ d a h. v.seen.monitors u m s a h);
   }
     where
       forth : (m : ℕ) → IsKeptOrNamed w (w.known t) m → IsKeptOrNamed x l m
-      forth m (inl a) = inl (ap (λ (k : Known). k.kept) only.is ∙ a)
+      forth m (inl a) = inl (ap (λ (k : ThreadView). k.kept) only.is ∙ a)
       forth m (inr a) = inr a
 
-  recursions_law : RecursionsFit (λ i. w.words (Mark i)) (λ a. w.words (Recursions a)) (lock w) (λ u. (w.known u).holds) (λ u. (with_known t l w.known u).stage) (λ u. (w.known u).saved) (displaced_words w) (waits_at P) (notified_at P)
+  recursions_law : RecursionsFit (λ i. w.words (Mark i)) (λ a. w.words (Recursions a)) (lock w) (λ u. (w.known u).holds)
+      (λ u. (with_known t l w.known u).stage) (λ u. (w.known u).saved) (displaced_words w) (waits_at P) (notified_at P)
   recursions_law = record {
     first = v.recursions.first;
     others = v.recursions.others;
     owned = λ i a u n. each_with_known (λ u y. lock w i ≡ OwnedBy u → (y.stage ≡ Waits i → ⊥) → (y.stage ≡ Resumes i → ⊥)
-        → w.words (Recursions a) + recursions_behind y.stage i ≡ recursion_count i (displaced_words w u) (w.known u).holds + recursions_ahead y.stage i) t l w.known u
+        → w.words (Recursions a) + recursions_lowered y.stage i
+        ≡ recursion_count i (displaced_words w u) (w.known u).holds + recursions_ahead y.stage i) t l w.known u
         (λ g b c.
         let was = v.recursions.owned i a t n g (λ s. absurd (cc (s, calm))) (λ s. absurd (cc (s, calm))) in
-        subst (λ s. w.words (Recursions a) + recursions_behind s i ≡ recursion_count i (displaced_words w t) (w.known t).holds + recursions_ahead s i) (sym stage)
-        (subst (λ s. w.words (Recursions a) + recursions_behind s i ≡ recursion_count i (displaced_words w t) (w.known t).holds + recursions_ahead s i) calm was))
+        subst (λ s. w.words (Recursions a) + recursions_lowered s i
+        ≡ recursion_count i (displaced_words w t) (w.known t).holds + recursions_ahead s i) (sym stage)
+        (subst (λ s. w.words (Recursions a) + recursions_lowered s i
+        ≡ recursion_count i (displaced_words w t) (w.known t).holds + recursions_ahead s i) calm was))
         (λ d. v.recursions.owned i a u n);
     waiting = v.recursions.waiting;
     on_record = v.recursions.on_record;
     free = v.recursions.free;
-    thread_owns = λ i u. each_with_known (λ u y. y.stage ≡ TakesOver i → recursion_count i (displaced_words w u) (w.known u).holds ≡ 0) t l w.known u (λ h. absurd (cc (h, stage))) (λ d. v.recursions.thread_owns i u);
+    thread_owns = λ i u. each_with_known (λ u y. y.stage ≡ OwnerConverted i → recursion_count i (displaced_words w u) (w.known u).holds ≡ 0)
+        t l w.known u (λ h. absurd (cc (h, stage))) (λ d. v.recursions.thread_owns i u);
   }
 
   abbrev z : World
@@ -114,4 +130,5 @@ module _ (w : World) (P : List PlainObject) (t o : ℕ) (l : Known) (within : t 
   all_after c = even_step step before now P goes_on runs v c
 
   pub takes_fits : Fits x P
-  takes_fits = step_fits step w.words P (kept_parts w z P) (parts_stand w z P refl (λ u. refl) (inflates_stay step inflates) refl refl refl (λ e. header_stays z w refl refl refl e)) all_after
+  takes_fits = step_fits step w.words P (kept_parts w z P)
+      (parts_stand w z P refl (λ u. refl) (inflates_stay step inflates) refl refl refl (λ e. header_stays z w refl refl refl e)) all_after

@@ -1,6 +1,13 @@
 -- A displaced word of a record of an object that is validly biased changes at a safepoint, and each clause but that of what was seen holds again.
-use Rattle.core_locks.proofs.Prelude.{◌≡◌, ◌≢◌, ◌⊎◌, ℕ, zero, suc, ◌+◌, ◌≤◌, ◌==◌, ◌&&◌, eq-eqb, ne_eqb, eqb-true, Bool, true, false, cond, List, slice_index, Option, Some, None, refl, sym, ap, ◌∙◌, subst, arith, inl, inr, zero-add, MarkForm, Inflating, Locked, HoldForm, Empty, Holds, read_mark, read_hold, hold_of, read_hold-spells, is_listed, PlainObject, Recursions, Shape, is_biased, is_neutral, hash_in, hold_word, names, names_form, is_deeper, deeper_form, inflation_in, recursions_ahead, World, BiasedTo, OnRecord, OwnedBy, lock, lock_form, header, header_form, marks, displaced_words, headers, owner_words, prototype_of, inflations, inflation_of, recursion_count, hash_at, waits_at, notified_at, RecordsRest, RecursionsFit, GoesByMonitor, HashesFit, IsHold, hold_some, frame6, by_equal}
-use Rattle.core_locks.proofs.MarkHolds.{number_same}
+use Rattle.core_locks.proofs.Prelude.{◌≡◌, ◌≢◌, ◌⊎◌, ℕ, zero, suc, ◌+◌, ◌≤◌, ◌==◌, ◌&&◌, eq-eqb, ne_eqb, eqb-true, Bool, true, false}
+use Rattle.core_locks.proofs.Prelude.{cond, List, slice_index, Option, Some, None, refl, sym, ap, ◌∙◌, subst, arith, inl, inr, zero-add}
+use Rattle.core_locks.proofs.Prelude.{MarkForm, Inflating, Locked, HoldForm, Empty, Holds, read_mark, read_hold, hold_of, read_hold-spells}
+use Rattle.core_locks.proofs.Prelude.{is_listed, PlainObject, Recursions, Shape, is_biased, is_neutral, hash_in, hold_word, names}
+use Rattle.core_locks.proofs.Prelude.{names_form, is_deeper, deeper_form, inflation_in, recursions_ahead, World, BiasedTo, OnRecord}
+use Rattle.core_locks.proofs.Prelude.{OwnedBy, lock, lock_form, header, header_form, marks, displaced_words, headers, owner_words}
+use Rattle.core_locks.proofs.Prelude.{prototype_of, inflations, inflation_of, recursion_count, hash_at, waits_at, notified_at, RecordsRest}
+use Rattle.core_locks.proofs.Prelude.{RecursionsFit, GoesByMonitor, HashesFit, IsHold, hold_some, frame6, by_equal}
+use Rattle.core_locks.proofs.enter_exit.MarkHolds.{number_same}
 use Rattle.core_locks.proofs.Clauses as clause
 use Rattle.core_bias.proofs.Unseen.{FitsUnseen, set_displaced}
 use Rattle.core_bias.proofs.MarkTurns.{AllCalm}
@@ -40,9 +47,11 @@ spelled_names s n o d h small e = by_form (read_hold n) refl h
         ap (λ f. names_form f o) r ∙ eq-eqb i o same
 
 -- where a thread's hold word of o stands, it names o
-pub stored_names : (w : World) (P : List PlainObject) → FitsUnseen w P → (t q o d : ℕ) → d ≤ 64 → slice_index (w.known t).holds q ≡ hold_word o d → names o (slice_index (w.known t).holds q) ≡ true
+pub stored_names : (w : World) (P : List PlainObject) → FitsUnseen w P → (t q o d : ℕ) → d ≤ 64
+    → slice_index (w.known t).holds q ≡ hold_word o d → names o (slice_index (w.known t).holds q) ≡ true
 stored_names w P v t q o d small e =
-    let form : IsHold w.shape (read_hold (slice_index (w.known t).holds q)) = subst (λ n. IsHold w.shape (read_hold n)) ((v clause.holds).stored t q) ((v clause.forms).holds t q) in
+    let form : IsHold w.shape (read_hold (slice_index (w.known t).holds q)) =
+    subst (λ n. IsHold w.shape (read_hold n)) ((v clause.holds).stored t q) ((v clause.forms).holds t q) in
     spelled_names w.shape (slice_index (w.known t).holds q) o d form small e
 
 -- nothing is being inflated
@@ -53,7 +62,8 @@ no_inflation w calm o = none w.shape.threads
     none zero = refl
     none (suc n) = let here = ap inflation_in (calm n) in rw here (none n)
 
-module _ (w : World) (P : List PlainObject) (o t q d : ℕ) (calm : AllCalm w) (biased : is_biased (marks w o) ≡ true) (leans : lock w o ≡ BiasedTo t) (held : names o (slice_index (w.known t).holds q) ≡ true) (v : FitsUnseen w P) where
+module _ (w : World) (P : List PlainObject) (o t q d : ℕ) (calm : AllCalm w) (biased : is_biased (marks w o) ≡ true)
+    (leans : lock w o ≡ BiasedTo t) (held : names o (slice_index (w.known t).holds q) ≡ true) (v : FitsUnseen w P) where
   abbrev x : World
   x = set_displaced t q d w
 
@@ -101,7 +111,8 @@ module _ (w : World) (P : List PlainObject) (o t q d : ℕ) (calm : AllCalm w) (
   header_same : (i : ℕ) → header w i ≡ header x i
   header_same i = by_form (read_mark (marks w i)) refl
     where
-      by_form : (a : Option MarkForm) → read_mark (marks w i) ≡ a → header_form a (marks w i) (displaced_words w) (headers w) (inflations w i) ≡ header_form a (marks w i) (displaced_words x) (headers w) (inflations w i)
+      by_form : (a : Option MarkForm) → read_mark (marks w i) ≡ a → header_form a (marks w i) (displaced_words w) (headers w) (inflations w i)
+          ≡ header_form a (marks w i) (displaced_words x) (headers w) (inflations w i)
       by_form (Some Inflating) e = rw (no_inflation w calm i) refl
       by_form (Some (Locked u p)) e =
           let rests : lock w i ≡ OnRecord u p = ap (λ a. lock_form a (prototype_of w i) (owner_words w) (inflations w i)) e in
@@ -112,7 +123,8 @@ module _ (w : World) (P : List PlainObject) (o t q d : ℕ) (calm : AllCalm w) (
   rest_law = record {
     first = (v clause.records).first;
     header = λ i u p e. ap is_neutral (rests_stay i u p e) ∙ (v clause.records).header i u p e;
-    others = λ i u p z c e h small other. stays u z i (resting_else i u p e) (stored_names w P v u z i c small h) ∙ (v clause.records).others i u p z c e h small other;
+    others = λ i u p z c e h small other. stays u z i (resting_else i u p e) (stored_names w P v u z i c small h)
+        ∙ (v clause.records).others i u p z c e h small other;
     seized = (v clause.records).seized;
     grabbed = (v clause.records).grabbed;
   }
@@ -121,17 +133,24 @@ module _ (w : World) (P : List PlainObject) (o t q d : ℕ) (calm : AllCalm w) (
   again_same i u other = number_same _ _ 0 (w.known u).holds (λ p. each p (is_deeper i (slice_index (w.known u).holds p)) refl)
     where
       each : (p : ℕ) (b : Bool) → is_deeper i (slice_index (w.known u).holds p) ≡ b
-          → (is_deeper i (slice_index (w.known u).holds p) && (displaced_words w u (0 + p) == 3)) ≡ (is_deeper i (slice_index (w.known u).holds p) && (displaced_words x u (0 + p) == 3))
+          → (is_deeper i (slice_index (w.known u).holds p) && (displaced_words w u (0 + p) == 3))
+          ≡ (is_deeper i (slice_index (w.known u).holds p) && (displaced_words x u (0 + p) == 3))
       each p true e =
-          let same : displaced_words w u (0 + p) ≡ displaced_words x u (0 + p) = ap (λ z. displaced_words w u z) (zero-add p) ∙ sym (stays u p i other (deeper_names i (slice_index (w.known u).holds p) e)) ∙ ap (λ z. displaced_words x u z) (sym (zero-add p)) in
+          let same : displaced_words w u (0 + p) ≡ displaced_words x u (0 + p) = ap (λ z. displaced_words w u z) (zero-add p)
+          ∙ sym (stays u p i other (deeper_names i (slice_index (w.known u).holds p) e)) ∙ ap (λ z. displaced_words x u z) (sym (zero-add p)) in
           ap (λ n. is_deeper i (slice_index (w.known u).holds p) && (n == 3)) same
       each p false e = rw e refl
 
-  recursions_law : RecursionsFit (marks w) (λ m. w.words (Recursions m)) (lock w) (λ u. (w.known u).holds) (λ u. (w.known u).stage) (λ u. (w.known u).saved) (displaced_words x) (waits_at P) (notified_at P)
+  recursions_law : RecursionsFit (marks w) (λ m. w.words (Recursions m)) (lock w) (λ u. (w.known u).holds)
+      (λ u. (w.known u).stage) (λ u. (w.known u).saved) (displaced_words x) (waits_at P) (notified_at P)
   recursions_law = record {
-    first = λ i u p g h. subst (λ n. (is_neutral n ≡ true) ⊎ (n ≡ 3)) (sym (stays u p i (goes_else i u g) (stored_names w P v u p i 1 one_small h))) ((v clause.recursions).first i u p g h);
-    others = λ i u p c g h small. subst (λ n. (n ≡ 0) ⊎ (n ≡ 3)) (sym (stays u p i (goes_else i u g) (stored_names w P v u p i (c + 2) (omega (arith, small)) h))) ((v clause.recursions).others i u p c g h small);
-    owned = λ i m u n e a b. (v clause.recursions).owned i m u n e a b ∙ ap (λ z. z + recursions_ahead (w.known u).stage i) (again_same i u (manned_else i u e));
+    first = λ i u p g h. subst (λ n. (is_neutral n ≡ true) ⊎ (n ≡ 3))
+        (sym (stays u p i (goes_else i u g) (stored_names w P v u p i 1 one_small h))) ((v clause.recursions).first i u p g h);
+    others = λ i u p c g h small. subst (λ n. (n ≡ 0) ⊎ (n ≡ 3))
+        (sym (stays u p i (goes_else i u g) (stored_names w P v u p i (c + 2) (omega (arith, small)) h)))
+        ((v clause.recursions).others i u p c g h small);
+    owned = λ i m u n e a b. (v clause.recursions).owned i m u n e a b
+        ∙ ap (λ z. z + recursions_ahead (w.known u).stage i) (again_same i u (manned_else i u e));
     waiting = λ i u h. (v clause.recursions).waiting i u h ∙ again_same i u (listed_else i u h);
     on_record = (v clause.recursions).on_record;
     free = (v clause.recursions).free;
@@ -152,7 +171,15 @@ module _ (w : World) (P : List PlainObject) (o t q d : ℕ) (calm : AllCalm w) (
   header_is = λ j. λ i. header_same i j
 
   pub displaced_turned : FitsUnseen x P
-  displaced_turned clause.forms = record { marks = (v clause.forms).marks; owners = (v clause.forms).owners; waits = (v clause.forms).waits; objects = (v clause.forms).objects; holds = (v clause.forms).holds; safepoint = (v clause.forms).safepoint; classes = (v clause.forms).classes }
+  displaced_turned clause.forms = record {
+    marks = (v clause.forms).marks;
+    owners = (v clause.forms).owners;
+    waits = (v clause.forms).waits;
+    objects = (v clause.forms).objects;
+    holds = (v clause.forms).holds;
+    safepoint = (v clause.forms).safepoint;
+    classes = (v clause.forms).classes;
+  }
   displaced_turned clause.records = rest_law
   displaced_turned clause.recursions = recursions_law
   displaced_turned clause.hashes = frame6 HashesFit {x0 = marks w} {x1 = lock w} refl refl header_is refl refl refl hashes_law

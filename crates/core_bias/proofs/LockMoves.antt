@@ -1,6 +1,9 @@
 -- Marks with the bias pattern and words of classes change at a safepoint, and each clause but those of what was seen and of classes holds
 -- again, where an object keeps its lock or is held by nobody.
-use Rattle.core_locks.proofs.Prelude.{◌≡◌, ◌⊎◌, ℕ, true, List, Option, Some, None, refl, sym, ap, ◌∙◌, subst, inl, inr, MarkForm, Anonymous, Biased, read_mark, PlainObject, is_biased, is_biased_form, monitor_in, World, Lock, Open, BiasedTo, OnRecord, OwnedBy, lock, holder, who, header, header_form, marks, displaced_words, headers, inflations, hold_count, hash_at, waits_at, notified_at, IsMark, LocksArePlain, BiasedAreFree, RecordsRest, HashesFit, frame3}
+use Rattle.core_locks.proofs.Prelude.{◌≡◌, ◌⊎◌, ℕ, true, List, Option, Some, None, refl, sym, ap, ◌∙◌, subst, inl, inr, MarkForm, Anonymous, Biased}
+use Rattle.core_locks.proofs.Prelude.{read_mark, PlainObject, is_biased, is_biased_form, monitor_in, World, Lock, Open, BiasedTo, OnRecord, OwnedBy}
+use Rattle.core_locks.proofs.Prelude.{lock, holder, who, header, header_form, marks, displaced_words, headers, inflations, hold_count, hash_at}
+use Rattle.core_locks.proofs.Prelude.{waits_at, notified_at, IsMark, LocksArePlain, BiasedAreFree, RecordsRest, HashesFit, frame3}
 use Rattle.core_locks.proofs.MarkChanges.{monitors_by_marks, claims_by_marks, waits_by_marks, recursions_by_marks, inflating_by_marks}
 use Rattle.core_locks.proofs.Clauses as clause
 use Rattle.core_bias.proofs.Unseen.{Unclassed, with_words, rewords}
@@ -83,7 +86,8 @@ module _ (w : World) (P : List PlainObject) (mark prototype count last : ℕ →
   hashes_law : HashesFit (marks x) (lock x) (header x) (λ u. (w.known u).holds) (displaced_words w) (hash_at P)
   hashes_law = record {
     stands = λ i h e. (v clause.hashes).stands i h (header_same i h e);
-    records = λ i u p e b n. (v clause.hashes).records i u p e (elim (moves i) [ inl a ↦ ap is_biased (sym a.0) ∙ b | inr a ↦ (let yes = a.1 in absurd (cc (yes, b))) ]) n;
+    records = λ i u p e b n. (v clause.hashes).records i u p e
+        (elim (moves i) [ inl a ↦ ap is_biased (sym a.0) ∙ b | inr a ↦ (let yes = a.1 in absurd (cc (yes, b))) ]) n;
     on_record = λ i u p e. (v clause.hashes).on_record i u p (back i (OnRecord u p) e (λ c. cc c) (λ t c. cc c));
   }
 
@@ -114,7 +118,8 @@ module _ (w : World) (P : List PlainObject) (mark prototype count last : ℕ →
       (λ i h. elim (moves i) [ inl a ↦ sym a.0 ∙ h | inr a ↦ absurd (biased_some (marks x i) a.1 h) ])
       (λ i h. elim (moves i) [ inl a ↦ a.0 ∙ h | inr a ↦ absurd (biased_some (marks w i) a.0 h) ]) (v clause.inflating)
   locks_moved clause.monitors = monitors_by_marks (marks w) (marks x) names _ _ (v clause.monitors)
-  locks_moved clause.recursions = recursions_by_marks (marks w) (marks x) names _ (lock w) (lock x) _ _ _ _ _ _ (λ i u e. back i (OwnedBy u) e (λ c. cc c) (λ t c. cc c)) inflated (v clause.recursions)
+  locks_moved clause.recursions = recursions_by_marks (marks w) (marks x) names _ (lock w) (lock x) _ _ _ _ _ _
+      (λ i u e. back i (OwnedBy u) e (λ c. cc c) (λ t c. cc c)) inflated (v clause.recursions)
   locks_moved clause.hashes = hashes_law
   locks_moved clause.waits = waits_by_marks (marks w) (marks x) names _ _ _ _ _ _ _ _ (v clause.waits)
   locks_moved clause.claims = claims_by_marks (marks w) (marks x) names _ _ _ _ _ _ _ _ _ (v clause.claims)

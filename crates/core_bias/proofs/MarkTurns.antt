@@ -1,5 +1,10 @@
 -- The mark of an object that had the bias pattern changes at a safepoint, and each clause but that of what was seen holds again.
-use Rattle.core_locks.proofs.Prelude.{◌≡◌, ◌≢◌, ◌⊎◌, ℕ, ◌≤◌, eq-eqb, ne_eqb, Bool, true, false, cond, if◌then◌else◌, List, slice_index, Option, Some, None, refl, sym, ap, ◌∙◌, inl, inr, MarkForm, Anonymous, Biased, read_mark, PlainObject, Calm, is_neutral, is_biased, is_biased_form, monitor_in, monitor_form, hash_in, hold_word, epoch_in, World, Lock, has_epoch, Open, BiasedTo, OnRecord, OwnedBy, lock, lock_form, holder, who, header, header_form, marks, displaced_words, headers, owner_words, prototype_of, inflations, hold_count, hash_at, waits_at, notified_at, IsMark, LocksArePlain, BiasedAreFree, RecordsRest, HashesFit, ClassesFit, FormsFit, frame3, by_equal, mark_zero}
+use Rattle.core_locks.proofs.Prelude.{◌≡◌, ◌≢◌, ◌⊎◌, ℕ, ◌≤◌, eq-eqb, ne_eqb, Bool, true, false, cond, if◌then◌else◌, List, slice_index, Option, Some}
+use Rattle.core_locks.proofs.Prelude.{None, refl, sym, ap, ◌∙◌, inl, inr, MarkForm, Anonymous, Biased, read_mark, PlainObject, Settled, is_neutral}
+use Rattle.core_locks.proofs.Prelude.{is_biased, is_biased_form, monitor_in, monitor_form, hash_in, hold_word, epoch_in, World, Lock, has_epoch, Open}
+use Rattle.core_locks.proofs.Prelude.{BiasedTo, OnRecord, OwnedBy, lock, lock_form, holder, who, header, header_form, marks, displaced_words, headers}
+use Rattle.core_locks.proofs.Prelude.{owner_words, prototype_of, inflations, hold_count, hash_at, waits_at, notified_at, IsMark, LocksArePlain}
+use Rattle.core_locks.proofs.Prelude.{BiasedAreFree, RecordsRest, HashesFit, ClassesFit, FormsFit, frame3, by_equal, mark_zero}
 use Rattle.core_world.proofs.Readings.{mark_one}
 use Rattle.core_locks.proofs.MarkMeanings.{each_set}
 use Rattle.core_locks.proofs.MarkChanges.{monitors_by_marks, claims_by_marks, waits_by_marks, recursions_by_marks, inflating_by_marks}
@@ -8,7 +13,7 @@ use Rattle.core_bias.proofs.Unseen.{FitsUnseen, set_mark}
 
 -- at a safepoint every thread stands in the middle of nothing
 abbrev pub AllCalm : World → Type 0
-AllCalm w = (u : ℕ) → (w.known u).stage ≡ Calm
+AllCalm w = (u : ℕ) → (w.known u).stage ≡ Settled
 
 biased_form : (f : Option MarkForm) → is_biased_form f ≡ true → monitor_form f ≡ None
 biased_form (Some (Anonymous epoch age)) e = refl
@@ -31,7 +36,8 @@ biased_lock w o e = by_form (read_mark (marks w o)) e
     leaning false t = inl refl
 
     by_form : (f : Option MarkForm) → is_biased_form f ≡ true
-        → (lock_form f (prototype_of w o) (owner_words w) (inflations w o) ≡ Open) ⊎ ((t : ℕ) × (lock_form f (prototype_of w o) (owner_words w) (inflations w o) ≡ BiasedTo t))
+        → (lock_form f (prototype_of w o) (owner_words w) (inflations w o) ≡ Open)
+        ⊎ ((t : ℕ) × (lock_form f (prototype_of w o) (owner_words w) (inflations w o) ≡ BiasedTo t))
     by_form (Some (Anonymous epoch age)) e = inl refl
     by_form (Some (Biased thread epoch age)) e = leaning (has_epoch (epoch_in (prototype_of w o)) epoch) thread
     by_form _ e = absurd (cc e)
@@ -47,13 +53,15 @@ pub record MarkTurns (w : World) (o m : ℕ) (f : Lock) : Type 0 where
   pub not_thread_owned : (u : ℕ) → f ≡ OwnedBy u → ⊥
   -- a record on which it rests now has the header, and its thread's others of o have 0
   pub rests : (u p : ℕ) → f ≡ OnRecord u p
-      → (slice_index (w.known u).holds p ≡ hold_word o 1) × (displaced_words w u p ≡ 1) × ((q d : ℕ) → slice_index (w.known u).holds q ≡ hold_word o d → d ≤ 64 → q ≢ p → displaced_words w u q ≡ 0)
+      → (slice_index (w.known u).holds p ≡ hold_word o 1) × (displaced_words w u p ≡ 1)
+      × ((q d : ℕ) → slice_index (w.known u).holds q ≡ hold_word o d → d ≤ 64 → q ≢ p → displaced_words w u q ≡ 0)
   -- the header has no hash
   pub header : (h : ℕ) → header_form (read_mark m) m (displaced_words w) (headers w) (inflations w o) ≡ Some h → hash_in h ≡ 0
   -- where it keeps the bias pattern, nobody has a hold word but the thread that it leans to
   pub free : is_biased m ≡ true → (u : ℕ) → (f ≡ BiasedTo u → ⊥) → hold_count o (w.known u).holds ≡ 0
   -- where it loses it, no record of o has a hash
-  pub plain : is_biased m ≡ false → (u p : ℕ) → slice_index (w.known u).holds p ≡ hold_word o 1 → is_neutral (displaced_words w u p) ≡ true → hash_in (displaced_words w u p) ≡ 0
+  pub plain : is_biased m ≡ false → (u p : ℕ) → slice_index (w.known u).holds p ≡ hold_word o 1
+      → is_neutral (displaced_words w u p) ≡ true → hash_in (displaced_words w u p) ≡ 0
 
 module _ (w : World) (P : List PlainObject) (o m : ℕ) (f : Lock) (g : MarkTurns w o m f) (v : FitsUnseen w P) where
   abbrev x : World
@@ -73,7 +81,8 @@ module _ (w : World) (P : List PlainObject) (o m : ℕ) (f : Lock) (g : MarkTurn
       (λ e. inl (e, ap (lock x) e ∙ ap (λ y. lock_form (read_mark y) (prototype_of w o) (owner_words w) (inflations w o)) mark_here ∙ g.lock))
       (λ d. inr (d, ap (λ y. lock_form (read_mark y) (prototype_of w i) (owner_words w) (inflations w i)) (mark_else i d)))
 
-  header_now : (i : ℕ) → ((i ≡ o) × (header x i ≡ header_form (read_mark m) m (displaced_words w) (headers w) (inflations w o))) ⊎ ((i ≢ o) × (header x i ≡ header w i))
+  header_now : (i : ℕ) → ((i ≡ o) × (header x i ≡ header_form (read_mark m) m (displaced_words w) (headers w) (inflations w o)))
+      ⊎ ((i ≢ o) × (header x i ≡ header w i))
   header_now i = by_equal i o
       (λ e. inl (e, ap (header x) e ∙ ap (λ y. header_form (read_mark y) y (displaced_words w) (headers w) (inflations w o)) mark_here))
       (λ d. inr (d, ap (λ y. header_form (read_mark y) y (displaced_words w) (headers w) (inflations w i)) (mark_else i d)))
@@ -155,7 +164,8 @@ module _ (w : World) (P : List PlainObject) (o m : ℕ) (f : Lock) (g : MarkTurn
       | inl a ↦ (g.rests u p (sym a.1 ∙ e)).2 q d (h ∙ ap (λ j. hold_word j d) a.0) small other
       | inr a ↦ (v clause.records).others i u p q d (sym a.1 ∙ e) h small other
     ];
-    seized = λ i u p s. let b = (v clause.records).seized i u p s in (lock_else i (unleaning i (OnRecord u p) b.0 (λ c. cc c) (λ t c. cc c)) ∙ b.0, b.1, b.2, b.3);
+    seized = λ i u p s. let b = (v clause.records).seized i u p s in
+        (lock_else i (unleaning i (OnRecord u p) b.0 (λ c. cc c) (λ t c. cc c)) ∙ b.0, b.1, b.2, b.3);
     grabbed = λ i u s. let b = (v clause.records).grabbed i u s in (lock_else i (unleaning i (OwnedBy u) b.0 (λ c. cc c) (λ t c. cc c)) ∙ b.0, b.1);
   }
     where
@@ -180,7 +190,8 @@ module _ (w : World) (P : List PlainObject) (o m : ℕ) (f : Lock) (g : MarkTurn
       one_hash : hash_in 1 ≡ 0
       one_hash = rw mark_one refl
 
-  classes_law : (prototype count last rebiased revoked : ℕ → ℕ) → ClassesFit w.biasing prototype count last (marks w) rebiased revoked → ClassesFit w.biasing prototype count last (marks x) rebiased revoked
+  classes_law : (prototype count last rebiased revoked : ℕ → ℕ) → ClassesFit w.biasing prototype count last (marks w) rebiased revoked
+      → ClassesFit w.biasing prototype count last (marks x) rebiased revoked
   classes_law prototype count last rebiased revoked h = record {
     plain = h.plain;
     unbiased = λ b i. let no = h.unbiased b o in let yes = g.biased in absurd (cc (no, yes));
@@ -197,7 +208,8 @@ module _ (w : World) (P : List PlainObject) (o m : ℕ) (f : Lock) (g : MarkTurn
       (λ i. each_set (λ j y. y ≡ 0 → marks w j ≡ 0) o m (marks w) i (λ h. absurd (g.some h)) (λ d h. h))
       (λ i. each_set (λ j y. marks w j ≡ 0 → y ≡ 0) o m (marks w) i (λ h. absurd (biased_some (marks w o) g.biased h)) (λ d h. h)) (v clause.inflating)
   mark_turned clause.monitors = monitors_by_marks (marks w) (marks x) names _ _ (v clause.monitors)
-  mark_turned clause.recursions = recursions_by_marks (marks w) (marks x) names _ (lock w) (lock x) _ _ _ _ _ _ (λ i u e. (back i (OwnedBy u) e (g.not_thread_owned u)).1) lock_inflated (v clause.recursions)
+  mark_turned clause.recursions = recursions_by_marks (marks w) (marks x) names _ (lock w) (lock x) _ _ _ _ _ _
+      (λ i u e. (back i (OwnedBy u) e (g.not_thread_owned u)).1) lock_inflated (v clause.recursions)
   mark_turned clause.hashes = hashes_law
   mark_turned clause.waits = waits_by_marks (marks w) (marks x) names _ _ _ _ _ _ _ _ (v clause.waits)
   mark_turned clause.claims = claims_by_marks (marks w) (marks x) names _ _ _ _ _ _ _ _ _ (v clause.claims)

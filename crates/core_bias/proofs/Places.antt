@@ -1,6 +1,9 @@
 -- Where the hold word with depth 1 stands among a thread's hold words, and what a revocation stores in the displaced words.
 use Rattle.plain_monitor.specs.Limits.{most_holds}
-use Rattle.core_locks.proofs.Prelude.{◌≡◌, ℕ, zero, suc, ◌+◌, ◌<◌, ◌≤◌, ◌==◌, ◌&&◌, ◌++◌, not, eq-eqb, ne_eqb, eqb-true, Bool, true, false, cond, if◌then◌else◌, List, [], ◌∷◌, length, slice_index, refl, sym, ap, ◌∙◌, subst, arith, zero-add, add-zero, position_or_len, Neutral, mark_of, Name, Hold, Displaced, same_name, with_word, names, hold_word, one_if, count_where, names_none}
+use Rattle.core_locks.proofs.Prelude.{◌≡◌, ℕ, zero, suc, ◌+◌, ◌<◌, ◌≤◌, ◌==◌, ◌&&◌, ◌++◌, not, eq-eqb, ne_eqb, eqb-true, Bool}
+use Rattle.core_locks.proofs.Prelude.{true, false, cond, if◌then◌else◌, List, [], ◌∷◌, length, slice_index, refl, sym, ap, ◌∙◌}
+use Rattle.core_locks.proofs.Prelude.{subst, arith, zero-add, add-zero, position_or_len, Neutral, mark_of, WordId, Hold, Displaced}
+use Rattle.core_locks.proofs.Prelude.{same_name, with_word, names, hold_word, one_if, count_where, names_none}
 use Rattle.core_world.specs.RevocationRules.{Write, write, words_after, words_from, holds_in, record_writes}
 
 -- HOLD WORDS. Those that a revocation reads are those that the thread stored.
@@ -11,9 +14,10 @@ words_are p (y ∷ hs) f h =
     let others = words_are (p + 1) hs f (λ i. let e : p + 1 + i ≡ p + suc i = omega arith in ap f e ∙ h (suc i)) in
     ap (λ z. z ∷ words_from (p + 1) (length hs) f) here ∙ ap (λ zs. y ∷ zs) others
 
-pub holds_are : (f : Name → ℕ) (t : ℕ) (hs : List ℕ) → length hs ≡ most_holds → ((p : ℕ) → f (Hold t p) ≡ slice_index hs p) → holds_in f t ≡ hs
+pub holds_are : (f : WordId → ℕ) (t : ℕ) (hs : List ℕ) → length hs ≡ most_holds → ((p : ℕ) → f (Hold t p) ≡ slice_index hs p) → holds_in f t ≡ hs
 unfolding holds_in
-holds_are f t hs few h = ap (λ n. words_from 0 n (λ p. f (Hold t p))) (sym few) ∙ words_are 0 hs (λ p. f (Hold t p)) (λ i. ap (λ p. f (Hold t p)) (zero-add i) ∙ h i)
+holds_are f t hs few h = ap (λ n. words_from 0 n (λ p. f (Hold t p))) (sym few)
+    ∙ words_are 0 hs (λ p. f (Hold t p)) (λ i. ap (λ p. f (Hold t p)) (zero-add i) ∙ h i)
 
 -- THE WORD y, which stands there once.
 module _ (y : ℕ) where
@@ -65,7 +69,8 @@ module _ (o t : ℕ) where
   here p h b = if b then write (Displaced t p) (displaced_word o h) ∷ [] else []
 
   -- words of other names stay
-  pub record_other : (hs : List ℕ) (p : ℕ) (f : Name → ℕ) (n : Name) → ((i : ℕ) → same_name n (Displaced t (p + i)) ≡ false) → words_after (record_writes o t p hs) f n ≡ f n
+  pub record_other : (hs : List ℕ) (p : ℕ) (f : WordId → ℕ) (n : WordId)
+      → ((i : ℕ) → same_name n (Displaced t (p + i)) ≡ false) → words_after (record_writes o t p hs) f n ≡ f n
   record_other [] p f n h = refl
   record_other (y ∷ hs) p f n h = cases (names o y) (λ g. record_other hs (p + 1) g n)
     where
@@ -75,23 +80,25 @@ module _ (o t : ℕ) where
       first : same_name n (Displaced t p) ≡ false
       first = ap (λ z. same_name n (Displaced t z)) (sym (add-zero p)) ∙ h 0
 
-      cases : (b : Bool) → ((g : Name → ℕ) → ((i : ℕ) → same_name n (Displaced t (p + 1 + i)) ≡ false) → words_after (record_writes o t (p + 1) hs) g n ≡ g n)
+      cases : (b : Bool) → ((g : WordId → ℕ) → ((i : ℕ) → same_name n (Displaced t (p + 1 + i)) ≡ false) → words_after (record_writes o t (p + 1) hs) g n ≡ g n)
           → words_after (here p y b ++ record_writes o t (p + 1) hs) f n ≡ f n
       cases true ih = ih (with_word (Displaced t p) (displaced_word o y) f) others ∙ ap (λ (b : Bool). cond b (displaced_word o y) (f n)) first
       cases false ih = ih f others
 
   -- the word of a record of o is the one that is stored there
-  pub record_here : (hs : List ℕ) (p i : ℕ) (f : Name → ℕ) → names o (slice_index hs i) ≡ true → words_after (record_writes o t p hs) f (Displaced t (p + i)) ≡ displaced_word o (slice_index hs i)
+  pub record_here : (hs : List ℕ) (p i : ℕ) (f : WordId → ℕ) → names o (slice_index hs i) ≡ true
+      → words_after (record_writes o t p hs) f (Displaced t (p + i)) ≡ displaced_word o (slice_index hs i)
   record_here [] p i f e = let none = names_none o in absurd (cc (e, none))
   record_here (y ∷ hs) p zero f e = ap (λ b. words_after (here p y b ++ record_writes o t (p + 1) hs) f (Displaced t (p + 0))) e
-      ∙ record_other hs (p + 1) (with_word (Displaced t p) (displaced_word o y) f) (Displaced t (p + 0)) (λ i. ap (λ (b : Bool). b && (t == t)) (ne_eqb (p + 0) (p + 1 + i) (λ z. omega arith)))
+      ∙ record_other hs (p + 1) (with_word (Displaced t p) (displaced_word o y) f) (Displaced t (p + 0))
+      (λ i. ap (λ (b : Bool). b && (t == t)) (ne_eqb (p + 0) (p + 1 + i) (λ z. omega arith)))
       ∙ (let a = eq-eqb (p + 0) p (add-zero p) in let b = eq-eqb t t refl in λ j. cond (a j && b j) (displaced_word o y) (f (Displaced t (p + 0))))
   record_here (y ∷ hs) p (suc i) f e = cases (names o y) (λ g. record_here hs (p + 1) i g e)
     where
       at : p + 1 + i ≡ p + suc i
       at = omega arith
 
-      cases : (b : Bool) → ((g : Name → ℕ) → words_after (record_writes o t (p + 1) hs) g (Displaced t (p + 1 + i)) ≡ displaced_word o (slice_index hs i))
+      cases : (b : Bool) → ((g : WordId → ℕ) → words_after (record_writes o t (p + 1) hs) g (Displaced t (p + 1 + i)) ≡ displaced_word o (slice_index hs i))
           → words_after (here p y b ++ record_writes o t (p + 1) hs) f (Displaced t (p + suc i)) ≡ displaced_word o (slice_index hs i)
       cases true ih = let g = with_word (Displaced t p) (displaced_word o y) f in
           subst (λ z. words_after (record_writes o t (p + 1) hs) g (Displaced t z) ≡ displaced_word o (slice_index hs i)) at (ih g)

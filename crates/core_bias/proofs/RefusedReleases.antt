@@ -1,15 +1,23 @@
 -- Releases of a safepoint after which some clause fails: a revocation has left something undone.
-use Rattle.core_locks.proofs.Prelude.{◌≡◌, ◌≢◌, ◌⊎◌, ℕ, ◌<◌, ◌≤◌, ◌^◌, ◌==◌, ◌||◌, ne_eqb, Bool, true, false, cond, if◌then◌else◌, List, slice_index, Some, None, refl, sym, ap, ◌∙◌, arith, inl, inr, pow_below, bit_at-pow_same, bit_at-pow_other, read_mark, mark_of, Biased, Locked, read_safe-safe_of, is_thread, is_listed, PlainObject, Safepoint, Mark, Displaced, StepPlan, hold_word, is_biased_form, is_neutral, monitor_in, runs_in, runs_form, epoch_in, bears, hold_words_ahead, Known, World, Open, BiasedTo, OnRecord, lock, lock_form, has_epoch, holder, hold_count, owner_words, prototype_of, inflations, holds_by_monitor, monitor_of, owner_at, waits_at, notified_at, Purpose, hits, word_after, Fits, Valid, world_after, reached_word, released_word, each_with_known, with_known_here, by_equal, unlisted_count, hold_some}
+use Rattle.core_locks.proofs.Prelude.{◌≡◌, ◌≢◌, ◌⊎◌, ℕ, ◌<◌, ◌≤◌, ◌^◌, ◌==◌, ◌||◌, ne_eqb, Bool, true, false, cond, if◌then◌else◌, List}
+use Rattle.core_locks.proofs.Prelude.{slice_index, Some, None, refl, sym, ap, ◌∙◌, arith, inl, inr, pow_below, bit_at-pow_same, bit_at-pow_other}
+use Rattle.core_locks.proofs.Prelude.{read_mark, mark_of, Biased, Locked, read_safe-safe_of, is_thread, is_listed, PlainObject, Safepoint}
+use Rattle.core_locks.proofs.Prelude.{Mark, Displaced, StepPlan, hold_word, is_biased_form, is_neutral, monitor_in, runs_in, runs_form}
+use Rattle.core_locks.proofs.Prelude.{epoch_in, bears, hold_words_ahead, ThreadView, World, Open, BiasedTo, OnRecord, lock, lock_form}
+use Rattle.core_locks.proofs.Prelude.{has_epoch, holder, hold_count, owner_words, prototype_of, inflations, holds_by_monitor, monitor_of}
+use Rattle.core_locks.proofs.Prelude.{owner_at, waits_at, notified_at, CallContext, hits, word_after, Fits, Valid, world_after, reached_word}
+use Rattle.core_locks.proofs.Prelude.{released_word, each_with_known, with_known_here, by_equal, unlisted_count, hold_some}
 use Rattle.core_world.specs.Trees.BiasSteps.{stage_after}
 use Rattle.core_world.specs.Threads.Stages.{Revocation}
-use Rattle.core_locks.proofs.HoldCounts.{hold_tells}
+use Rattle.core_locks.proofs.enter_exit.HoldCounts.{hold_tells}
 use Rattle.core_locks.proofs.MarkMeanings.{locked_read, locked_lock, neutral_bare, neutral_lock}
 use Rattle.core_locks.proofs.RefutedSteps.{hit, hit_fits, knows, swap_hits}
 use Rattle.core_bias.specs.Revoking.{IsReleasing}
 use Rattle.core_bias.proofs.Releases.{not_true}
 use Rattle.core_world.specs.Trees.SafepointSteps.{release_plan}
 
-module _ (w : World) (r : ℕ) (e : Purpose) (b : Revocation) (took : Bool) (is : IsReleasing w r) (valid : Valid (world_after (release_plan e (stage_after took b.object) r) r w)) where
+module _ (w : World) (r : ℕ) (e : CallContext) (b : Revocation) (took : Bool) (is : IsReleasing w r)
+    (valid : Valid (world_after (release_plan e (stage_after took b.object) r) r w)) where
   abbrev plan : StepPlan
   plan = release_plan e (stage_after took b.object) r
 
@@ -47,7 +55,8 @@ module _ (w : World) (r : ℕ) (e : Purpose) (b : Revocation) (took : Bool) (is 
   -- so neither a thread that is stopped, and stands in the middle of nothing, nor the one that released has hold words besides those of its log
   no_more : (t o : ℕ) → hold_words_ahead (x.known t).stage o ≡ 0
   no_more t o = by_equal t r
-      (λ e. ap (λ u. hold_words_ahead (x.known u).stage o) e ∙ ap (λ (k : Known). hold_words_ahead k.stage o) (with_known_here r (knows plan r w) w.known) ∙ after_release took)
+      (λ e. ap (λ u. hold_words_ahead (x.known u).stage o) e
+      ∙ ap (λ (k : ThreadView). hold_words_ahead k.stage o) (with_known_here r (knows plan r w) w.known) ∙ after_release took)
       (λ d. elim (v.quiet.quiet t (stopped t d)) [ inl a ↦ ap (λ s. hold_words_ahead s o) a | inr a ↦ ap (λ s. hold_words_ahead s o) a.1.1 ])
     where
       after_release : (a : Bool) → hold_words_ahead (stage_after a b.object) o ≡ 0
@@ -77,24 +86,37 @@ module _ (w : World) (r : ℕ) (e : Purpose) (b : Revocation) (took : Bool) (is 
         omega (arith, waits, called, owns)
 
   -- A MARK THAT IS BIASED to a thread, and not validly
-  stale : (t o epoch age : ℕ) → read_mark (w.words (Mark o)) ≡ Some (Biased t epoch age) → has_epoch (epoch_in (prototype_of w o)) epoch ≡ false → 1 ≤ hold_count o (w.known t).holds → ⊥
+  stale : (t o epoch age : ℕ) → read_mark (w.words (Mark o)) ≡ Some (Biased t epoch age)
+      → has_epoch (epoch_in (prototype_of w o)) epoch ≡ false → 1 ≤ hold_count o (w.known t).holds → ⊥
   stale t o epoch age reads old held =
-      let open_now : lock x o ≡ Open = ap (λ f. lock_form f (prototype_of x o) (owner_words x) (inflations x o)) reads ∙ ap (λ (c : Bool). if c then BiasedTo t else Open) old in
+      let open_now : lock x o ≡ Open = ap (λ f. lock_form f (prototype_of x o) (owner_words x) (inflations x o)) reads
+      ∙ ap (λ (c : Bool). if c then BiasedTo t else Open) old in
       let none = v.biases.unheld o t (ap is_biased_form reads) (λ h. absurd (cc (open_now, h))) in
       omega (arith, none, held, ap (hold_count o) (holds t))
 
-pub no_neutral : (w : World) (r t o : ℕ) (e : Purpose) (b : Revocation) (took : Bool) → IsReleasing w r → is_neutral (w.words (Mark o)) ≡ true → 1 ≤ hold_count o (w.known t).holds
+pub no_neutral : (w : World) (r t o : ℕ) (e : CallContext) (b : Revocation) (took : Bool)
+    → IsReleasing w r → is_neutral (w.words (Mark o)) ≡ true → 1 ≤ hold_count o (w.known t).holds
     → Valid (world_after (release_plan e (stage_after took b.object) r) r w) → ⊥
 no_neutral w r t o e b took is neutral held valid =
     let number = (v w r e b took is valid).holds.number t o in
-    omega (arith, number, stands_not w r e b took is valid t o neutral, no_more w r e b took is valid t o, held, ap (hold_count o) (holds w r e b took is valid t))
+    omega (
+      arith,
+      number,
+      stands_not w r e b took is valid t o neutral,
+      no_more w r e b took is valid t o,
+      held,
+      ap (hold_count o) (holds w r e b took is valid t),
+    )
 
-pub no_header : (w : World) (r t o p q d : ℕ) (e : Purpose) (b : Revocation) (took : Bool) → IsReleasing w r → t < 32 → p < 64 → w.words (Mark o) ≡ mark_of (Locked t p)
-    → slice_index (w.known t).holds q ≡ hold_word o d → 2 ≤ d → d ≤ 64 → w.words (Displaced t q) ≢ 0 → Valid (world_after (release_plan e (stage_after took b.object) r) r w) → ⊥
+pub no_header : (w : World) (r t o p q d : ℕ) (e : CallContext) (b : Revocation) (took : Bool)
+    → IsReleasing w r → t < 32 → p < 64 → w.words (Mark o) ≡ mark_of (Locked t p)
+    → slice_index (w.known t).holds q ≡ hold_word o d → 2 ≤ d → d ≤ 64 → w.words (Displaced t q) ≢ 0
+    → Valid (world_after (release_plan e (stage_after took b.object) r) r w) → ⊥
 no_header w r t o p q d e b took is few place mark held deep small some valid =
     let y = x w r e b took is valid in
     let f = v w r e b took is valid in
-    let rests : lock y o ≡ OnRecord t p = locked_lock (w.words (Mark o)) t p (prototype_of y o) (owner_words y) (inflations y o) (ap read_mark mark ∙ locked_read t p few place) in
+    let rests : lock y o ≡ OnRecord t p =
+    locked_lock (w.words (Mark o)) t p (prototype_of y o) (owner_words y) (inflations y o) (ap read_mark mark ∙ locked_read t p few place) in
     let hold : slice_index (y.known t).holds q ≡ hold_word o d = ap (λ hs. slice_index hs q) (holds w r e b took is valid t) ∙ held in
     let other : q ≢ p = λ s.
     let here : slice_index (y.known t).holds p ≡ hold_word o d = ap (slice_index (y.known t).holds) (sym s) ∙ hold in
@@ -104,10 +126,14 @@ no_header w r t o p q d e b took is few place mark held deep small some valid =
     ] in
     some (f.records.others o t p q d rests hold small other)
 
-pub no_old_epoch : (w : World) (r t o epoch age now : ℕ) (e : Purpose) (b : Revocation) (took : Bool) → IsReleasing w r → read_mark (w.words (Mark o)) ≡ Some (Biased t epoch age)
-    → epoch_in (prototype_of w o) ≡ Some now → now ≢ epoch → 1 ≤ hold_count o (w.known t).holds → Valid (world_after (release_plan e (stage_after took b.object) r) r w) → ⊥
-no_old_epoch w r t o epoch age now e b took is reads class old held valid = stale w r e b took is valid t o epoch age reads (ap (λ z. has_epoch z epoch) class ∙ ne_eqb now epoch old) held
+pub no_old_epoch : (w : World) (r t o epoch age now : ℕ) (e : CallContext) (b : Revocation) (took : Bool)
+    → IsReleasing w r → read_mark (w.words (Mark o)) ≡ Some (Biased t epoch age)
+    → epoch_in (prototype_of w o) ≡ Some now → now ≢ epoch → 1 ≤ hold_count o (w.known t).holds
+    → Valid (world_after (release_plan e (stage_after took b.object) r) r w) → ⊥
+no_old_epoch w r t o epoch age now e b took is reads class old held valid =
+    stale w r e b took is valid t o epoch age reads (ap (λ z. has_epoch z epoch) class ∙ ne_eqb now epoch old) held
 
-pub no_revoked : (w : World) (r t o epoch age : ℕ) (e : Purpose) (b : Revocation) (took : Bool) → IsReleasing w r → read_mark (w.words (Mark o)) ≡ Some (Biased t epoch age)
+pub no_revoked : (w : World) (r t o epoch age : ℕ) (e : CallContext) (b : Revocation) (took : Bool)
+    → IsReleasing w r → read_mark (w.words (Mark o)) ≡ Some (Biased t epoch age)
     → epoch_in (prototype_of w o) ≡ None → 1 ≤ hold_count o (w.known t).holds → Valid (world_after (release_plan e (stage_after took b.object) r) r w) → ⊥
 no_revoked w r t o epoch age e b took is reads class held valid = stale w r e b took is valid t o epoch age reads (ap (λ z. has_epoch z epoch) class) held

@@ -1,23 +1,30 @@
 -- The release of a safepoint at which all stores of a revocation were made leads to a world in which every clause holds.
-use Rattle.core_locks.proofs.Prelude.{◌≡◌, ◌≢◌, ◌⊎◌, ℕ, ◌<◌, ◌==◌, ◌++◌, ◌^◌, ◌&&◌, not, eq-eqb, append-nil, Bool, true, false, cond, List, [], ◌∷◌, Some, None, refl, sym, ap, ◌∙◌, subst, inl, inr, pow_below, bit_at-pow_same, read_safe-safe_of, is_thread, PlainObject, Swap, Name, Safepoint, Mark, Waiting, StepPlan, Calm, Takes, word_after, asks_in, runs_in, runs_form, requester_form, is_biased, monitor_in, waits_on, Known, StepMade, last_seen, its_monitor, World, with_word_and_known, with_known, marks, owner_at, waits_at, Purpose, with_stage, swap, reached_word, released_word, world_after, known_hit, known_miss, known_after, kept_by_act, seen_before, is_header, Fits, SafepointFits, SeenFit, IsRevoking, headers_are_part, unwaited_fits, with_knowledge, by_equal, each_with_known, with_known_here, with_known_else, stays_back, Counts, Spares, seen_moves, Still}
-use Rattle.core_world.specs.declared.name.Name.TheVariants as name
+use Rattle.core_locks.proofs.Prelude.{◌≡◌, ◌≢◌, ◌⊎◌, ℕ, ◌<◌, ◌==◌, ◌++◌, ◌^◌, ◌&&◌, not, eq-eqb, append-nil, Bool, true, false, cond, List, [], ◌∷◌}
+use Rattle.core_locks.proofs.Prelude.{Some, None, refl, sym, ap, ◌∙◌, subst, inl, inr, pow_below, bit_at-pow_same, read_safe-safe_of, is_thread}
+use Rattle.core_locks.proofs.Prelude.{PlainObject, CompareExchange, WordId, Safepoint, Mark, Waiting, StepPlan, Settled, BiasAcquired, word_after}
+use Rattle.core_locks.proofs.Prelude.{asks_in, runs_in, runs_form, requester_form, is_biased, monitor_in, waits_on, ThreadView, StepMade, last_seen}
+use Rattle.core_locks.proofs.Prelude.{its_monitor, World, with_word_and_known, with_known, marks, owner_at, waits_at, CallContext, with_stage, swap}
+use Rattle.core_locks.proofs.Prelude.{reached_word, released_word, world_after, known_hit, known_miss, known_after, kept_by_act, seen_before}
+use Rattle.core_locks.proofs.Prelude.{is_header, Fits, SafepointFits, SeenFit, IsRevoking, headers_are_part, unwaited_fits, with_knowledge, by_equal}
+use Rattle.core_locks.proofs.Prelude.{each_with_known, with_known_here, with_known_else, stays_back, Counts, Spares, seen_moves, Still}
+use Rattle.core_world.specs.declared.word_id.WordId.TheVariants as id
 use Rattle.core_world.specs.Threads.Counts.{counts_of}
 use Rattle.core_world.specs.Words.Names.{has_class}
 use Rattle.core_world.specs.Clauses.SeenWords.{AreTheSteps}
 use Rattle.core_world.specs.Trees.BiasSteps.{stage_after}
 use Rattle.core_world.specs.RevocationRules.{words_after, revocation_writes, writes_in}
 use Rattle.core_world.proofs.NoWordChanges.{one_requester}
-use Rattle.core_locks.proofs.SafeFacts.{one_reached, few_bits}
-use Rattle.core_locks.proofs.SafeCounts.{headers_seen}
-use Rattle.core_locks.proofs.SafeEnds.{reached_finds, released_fits}
-use Rattle.core_bias.specs.Revoking.{Alike, HasCounted, revoked_world}
+use Rattle.core_locks.proofs.safepoint.SafeFacts.{one_reached, few_bits}
+use Rattle.core_locks.proofs.safepoint.SafeCounts.{headers_seen}
+use Rattle.core_locks.proofs.safepoint.SafeEnds.{reached_finds, released_fits}
+use Rattle.core_bias.specs.Revoking.{SameButForStores, HasCounted, revoked_world}
 use Rattle.core_bias.proofs.Unseen.{FitsUnseen, unseen, with_seen}
 use Rattle.core_bias.proofs.ComesToTake.{OnlyTakes, takes_fits}
 use Rattle.core_bias.proofs.Knows.{knows_fits, told_told}
 use Rattle.core_bias.proofs.Singles.{reached_within}
 
 -- a thread that saw nothing, or is stopped and asks for nothing, counts on no word
-abbrev pub CountsOnNone : Known → Type 0
+abbrev pub CountsOnNone : ThreadView → Type 0
 CountsOnNone k = ((k.seen ≡ []) × (k.seen_at_safepoint ≡ [])) ⊎ ((k.running ≡ false) × (k.requesting ≡ false) × (k.reached ≡ false))
 
 pub none_seen : (w : World) (P : List PlainObject) → ((u : ℕ) → CountsOnNone (w.known u))
@@ -25,7 +32,8 @@ pub none_seen : (w : World) (P : List PlainObject) → ((u : ℕ) → CountsOnNo
 none_seen w P h classed = record {
   stays = λ u n s e st. elim (h u) [
     | inl a ↦ let none = ap (last_seen n) a.0 in absurd (cc (none, e))
-    | inr a ↦ let no_run = a.0 in let no_ask = a.1 in elim st [ inl b ↦ let r = b.0 in absurd (cc (r, no_run)) | inr b ↦ let r = b.0 in absurd (cc (r, no_ask)) ]
+    | inr a ↦ let no_run = a.0 in let no_ask = a.1 in
+        elim st [ inl b ↦ let r = b.0 in absurd (cc (r, no_run)) | inr b ↦ let r = b.0 in absurd (cc (r, no_ask)) ]
   ];
   unbiased = λ u o s e r g. elim (h u) [
     | inl a ↦ let none = ap (last_seen (Mark o)) a.0 in absurd (cc (none, e))
@@ -63,7 +71,8 @@ not_true true h = absurd (h refl)
 not_true false h = refl
 
 -- at a reached safepoint the others have stopped, and ask for nothing
-pub others_stopped : (w : World) (P : List PlainObject) (r : ℕ) → (w.known r).reached ≡ true → SafepointFits w P → (u : ℕ) → u ≢ r → ((w.known u).running ≡ false) × ((w.known u).requesting ≡ false) × ((w.known u).reached ≡ false)
+pub others_stopped : (w : World) (P : List PlainObject) (r : ℕ) → (w.known r).reached ≡ true → SafepointFits w P
+    → (u : ℕ) → u ≢ r → ((w.known u).running ≡ false) × ((w.known u).requesting ≡ false) × ((w.known u).reached ≡ false)
 others_stopped w P r reached safe u d =
     let at = safe.safepoint r reached in (
       at.1 u,
@@ -71,52 +80,53 @@ others_stopped w P r reached safe u d =
       not_true (w.known u).reached (λ a. one_reached w P r u safe reached d a),
     )
 
-module _ (w : World) (P : List PlainObject) (s : IsRevoking w P) (e : Purpose) where
+module _ (w : World) (P : List PlainObject) (s : IsRevoking w P) (e : CallContext) where
   abbrev r : ℕ
   r = s.requester
 
   reached : (w.known r).reached ≡ true
-  reached = ap (λ (k : Known). k.reached) s.knows ∙ s.reached
+  reached = ap (λ (k : ThreadView). k.reached) s.knows ∙ s.reached
 
   -- the requester, as one that is in the middle of nothing and saw nothing
-  abbrev pub blank : Known
-  blank = record (w.known r) { stage = Calm; seen = []; seen_at_safepoint = [] }
+  abbrev pub blank : ThreadView
+  blank = record (w.known r) { stage = Settled; seen = []; seen_at_safepoint = [] }
 
   abbrev z : World
   z = record { shape = w.shape; start = w.start; biasing = w.biasing; words = w.words; known = with_known r blank w.known }
 
-  was_calm : (s.before.known r).stage ≡ Calm
+  was_calm : (s.before.known r).stage ≡ Settled
   was_calm = s.was_calm
 
   pub was_counted : HasCounted s.before r s.revocation blank
   was_counted = record {
     calm = was_calm;
     same = record {
-      thread = sym (ap (λ (k : Known). k.thread) s.knows);
-      log = sym (ap (λ (k : Known). k.log) s.knows);
-      running = sym (ap (λ (k : Known). k.running) s.knows);
-      requesting = sym (ap (λ (k : Known). k.requesting) s.knows);
-      reached = sym (ap (λ (k : Known). k.reached) s.knows);
-      halted = sym (ap (λ (k : Known). k.halted) s.knows);
-      kept = sym (ap (λ (k : Known). k.kept) s.knows);
-      moving = sym (ap (λ (k : Known). k.moving) s.knows);
-      saved = sym (ap (λ (k : Known). k.saved) s.knows);
-      holds = sym (ap (λ (k : Known). k.holds) s.knows);
-      wait = sym (ap (λ (k : Known). k.wait) s.knows);
-      published = sym (ap (λ (k : Known). k.published) s.knows);
-      draws = sym (ap (λ (k : Known). k.draws) s.knows);
-      shots = sym (ap (λ (k : Known). k.shots) s.knows);
+      thread = sym (ap (λ (k : ThreadView). k.thread) s.knows);
+      log = sym (ap (λ (k : ThreadView). k.log) s.knows);
+      running = sym (ap (λ (k : ThreadView). k.running) s.knows);
+      requesting = sym (ap (λ (k : ThreadView). k.requesting) s.knows);
+      reached = sym (ap (λ (k : ThreadView). k.reached) s.knows);
+      halted = sym (ap (λ (k : ThreadView). k.halted) s.knows);
+      kept = sym (ap (λ (k : ThreadView). k.kept) s.knows);
+      moving = sym (ap (λ (k : ThreadView). k.moving) s.knows);
+      saved = sym (ap (λ (k : ThreadView). k.saved) s.knows);
+      holds = sym (ap (λ (k : ThreadView). k.holds) s.knows);
+      wait = sym (ap (λ (k : ThreadView). k.wait) s.knows);
+      published = sym (ap (λ (k : ThreadView). k.published) s.knows);
+      draws = sym (ap (λ (k : ThreadView). k.draws) s.knows);
+      shots = sym (ap (λ (k : ThreadView). k.shots) s.knows);
       stage = was_calm;
-      unfinished = sym (ap (λ (k : Known). k.unfinished) s.knows);
+      unfinished = sym (ap (λ (k : ThreadView). k.unfinished) s.knows);
     };
-    counts = ap (λ (k : Known). k.counts) s.knows;
+    counts = ap (λ (k : ThreadView). k.counts) s.knows;
   }
 
   -- all stores are made
   module _ (all : s.rest ≡ []) (whole : FitsUnseen (revoked_world s.before r s.revocation blank) P) where
     words_are : words_after (revocation_writes s.before.shape r s.revocation s.before.words) s.before.words ≡ w.words
     words_are =
-        let made : writes_in (w.known r).seen_at_safepoint ≡ revocation_writes s.before.shape r s.revocation s.before.words = sym (append-nil _) ∙ ap (λ y. writes_in (w.known r).seen_at_safepoint ++ y) (sym all) ∙ s.writes in
+        let made : writes_in (w.known r).seen_at_safepoint ≡ revocation_writes s.before.shape r s.revocation s.before.words =
+        sym (append-nil _) ∙ ap (λ y. writes_in (w.known r).seen_at_safepoint ++ y) (sym all) ∙ s.writes in
         sym (s.words ∙ ap (λ y. words_after y s.before.words) made)
 
     world_is : revoked_world s.before r s.revocation blank ≡ z
@@ -124,34 +134,36 @@ module _ (w : World) (P : List PlainObject) (s : IsRevoking w P) (e : Purpose) w
       where
         known_is : with_known r blank s.before.known ≡ with_known r blank w.known
         known_is = λ i. λ u. by_equal u r
-            (λ a. ap (with_known r blank s.before.known) a ∙ with_known_here r blank s.before.known ∙ sym (with_known_here r blank w.known) ∙ ap (with_known r blank w.known) (sym a))
+            (λ a. ap (with_known r blank s.before.known) a ∙ with_known_here r blank s.before.known
+            ∙ sym (with_known_here r blank w.known) ∙ ap (with_known r blank w.known) (sym a))
             (λ d. with_known_else r blank s.before.known u d ∙ sym (s.others u d) ∙ sym (with_known_else r blank w.known u d)) i
 
     pub now : FitsUnseen z P
     now = subst (λ y. FitsUnseen y P) world_is whole
 
     fits : Fits z P
-    fits = with_seen z P (none_seen z P (λ u. each_with_known (λ u y. CountsOnNone y) r blank w.known u (inl (refl, refl)) (λ d. inr (others_stopped w P r reached s.safe u d))) s.seen.classed) now
+    fits = with_seen z P (none_seen z P (λ u. each_with_known (λ u y. CountsOnNone y) r blank w.known u
+        (inl (refl, refl)) (λ d. inr (others_stopped w P r reached s.safe u d))) s.seen.classed) now
 
     abbrev plan : StepPlan
     plan = swap e Safepoint (reached_word r) (released_word r)
 
     -- the word that is left
     abbrev v : ℕ
-    v = word_after (Swap (reached_word r) (released_word r)) (w.words Safepoint)
+    v = word_after (CompareExchange (reached_word r) (released_word r)) (w.words Safepoint)
 
     -- what the requester knows then
-    abbrev l : Known
+    abbrev l : ThreadView
     l = known_hit w.shape w.start plan (w.words Safepoint) (w.known r)
 
-    abbrev y : Known
+    abbrev y : ThreadView
     y = known_hit w.shape w.start plan (w.words Safepoint) blank
 
     found : (w.words Safepoint == reached_word r) ≡ true
     found = eq-eqb (w.words Safepoint) (reached_word r) (reached_finds w P r reached (inr s))
 
     blank_reached : (z.known r).reached ≡ true
-    blank_reached = ap (λ (k : Known). k.reached) (with_known_here r blank w.known) ∙ reached
+    blank_reached = ap (λ (k : ThreadView). k.reached) (with_known_here r blank w.known) ∙ reached
 
     below : r < w.shape.threads
     below = reached_within z P r blank_reached now
@@ -167,11 +179,12 @@ module _ (w : World) (P : List PlainObject) (s : IsRevoking w P) (e : Purpose) w
     running_now =
         let left : v ≡ released_word r = ap (λ b. cond b (released_word r) (w.words Safepoint)) found in
         let reads = read_safe-safe_of (record { running = 2 ^ r; requester = None; halted = false }) (pow_below r 32 (few_bits z P r fits below), tt) in
-        let own : (w.known r).thread ≡ r = ap (λ (k : Known). k.thread) s.knows ∙ s.fits.numbered r in
-        ap (λ n. runs_in n (w.known r).thread) left ∙ ap (λ f. runs_form f (w.known r).thread) reads ∙ ap (runs_form (Some (record { running = 2 ^ r; requester = None; halted = false }))) own
+        let own : (w.known r).thread ≡ r = ap (λ (k : ThreadView). k.thread) s.knows ∙ s.fits.numbered r in
+        ap (λ n. runs_in n (w.known r).thread) left ∙ ap (λ f. runs_form f (w.known r).thread) reads
+        ∙ ap (runs_form (Some (record { running = 2 ^ r; requester = None; halted = false }))) own
         ∙ ap (λ n. n == 1) (bit_at-pow_same r)
 
-    kept : kept_by_act Safepoint (Swap (reached_word r) (released_word r)) v (w.known r) (seen_before w.shape (w.known r)) ≡ headers_seen w r
+    kept : kept_by_act Safepoint (CompareExchange (reached_word r) (released_word r)) v (w.known r) (seen_before w.shape (w.known r)) ≡ headers_seen w r
     kept =
         let call = cond (w.known r).running (seen_before w.shape (w.known r)) [] in
         ap (λ b. cond (b && not (asks_in v (w.known r).thread)) (headers_seen w r) call) reached ∙ ap (λ b. cond (not b) (headers_seen w r) call) unasking
@@ -182,7 +195,7 @@ module _ (w : World) (P : List PlainObject) (s : IsRevoking w P) (e : Purpose) w
 
     blank_moved : world_after plan r z ≡ with_word_and_known Safepoint v r y z
     blank_moved =
-        let step : Known → Known = λ k. known_after w.shape w.start plan (w.words Safepoint) k in
+        let step : ThreadView → ThreadView = λ k. known_after w.shape w.start plan (w.words Safepoint) k in
         ap (λ k. with_word_and_known Safepoint v r (step k) z) (with_known_here r blank w.known)
         ∙ ap (λ b. with_word_and_known Safepoint v r (cond b y (known_miss w.shape w.start plan (w.words Safepoint) blank)) z) found
 
@@ -191,7 +204,8 @@ module _ (w : World) (P : List PlainObject) (s : IsRevoking w P) (e : Purpose) w
 
     told_all : with_knowledge r l (with_word_and_known Safepoint v r y z) ≡ x
     told_all =
-        let same : with_known r l (with_known r y (with_known r blank w.known)) ≡ with_known r l w.known = told_told r l y (with_known r blank w.known) ∙ told_told r l blank w.known in
+        let same : with_known r l (with_known r y (with_known r blank w.known)) ≡ with_known r l w.known =
+        told_told r l y (with_known r blank w.known) ∙ told_told r l blank w.known in
         λ i. record { shape = w.shape; start = w.start; biasing = w.biasing; words = x.words; known = same i }
 
     module _ (still : (w.known r).moving ≡ Still) (goes_on : e.unfinished ≡ (w.known r).unfinished) where
@@ -200,13 +214,13 @@ module _ (w : World) (P : List PlainObject) (s : IsRevoking w P) (e : Purpose) w
           (released_fits z P r e below fits blank_reached
           (record {
             reached = blank_reached;
-            calm = ap (λ (k : Known). k.stage) (with_known_here r blank w.known);
-            still = ap (λ (k : Known). k.moving) (with_known_here r blank w.known) ∙ still;
-            goes_on = goes_on ∙ sym (ap (λ (k : Known). k.unfinished) (with_known_here r blank w.known));
+            calm = ap (λ (k : ThreadView). k.stage) (with_known_here r blank w.known);
+            still = ap (λ (k : ThreadView). k.moving) (with_known_here r blank w.known) ∙ still;
+            goes_on = goes_on ∙ sym (ap (λ (k : ThreadView). k.unfinished) (with_known_here r blank w.known));
           }))
 
-      alike : Alike ((with_word_and_known Safepoint v r y z).known r) l
-      alike = subst (λ k. Alike k l) (sym (with_known_here r y (with_known r blank w.known))) (record {
+      alike : SameButForStores ((with_word_and_known Safepoint v r y z).known r) l
+      alike = subst (λ k. SameButForStores k l) (sym (with_known_here r y (with_known r blank w.known))) (record {
         thread = refl;
         log = refl;
         running = refl;
@@ -227,15 +241,27 @@ module _ (w : World) (P : List PlainObject) (s : IsRevoking w P) (e : Purpose) w
 
       unseen_now : FitsUnseen x P
       unseen_now =
-          let counts : l.counts ≡ ((with_word_and_known Safepoint v r y z).known r).counts = sym (ap (λ (k : Known). k.counts) (with_known_here r y (with_known r blank w.known))) in
+          let counts : l.counts ≡ ((with_word_and_known Safepoint v r y z).known r).counts =
+          sym (ap (λ (k : ThreadView). k.counts) (with_known_here r y (with_known r blank w.known))) in
           subst (λ a. FitsUnseen a P) told_all
-          (knows_fits (with_word_and_known Safepoint v r y z) P r l alike below (λ c. ap (λ z. (counts_of z c).rebias) counts) (λ c. ap (λ z. (counts_of z c).revoke) counts)
+          (knows_fits (with_word_and_known Safepoint v r y z) P r l alike below
+          (λ c. ap (λ z. (counts_of z c).rebias) counts) (λ c. ap (λ z. (counts_of z c).revoke) counts)
           (unseen (with_word_and_known Safepoint v r y z) P released))
 
       spares : Spares Safepoint v r l w (owner_at P) (owner_at P) (waits_at P) (waits_at P)
       spares = record {
         before = λ u n m d seen st. stays_back w x (w.known u) (w.known u) (owner_at P) (owner_at P) u
-            (record { run = λ a. a; ask = λ a. a; not_revoking = λ a. a; inflates = λ i a. a; kept = λ m a. a; prototype = λ o. refl; monitor = λ o m a. a; owned = λ o a. a; held = λ o m a b. b }) n m st;
+            (record {
+              run = λ a. a;
+              ask = λ a. a;
+              not_revoking = λ a. a;
+              inflates = λ i a. a;
+              kept = λ m a. a;
+              prototype = λ o. refl;
+              monitor = λ o m a. a;
+              owned = λ o a. a;
+              held = λ o m a b. b;
+            }) n m st;
         owned = λ u o d h. h;
         word = λ u m d st was. elim st [ inl a ↦ absurd a.1 | inr a ↦ absurd a.2 ];
         bias = λ u o s e r h. h;
@@ -250,13 +276,13 @@ module _ (w : World) (P : List PlainObject) (s : IsRevoking w P) (e : Purpose) w
       }
 
       -- only the header of the unfinished operation's object and prototypes, as they were seen at the safepoint
-      part : (n : Name) (m : ℕ) → last_seen n (headers_seen w r) ≡ Some m → last_seen n (w.known r).seen_at_safepoint ≡ Some m
+      part : (n : WordId) (m : ℕ) → last_seen n (headers_seen w r) ≡ Some m → last_seen n (w.known r).seen_at_safepoint ≡ Some m
       part n m h = (headers_are_part (w.known r).unfinished (w.known r).seen_at_safepoint n m h).1
 
-      no_monitor : (n : Name) (m : ℕ) → its_monitor n ≡ Some m → is_header (w.known r).unfinished n ≡ true → ⊥
+      no_monitor : (n : WordId) (m : ℕ) → its_monitor n ≡ Some m → is_header (w.known r).unfinished n ≡ true → ⊥
       no_monitor (Mark i) m h g = absurd (cc h)
-      no_monitor (name.Prototype i) m h g = absurd (cc h)
-      no_monitor (name.Class i) m h g = absurd (cc h)
+      no_monitor (id.Prototype i) m h g = absurd (cc h)
+      no_monitor (id.Class i) m h g = absurd (cc h)
       no_monitor _ m h g = absurd (cc g)
 
       counts : Counts Safepoint v r l w (owner_at P) (waits_at P) (headers_seen w r)
@@ -280,21 +306,22 @@ module _ (w : World) (P : List PlainObject) (s : IsRevoking w P) (e : Purpose) w
 
       -- where it gave itself a new bias, it stands in the middle of taking the object then
       abbrev taken_plan : ℕ → StepPlan
-      taken_plan o = with_stage (Takes o) plan
+      taken_plan o = with_stage (BiasAcquired o) plan
 
-      abbrev m : ℕ → Known
+      abbrev m : ℕ → ThreadView
       m o = known_hit w.shape w.start (taken_plan o) (w.words Safepoint) (w.known r)
 
       took : (o : ℕ) → Fits (world_after (taken_plan o) r w) P
       took o =
           let now : x.known r ≡ l = with_known_here r l w.known in
           let base : Fits x P = subst (λ a. Fits a P) moved_is revoked_released in
-          let runs : (x.known r).running ≡ true = ap (λ (k : Known). k.running) now ∙ running_now in
+          let runs : (x.known r).running ≡ true = ap (λ (k : ThreadView). k.running) now ∙ running_now in
           let only : OnlyTakes (x.known r) (m o) o = subst (λ k. OnlyTakes k (m o) o) (sym now) (record { is = refl; seen = λ n. refl }) in
-          let hit : m o ≡ known_after w.shape w.start (taken_plan o) (w.words Safepoint) (w.known r) = ap (λ b. cond b (m o) (known_miss w.shape w.start (taken_plan o) (w.words Safepoint) (w.known r))) (sym found) in
+          let hit : m o ≡ known_after w.shape w.start (taken_plan o) (w.words Safepoint) (w.known r) =
+          ap (λ b. cond b (m o) (known_miss w.shape w.start (taken_plan o) (w.words Safepoint) (w.known r))) (sym found) in
           subst (λ k. Fits (with_word_and_known Safepoint v r k w) P) hit
           (subst (λ k. Fits (record { shape = w.shape; start = w.start; biasing = w.biasing; words = x.words; known = k }) P) (told_told r (m o) l w.known)
-          (takes_fits x P r o (m o) below runs (ap (λ (k : Known). k.stage) now) only base))
+          (takes_fits x P r o (m o) below runs (ap (λ (k : ThreadView). k.stage) now) only base))
 
       -- THE RELEASE
       pub release_ends : (o : ℕ) (taking : Bool) → Fits (world_after (with_stage (stage_after taking o) plan) r w) P

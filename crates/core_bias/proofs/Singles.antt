@@ -1,5 +1,7 @@
 -- A single revocation as a whole: the count, the stores, and what the requester knows then.
-use Rattle.core_locks.proofs.Prelude.{◌≡◌, ℕ, ◌<◌, ◌≤◌, ◌==◌, nat_lt, Bool, true, false, cond, if◌then◌else◌, List, [], refl, sym, ap, ◌∙◌, subst, arith, nat_tests, PlainObject, Name, Revocations, LastBulk, class_by, with_word, Known, World, with_knowledge, with_known_here, is_biased, Mark, Calm, inl, inr}
+use Rattle.core_locks.proofs.Prelude.{◌≡◌, ℕ, ◌<◌, ◌≤◌, ◌==◌, nat_lt, Bool, true, false, cond, if◌then◌else◌, List, [], refl, sym, ap}
+use Rattle.core_locks.proofs.Prelude.{◌∙◌, subst, arith, nat_tests, PlainObject, WordId, Revocations, LastBulk, class_by, with_word}
+use Rattle.core_locks.proofs.Prelude.{ThreadView, World, with_knowledge, with_known_here, is_biased, Mark, Settled, inl, inr}
 use Rattle.lock_policy.specs.declared.policy.Verdict.{Verdict}
 use Rattle.lock_policy.specs.declared.policy.Verdict.TheVariants.{Single}
 use Rattle.lock_policy.specs.Policy.{decided, is_reset, after_reset, raised, most_revocations}
@@ -15,7 +17,7 @@ use Rattle.core_bias.proofs.Knows.{knows_fits}
 use Rattle.core_world.proofs.NoWordChanges.{one_requester}
 
 -- at a reached safepoint of a thread that is calm nobody runs, and everybody is calm
-pub all_calm : (w : World) (P : List PlainObject) (r : ℕ) → (w.known r).reached ≡ true → (w.known r).stage ≡ Calm → FitsUnseen w P → AllCalm w
+pub all_calm : (w : World) (P : List PlainObject) (r : ℕ) → (w.known r).reached ≡ true → (w.known r).stage ≡ Settled → FitsUnseen w P → AllCalm w
 all_calm w P r reached calm v u =
     let safe = v clause.safe in
     elim ((v clause.quiet).quiet u ((safe.safepoint r reached).1 u)) [
@@ -39,8 +41,17 @@ few_or true g h = g
 few_or false g h = h
 
 -- the count is stored
-pub count_fits : (w : World) (P : List PlainObject) (c n : ℕ) → w.biasing ≡ true → n ≤ most_revocations → FitsUnseen w P → FitsUnseen (with_words (with_word (Revocations c) n w.words) w) P
-count_fits w P c n on few v clause.forms = record { marks = (v clause.forms).marks; owners = (v clause.forms).owners; waits = (v clause.forms).waits; objects = (v clause.forms).objects; holds = (v clause.forms).holds; safepoint = (v clause.forms).safepoint; classes = (v clause.forms).classes }
+pub count_fits : (w : World) (P : List PlainObject) (c n : ℕ) → w.biasing ≡ true → n ≤ most_revocations
+    → FitsUnseen w P → FitsUnseen (with_words (with_word (Revocations c) n w.words) w) P
+count_fits w P c n on few v clause.forms = record {
+  marks = (v clause.forms).marks;
+  owners = (v clause.forms).owners;
+  waits = (v clause.forms).waits;
+  objects = (v clause.forms).objects;
+  holds = (v clause.forms).holds;
+  safepoint = (v clause.forms).safepoint;
+  classes = (v clause.forms).classes;
+}
 count_fits w P c n on few v clause.classes = record {
   plain = λ off i. absurd (cc (on, off));
   unbiased = (v clause.classes).unbiased;
@@ -50,10 +61,13 @@ count_fits w P c n on few v clause.classes = record {
 count_fits w P c n on few v i = v i
 
 -- a verdict of Single counts no bulk operation
-counted_single : (f : List CountedVerdict) (c : ℕ) (reset : Bool) (i : ℕ) → ((counts_of (with_verdict_counted f c Single reset) i).rebias ≡ (counts_of f i).rebias) × ((counts_of (with_verdict_counted f c Single reset) i).revoke ≡ (counts_of f i).revoke)
+counted_single : (f : List CountedVerdict) (c : ℕ) (reset : Bool) (i : ℕ)
+    → ((counts_of (with_verdict_counted f c Single reset) i).rebias ≡ (counts_of f i).rebias)
+    × ((counts_of (with_verdict_counted f c Single reset) i).revoke ≡ (counts_of f i).revoke)
 counted_single f c reset i = by_class (i == c)
   where
-    by_class : (b : Bool) → let k = cond b (with_reset (with_verdict (counts_of f i) Single) reset) (counts_of f i) in (k.rebias ≡ (counts_of f i).rebias) × (k.revoke ≡ (counts_of f i).revoke)
+    by_class : (b : Bool) → let k = cond b (with_reset (with_verdict (counts_of f i) Single) reset) (counts_of f i) in
+        (k.rebias ≡ (counts_of f i).rebias) × (k.revoke ≡ (counts_of f i).revoke)
     by_class true = (refl, refl)
     by_class false = (refl, refl)
 
@@ -65,10 +79,11 @@ reached_within w P r reached v = cases (nat_lt r w.shape.threads) refl
     cases true e = grind (arith, nat_tests, e)
     cases false e =
         let far : w.shape.threads ≤ r = grind (arith, nat_tests, e) in
-        let none = ap (λ (y : Known). y.reached) ((v clause.absent) r far) in
+        let none = ap (λ (y : ThreadView). y.reached) ((v clause.absent) r far) in
         absurd (cc (reached, none))
 
-module _ (w : World) (P : List PlainObject) (r : ℕ) (b : Revocation) (l : Known) (reached : (w.known r).reached ≡ true) (on : w.biasing ≡ true) (k : HasCounted w r b l) (v : FitsUnseen w P) where
+module _ (w : World) (P : List PlainObject) (r : ℕ) (b : Revocation) (l : ThreadView)
+    (reached : (w.known r).reached ≡ true) (on : w.biasing ≡ true) (k : HasCounted w r b l) (v : FitsUnseen w P) where
   abbrev c : ℕ
   c = class_by w.shape w.words b.object
 
@@ -76,7 +91,7 @@ module _ (w : World) (P : List PlainObject) (r : ℕ) (b : Revocation) (l : Know
   d = decided (w.words (Revocations c)) (w.words (LastBulk c)) b.now
 
   -- the words after the count
-  abbrev f : Name → ℕ
+  abbrev f : WordId → ℕ
   f = with_word (Revocations c) d.1 w.words
 
   abbrev x : World
@@ -93,15 +108,17 @@ module _ (w : World) (P : List PlainObject) (r : ℕ) (b : Revocation) (l : Know
       (λ i. ap (λ z. (counts_of z i).revoke) (counts single) ∙ (counted_single (w.known r).counts c _ i).1) v)
 
   calm : (single : d.0 ≡ Single) → AllCalm x
-  calm single = all_calm x P r (ap (λ (y : Known). y.reached) (with_known_here r l w.known) ∙ sym k.same.reached ∙ reached) (ap (λ (y : Known). y.stage) (with_known_here r l w.known) ∙ sym k.same.stage ∙ k.calm) (counted_fits single)
+  calm single = all_calm x P r (ap (λ (y : ThreadView). y.reached) (with_known_here r l w.known) ∙ sym k.same.reached ∙ reached)
+      (ap (λ (y : ThreadView). y.stage) (with_known_here r l w.known) ∙ sym k.same.stage ∙ k.calm) (counted_fits single)
 
   words : d.0 ≡ Single → words_after (revocation_writes w.shape r b w.words) w.words ≡ words_after (revoke b.object false f) f
   unfolding revocation_writes
-  words single = ap (λ z. words_after (in_turn (verdict_rules w.shape (class_by w.shape w.words) r c b z) f) f) single ∙ stored_append (revoke b.object false f) [] f
+  words single = ap (λ z. words_after (in_turn (verdict_rules w.shape (class_by w.shape w.words) r c b z) f) f) single
+      ∙ stored_append (revoke b.object false f) [] f
 
   pub single_fits : d.0 ≡ Single → FitsUnseen (revoked_world w r b l) P
   single_fits single = subst (λ g. FitsUnseen (with_words g x) P) (sym (words single)) (revoke_fits x P b.object (calm single) (counted_fits single))
 
   -- its object has the bias pattern no more
   pub single_plain : d.0 ≡ Single → is_biased (words_after (revocation_writes w.shape r b w.words) w.words (Mark b.object)) ≡ false
-  single_plain single = ap (λ (g : Name → ℕ). is_biased (g (Mark b.object))) (words single) ∙ revoke_unbiased x P b.object (calm single) (counted_fits single)
+  single_plain single = ap (λ (g : WordId → ℕ). is_biased (g (Mark b.object))) (words single) ∙ revoke_unbiased x P b.object (calm single) (counted_fits single)

@@ -1,41 +1,48 @@
 -- A thread at its reached safepoint that stands in the middle of nothing comes to stand in that of taking an object under a bias: no clause says
 -- more of it there. So a load that ends a revocation may leave its thread there, and a deflation may follow before the release.
-use Rattle.core_locks.proofs.Prelude.{◌≡◌, ◌⊎◌, ◌||◌, ℕ, ◌+◌, ◌<◌, true, false, List, Some, None, refl, sym, ap, ◌∙◌, subst, inl, inr, PlainObject, Name, Mark, Recursions, Calm, Takes, Waits, Resumes, TakesOver, Seizes, Grabs, is_biased, inflation_in, revocation_in, recursions_ahead, recursions_behind, Known, last_seen, World, with_known, OwnedBy, lock, displaced_words, recursion_count, owner_at, waits_at, notified_at, Stays, RecursionsFit, Fits, SeenFit, with_knowledge, each_with_known, with_known_here, header_stays, IsQuiet, IsValid, Purpose, StepPlan, load, load_plan, world_after, known_hit}
+use Rattle.core_locks.proofs.Prelude.{◌≡◌, ◌⊎◌, ◌||◌, ℕ, ◌+◌, ◌<◌, true, false, List, Some, None, refl, sym, ap, ◌∙◌, subst, inl, inr, PlainObject}
+use Rattle.core_locks.proofs.Prelude.{WordId, Mark, Recursions, Settled, BiasAcquired, Waits, Resumes, OwnerConverted, RecordLocked, MonitorAcquired}
+use Rattle.core_locks.proofs.Prelude.{is_biased, inflation_in, revocation_in, recursions_ahead, recursions_lowered, ThreadView, last_seen}
+use Rattle.core_locks.proofs.Prelude.{World, with_known, OwnedBy, lock, displaced_words, recursion_count, owner_at, waits_at, notified_at}
+use Rattle.core_locks.proofs.Prelude.{Stays, RecursionsFit, Fits, SeenFit, with_knowledge, each_with_known, with_known_here, header_stays}
+use Rattle.core_locks.proofs.Prelude.{IsQuiet, IsValid, CallContext, StepPlan, load, load_plan, world_after, known_hit}
 use Rattle.core_world.specs.Words.Names.{has_class}
 use Rattle.core_world.specs.Clauses.SeenWords.{AreTheSteps}
 use Rattle.core_locks.proofs.Clauses.{kept_parts, parts_stand, AllHold}
 use Rattle.core_locks.proofs.Clauses as clause
 use Rattle.core_locks.proofs.EvenSteps.{IsEven, even_by, even_back, bears_stay}
-use Rattle.core_locks.proofs.Standing.{standing_step}
+use Rattle.core_locks.proofs.safepoint.Standing.{standing_step}
 use Rattle.core_world.specs.Threads.Stages.{Revocation}
 use Rattle.core_bias.specs.Revoking.{MayLookAfterRevoking}
 use Rattle.core_bias.proofs.Knows.{told_told}
 use Rattle.core_bias.proofs.LoadEnds.{load_fits, reached_load}
-use Rattle.core_locks.proofs.Steps.{GoesOnTo, IsStep, next, seen_next, step_fits, turning, inflates_stay, stage_forth, holds_stand, owners_move, waits_move, waits_go_on}
+use Rattle.core_locks.proofs.Steps.{GoesOnTo, IsStep, next, seen_next, step_fits, turning, inflates_stay}
+use Rattle.core_locks.proofs.Steps.{stage_forth, holds_stand, owners_move, waits_move, waits_go_on}
 
 -- it knows what it knew, but for its stage, and for its steps, by which it last saw the same words
-pub record TakesStill (f : Name → ℕ) (k l : Known) (o : ℕ) : Type 0 where
-  pub is : l ≡ record k { stage = Takes o; seen = l.seen; seen_at_safepoint = l.seen_at_safepoint; steps = l.steps }
-  pub seen : (n : Name) → last_seen n l.seen ≡ last_seen n k.seen
-  pub there : (n : Name) → last_seen n l.seen_at_safepoint ≡ last_seen n k.seen_at_safepoint
+pub record TakesStill (f : WordId → ℕ) (k l : ThreadView) (o : ℕ) : Type 0 where
+  pub is : l ≡ record k { stage = BiasAcquired o; seen = l.seen; seen_at_safepoint = l.seen_at_safepoint; steps = l.steps }
+  pub seen : (n : WordId) → last_seen n l.seen ≡ last_seen n k.seen
+  pub there : (n : WordId) → last_seen n l.seen_at_safepoint ≡ last_seen n k.seen_at_safepoint
   pub alone : AreTheSteps f k.seen_at_safepoint → AreTheSteps f l.seen_at_safepoint
 
-module _ (w : World) (P : List PlainObject) (t o : ℕ) (l : Known) (within : t < w.shape.threads) (reached : (w.known t).reached ≡ true) (calm : (w.known t).stage ≡ Calm) (only : TakesStill w.words (w.known t) l o)
+module _ (w : World) (P : List PlainObject) (t o : ℕ) (l : ThreadView) (within : t < w.shape.threads)
+    (reached : (w.known t).reached ≡ true) (calm : (w.known t).stage ≡ Settled) (only : TakesStill w.words (w.known t) l o)
     (v : Fits w P) where
-  stage : l.stage ≡ Takes o
-  stage = ap (λ (k : Known). k.stage) only.is
+  stage : l.stage ≡ BiasAcquired o
+  stage = ap (λ (k : ThreadView). k.stage) only.is
 
   goes_on : GoesOnTo (w.known t) l
-  goes_on = inl (ap (λ (k : Known). k.unfinished) only.is)
+  goes_on = inl (ap (λ (k : ThreadView). k.unfinished) only.is)
 
   abbrev x : World
   x = with_knowledge t l w
 
   before : IsEven (w.known t).stage
-  before = subst IsEven (sym calm) (even_by Calm refl)
+  before = subst IsEven (sym calm) (even_by Settled refl)
 
   now : IsEven l.stage
-  now = subst IsEven (sym stage) (even_by (Takes o) refl)
+  now = subst IsEven (sym stage) (even_by (BiasAcquired o) refl)
 
   step : IsStep w t l turning
   step = record {
@@ -44,12 +51,12 @@ module _ (w : World) (P : List PlainObject) (t o : ℕ) (l : Known) (within : t 
         only.is
         ∙ (λ i. record (w.known t) {
           stage = sym stage i;
-          unfinished = sym (ap (λ (k : Known). k.unfinished) only.is) i;
-          checking = sym (ap (λ (k : Known). k.checking) only.is) i;
+          unfinished = sym (ap (λ (k : ThreadView). k.unfinished) only.is) i;
+          checking = sym (ap (λ (k : ThreadView). k.checking) only.is) i;
           seen = l.seen;
           seen_at_safepoint = l.seen_at_safepoint;
           steps = l.steps;
-          call = sym (ap (λ (k : Known). k.call) only.is) i;
+          call = sym (ap (λ (k : ThreadView). k.call) only.is) i;
         });
     others = λ k. refl;
   }
@@ -58,7 +65,8 @@ module _ (w : World) (P : List PlainObject) (t o : ℕ) (l : Known) (within : t 
   stopped = (v.safe.safepoint t reached).1
 
   nobody : (u : ℕ) → (with_known t l w.known u).running ≡ true → ⊥
-  nobody u = each_with_known (λ u y. y.running ≡ true → ⊥) t l w.known u (λ r. let no = stopped t in let same = ap (λ (k : Known). k.running) only.is in absurd (cc (r, no, same))) (λ d r. let no = stopped u in absurd (cc (r, no)))
+  nobody u = each_with_known (λ u y. y.running ≡ true → ⊥) t l w.known u (λ r. let no = stopped t in
+      let same = ap (λ (k : ThreadView). k.running) only.is in absurd (cc (r, no, same))) (λ d r. let no = stopped u in absurd (cc (r, no)))
 
   unrevoking : revocation_in (w.known t).stage ≡ None
   unrevoking = ap revocation_in calm
@@ -67,11 +75,12 @@ module _ (w : World) (P : List PlainObject) (t o : ℕ) (l : Known) (within : t 
   seen_law = record {
     stays = λ u n s. each_with_known (λ u y. last_seen n y.seen ≡ Some s → Stays x y (owner_at P) u n s → w.words n ≡ s) t l w.known u
         (λ h st. elim st [
-          | inl a ↦ (let no = stopped t in let yes = a.0 in let same = ap (λ (k : Known). k.running) only.is in absurd (cc (yes, no, same)))
-          | inr a ↦ v.seen.stays t n s (sym (only.seen n) ∙ h) (inr (sym (ap (λ (k : Known). k.requesting) only.is) ∙ a.0, unrevoking, a.2))
+          | inl a ↦ (let no = stopped t in let yes = a.0 in let same = ap (λ (k : ThreadView). k.running) only.is in absurd (cc (yes, no, same)))
+          | inr a ↦ v.seen.stays t n s (sym (only.seen n) ∙ h) (inr (sym (ap (λ (k : ThreadView). k.requesting) only.is) ∙ a.0, unrevoking, a.2))
         ])
         (λ d h st. elim st [ inl a ↦ (let no = stopped u in let yes = a.0 in absurd (cc (yes, no))) | inr a ↦ v.seen.stays u n s h (inr (a.0, a.1, a.2)) ]);
-    unbiased = λ u i s. each_with_known (λ u y. last_seen (Mark i) y.seen ≡ Some s → (y.running ≡ true) ⊎ (y.requesting ≡ true) → is_biased s ≡ false → is_biased (w.words (Mark i)) ≡ false) t l w.known u
+    unbiased = λ u i s. each_with_known (λ u y. last_seen (Mark i) y.seen ≡ Some s
+        → (y.running ≡ true) ⊎ (y.requesting ≡ true) → is_biased s ≡ false → is_biased (w.words (Mark i)) ≡ false) t l w.known u
         (λ h r. v.seen.unbiased t i s (sym (only.seen (Mark i)) ∙ h) (inr (v.safe.safepoint t reached).0)) (λ d. v.seen.unbiased u i s);
     classed = v.seen.classed;
     saw_classed = λ u i s. each_with_known (λ u y. last_seen (Mark i) y.seen ≡ Some s → (y.running ≡ true) ⊎ (y.requesting ≡ true) → is_biased s ≡ true
@@ -79,26 +88,33 @@ module _ (w : World) (P : List PlainObject) (t o : ℕ) (l : Known) (within : t 
         (λ h r. v.seen.saw_classed t i s (sym (only.seen (Mark i)) ∙ h) (inr (v.safe.safepoint t reached).0)) (λ d. v.seen.saw_classed u i s);
     unwaiting = λ u y i s e r. absurd (nobody u r);
     unwaited = λ u i s e r. absurd (nobody u r);
-    stands = λ u n s. each_with_known (λ u y. y.reached ≡ true → last_seen n y.seen_at_safepoint ≡ Some s → w.words n ≡ s) t l w.known u (λ r h. v.seen.stands t n s reached (sym (only.there n) ∙ h)) (λ d. v.seen.stands u n s);
-    alone = λ u. each_with_known (λ u y. y.reached ≡ true → revocation_in y.stage ≡ None → AreTheSteps w.words y.seen_at_safepoint) t l w.known u (λ a h. only.alone (v.seen.alone t reached unrevoking)) (λ d. v.seen.alone u);
+    stands = λ u n s. each_with_known (λ u y. y.reached ≡ true → last_seen n y.seen_at_safepoint ≡ Some s → w.words n ≡ s) t l w.known u
+        (λ r h. v.seen.stands t n s reached (sym (only.there n) ∙ h)) (λ d. v.seen.stands u n s);
+    alone = λ u. each_with_known (λ u y. y.reached ≡ true → revocation_in y.stage ≡ None → AreTheSteps w.words y.seen_at_safepoint) t l w.known u
+        (λ a h. only.alone (v.seen.alone t reached unrevoking)) (λ d. v.seen.alone u);
     monitors = λ u m s r. absurd (nobody u r);
   }
 
-  recursions_law : RecursionsFit (λ i. w.words (Mark i)) (λ a. w.words (Recursions a)) (lock w) (λ u. (w.known u).holds) (λ u. (with_known t l w.known u).stage) (λ u. (w.known u).saved) (displaced_words w) (waits_at P) (notified_at P)
+  recursions_law : RecursionsFit (λ i. w.words (Mark i)) (λ a. w.words (Recursions a)) (lock w) (λ u. (w.known u).holds)
+      (λ u. (with_known t l w.known u).stage) (λ u. (w.known u).saved) (displaced_words w) (waits_at P) (notified_at P)
   recursions_law = record {
     first = v.recursions.first;
     others = v.recursions.others;
     owned = λ i a u n. each_with_known (λ u y. lock w i ≡ OwnedBy u → (y.stage ≡ Waits i → ⊥) → (y.stage ≡ Resumes i → ⊥)
-        → w.words (Recursions a) + recursions_behind y.stage i ≡ recursion_count i (displaced_words w u) (w.known u).holds + recursions_ahead y.stage i) t l w.known u
+        → w.words (Recursions a) + recursions_lowered y.stage i
+        ≡ recursion_count i (displaced_words w u) (w.known u).holds + recursions_ahead y.stage i) t l w.known u
         (λ g b c.
         let was = v.recursions.owned i a t n g (λ s. absurd (cc (s, calm))) (λ s. absurd (cc (s, calm))) in
-        subst (λ s. w.words (Recursions a) + recursions_behind s i ≡ recursion_count i (displaced_words w t) (w.known t).holds + recursions_ahead s i) (sym stage)
-        (subst (λ s. w.words (Recursions a) + recursions_behind s i ≡ recursion_count i (displaced_words w t) (w.known t).holds + recursions_ahead s i) calm was))
+        subst (λ s. w.words (Recursions a) + recursions_lowered s i
+        ≡ recursion_count i (displaced_words w t) (w.known t).holds + recursions_ahead s i) (sym stage)
+        (subst (λ s. w.words (Recursions a) + recursions_lowered s i
+        ≡ recursion_count i (displaced_words w t) (w.known t).holds + recursions_ahead s i) calm was))
         (λ d. v.recursions.owned i a u n);
     waiting = v.recursions.waiting;
     on_record = v.recursions.on_record;
     free = v.recursions.free;
-    thread_owns = λ i u. each_with_known (λ u y. y.stage ≡ TakesOver i → recursion_count i (displaced_words w u) (w.known u).holds ≡ 0) t l w.known u (λ h. absurd (cc (h, stage))) (λ d. v.recursions.thread_owns i u);
+    thread_owns = λ i u. each_with_known (λ u y. y.stage ≡ OwnerConverted i → recursion_count i (displaced_words w u) (w.known u).holds ≡ 0)
+        t l w.known u (λ h. absurd (cc (h, stage))) (λ d. v.recursions.thread_owns i u);
   }
 
   abbrev z : World
@@ -108,32 +124,35 @@ module _ (w : World) (P : List PlainObject) (t o : ℕ) (l : Known) (within : t 
   all_after clause.seen = seen_next step w.words P seen_law
   all_after clause.recursions = recursions_law
   all_after clause.quiet = record {
-    quiet = λ u. each_with_known (λ u y. (w.known u).running ≡ false → IsQuiet (w.known u).reached y.stage) t l w.known u (λ r. inr (reached, (o, stage))) (λ d. v.quiet.quiet u);
+    quiet = λ u. each_with_known (λ u y. (w.known u).running ≡ false → IsQuiet (w.known u).reached y.stage) t l w.known u
+        (λ r. inr (reached, (o, stage))) (λ d. v.quiet.quiet u);
     none_revokes = λ u. each_with_known (λ u y. revocation_in y.stage ≡ None) t l w.known u (ap revocation_in stage) (λ d. v.quiet.none_revokes u);
   }
   all_after clause.holds = holds_stand step P (λ i. now.alone i ∙ sym (before.alone i)) v
   all_after clause.owners = owners_move step now.plain.waits now.exits (λ i c. absurd (cc (c, now.plain.calls)))
       (λ i u. v.owners.same i u ∙ ap (λ b. owner_at P i u || b) (sym (bears_stay step before now u i))) v
   all_after clause.records = record {
-    first = λ i u p r. elim (v.records.first i u p r) [ inl a ↦ inl a | inr a ↦ inr (stage_forth step (Seizes i p) u (before.seizes i p) a) ];
+    first = λ i u p r. elim (v.records.first i u p r) [ inl a ↦ inl a | inr a ↦ inr (stage_forth step (RecordLocked i p) u (before.seizes i p) a) ];
     header = v.records.header;
     others = v.records.others;
-    seized = λ i u p e. v.records.seized i u p (even_back step before now (Seizes i p) u (now.seizes i p) e);
-    grabbed = λ i u e. v.records.grabbed i u (even_back step before now (Grabs i) u (now.grabs i) e);
+    seized = λ i u p e. v.records.seized i u p (even_back step before now (RecordLocked i p) u (now.seizes i p) e);
+    grabbed = λ i u e. v.records.grabbed i u (even_back step before now (MonitorAcquired i) u (now.grabs i) e);
   }
   all_after clause.waits = waits_move step before.plain now.plain (waits_go_on step P goes_on v)
   all_after c = standing_step step P goes_on reached v c
 
   pub takes_there : Fits x P
-  takes_there = step_fits step w.words P (kept_parts w z P) (parts_stand w z P refl (λ u. refl) (inflates_stay step (ap inflation_in stage ∙ sym (ap inflation_in calm))) refl refl refl (λ e. header_stays z w refl refl refl e)) all_after
+  takes_there = step_fits step w.words P (kept_parts w z P) (parts_stand w z P refl (λ u. refl)
+      (inflates_stay step (ap inflation_in stage ∙ sym (ap inflation_in calm))) refl refl refl (λ e. header_stays z w refl refl refl e)) all_after
 
 -- THE LAW, of a load after all stores of a revocation in which the thread gave itself a bias
-module _ (w : World) (P : List PlainObject) (t : ℕ) (e : Purpose) (b : Revocation) (at : Name) (o : ℕ) (within : t < w.shape.threads) (may : MayLookAfterRevoking w.shape (w.known t) e t b) (valid : IsValid w P) where
+module _ (w : World) (P : List PlainObject) (t : ℕ) (e : CallContext) (b : Revocation) (at : WordId) (o : ℕ)
+    (within : t < w.shape.threads) (may : MayLookAfterRevoking w.shape (w.known t) e t b) (valid : IsValid w P) where
   abbrev calm_plan : StepPlan
   calm_plan = load e at
 
   abbrev taking_plan : StepPlan
-  taking_plan = load_plan e (Takes o) at
+  taking_plan = load_plan e (BiasAcquired o) at
 
   abbrev y : World
   y = world_after calm_plan t w
@@ -145,12 +164,12 @@ module _ (w : World) (P : List PlainObject) (t : ℕ) (e : Purpose) (b : Revocat
   here = with_known_here t (known_hit w.shape w.start calm_plan (w.words at) (w.known t)) w.known
 
   reached_there : (y.known t).reached ≡ true
-  reached_there = ap (λ (k : Known). k.reached) here ∙ reached_load at (w.words at) (w.known t) may.ends.reached
+  reached_there = ap (λ (k : ThreadView). k.reached) here ∙ reached_load at (w.words at) (w.known t) may.ends.reached
 
-  abbrev m : Known
+  abbrev m : ThreadView
   m = known_hit w.shape w.start taking_plan (w.words at) (w.known t)
 
-  abbrev k : Known
+  abbrev k : ThreadView
   k = known_hit w.shape w.start calm_plan (w.words at) (w.known t)
 
   only : TakesStill y.words k m o
@@ -162,7 +181,8 @@ module _ (w : World) (P : List PlainObject) (t : ℕ) (e : Purpose) (b : Revocat
   }
 
   taken : Fits (with_knowledge t m y) P
-  taken = takes_there y P t o m within reached_there (ap (λ (k : Known). k.stage) here) (subst (λ z. TakesStill y.words z m o) (sym here) only) base
+  taken = takes_there y P t o m within reached_there (ap (λ (k : ThreadView). k.stage) here) (subst (λ z. TakesStill y.words z m o) (sym here) only) base
 
   pub load_takes : Fits (world_after taking_plan t w) P
-  load_takes = subst (λ f. Fits (record { shape = w.shape; start = w.start; biasing = w.biasing; words = y.words; known = f }) P) (told_told t m k w.known) taken
+  load_takes = subst (λ f. Fits (record { shape = w.shape; start = w.start; biasing = w.biasing; words = y.words; known = f }) P)
+      (told_told t m k w.known) taken

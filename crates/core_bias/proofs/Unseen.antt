@@ -1,8 +1,9 @@
 -- The clauses of a valid world but that of what was seen: a revocation as a whole keeps these, whatever its thread saw meanwhile. Some of the
 -- stores in its middle break them.
-use Rattle.core_locks.proofs.Prelude.{◌≡◌, ℕ, ◌-◌, nat_lt, cond, ap, class_by, Shape, List, PlainObject, Name, Prototype, Revocations, LastBulk, Mark, Displaced, with_word, World, Fits, SeenFit}
-use Rattle.core_world.specs.declared.name.Name.TheVariants.{Class}
-use Rattle.core_world.specs.Words.Shape.{class_of}
+use Rattle.core_locks.proofs.Prelude.{◌≡◌, ℕ, ◌-◌, nat_lt, cond, ap, class_by, Shape, List, PlainObject, WordId, Prototype}
+use Rattle.core_locks.proofs.Prelude.{Revocations, LastBulk, Mark, Displaced, with_word, World, Fits, SeenFit}
+use Rattle.core_world.specs.declared.word_id.WordId.TheVariants.{Class}
+use Rattle.core_world.specs.Words.Shape.{class_in_shape}
 use Rattle.core_locks.proofs.Clauses.{Parts, parts_of, Clause, Holds, clauses, fits}
 use Rattle.core_locks.proofs.Clauses as clause
 
@@ -43,12 +44,12 @@ classed w P v classes clause.classes = classes
 classed w P v classes c = v c
 
 -- the world with these words
-abbrev pub with_words : (Name → ℕ) → World → World
+abbrev pub with_words : (WordId → ℕ) → World → World
 with_words f w = record { shape = w.shape; start = w.start; biasing = w.biasing; words = f; known = w.known }
 
 -- an object has the same class by words among which its class word is the same
-pub class_stays : (s : Shape) (f g : Name → ℕ) (o : ℕ) → g (Class o) ≡ f (Class o) → class_by s g o ≡ class_by s f o
-class_stays s f g o h = ap (λ n. cond (nat_lt o s.declared) (class_of s o) (n - 1)) h
+pub class_stays : (s : Shape) (f g : WordId → ℕ) (o : ℕ) → g (Class o) ≡ f (Class o) → class_by s g o ≡ class_by s f o
+class_stays s f g o h = ap (λ n. cond (nat_lt o s.declared) (class_in_shape s o) (n - 1)) h
 
 -- the world in which the mark of o is m, and in which a displaced word is d
 abbrev pub set_mark : ℕ → ℕ → World → World
@@ -58,7 +59,7 @@ abbrev pub set_displaced : ℕ → ℕ → ℕ → World → World
 set_displaced t q d w = with_words (with_word (Displaced t q) d w.words) w
 
 -- the words with these marks and these words of classes
-abbrev pub rewords : (ℕ → ℕ) → (ℕ → ℕ) → (ℕ → ℕ) → (ℕ → ℕ) → (Name → ℕ) → Name → ℕ
+abbrev pub rewords : (ℕ → ℕ) → (ℕ → ℕ) → (ℕ → ℕ) → (ℕ → ℕ) → (WordId → ℕ) → WordId → ℕ
 rewords mark prototype count last f (Mark o) = mark o
 rewords mark prototype count last f (Prototype c) = prototype c
 rewords mark prototype count last f (Revocations c) = count c

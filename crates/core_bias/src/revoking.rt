@@ -4,25 +4,25 @@
 ghost use Rattle.std.specs.Prelude.{◌≡◌, ℕ, ◌<◌, ◌++◌, Bool, true, List, [], Some};
 ghost use Rattle.lock_policy.specs.declared.policy.Verdict.{Verdict};
 ghost use Rattle.plain_monitor.specs.Objects.{PlainObject};
-ghost use Rattle.core_world.specs.declared.name.Name.{Name};
-ghost use Rattle.core_world.specs.declared.plan.Own.TheVariants as own;
+ghost use Rattle.core_world.specs.declared.word_id.WordId.{WordId};
+ghost use Rattle.core_world.specs.declared.plan.LocalEffect.TheVariants as own;
 ghost use Rattle.core_world.specs.declared.act.Act.TheVariants.{Store};
 ghost use Rattle.core_world.specs.declared.plan.StepPlan.{StepPlan};
 ghost use Rattle.core_world.specs.Words.Forms.{is_biased};
-ghost use Rattle.core_world.specs.Threads.Known.{Known, StepMade};
+ghost use Rattle.core_world.specs.Threads.ThreadView.{ThreadView, StepMade};
 ghost use Rattle.core_world.specs.Locks.{marks};
-ghost use Rattle.core_world.specs.Trees.Plans.{Purpose, load, load_plan};
+ghost use Rattle.core_world.specs.Trees.Plans.{CallContext, load, load_plan};
 ghost use Rattle.core_world.specs.RevocationRules.{writes_in};
 ghost use Rattle.core_world.specs.Trees.RevocationSteps.{RevocationOutcome, revoke_at_safepoint_steps, revoke_plan};
 ghost use Rattle.core_world.specs.Words.Shape.{Shape};
 ghost use Rattle.core_world.specs.Words.Names.{class_by};
 ghost use Rattle.core_world.specs.Threads.Stages.{Revocation, revocation_in};
 ghost use Rattle.core_world.specs.Steps.{world_after};
-ghost use Rattle.core_world.specs.Trees.Todo.{Todo, done, step};
+ghost use Rattle.core_world.specs.Trees.StepTree.{StepTree, done, step};
 ghost use Rattle.core_world.specs.Valid.{Fits, IsRevoking, RevokesSince, IsValid};
 ghost use Rattle.core_world.specs.World.{World};
 ghost use Rattle.core_locks.specs.Knowing.{KeepsValid};
-ghost use Rattle.core_world.specs.declared.stage.Stage.TheVariants.{Takes};
+ghost use Rattle.core_world.specs.declared.stage.Stage.TheVariants.{BiasAcquired};
 ghost use Rattle.core_bias.specs.Revoking.{AreAllStores, HasCounted, IsNextStore, Leads, TellsBias, MayBeginRevoking, MayEndRevoking, MayGoOnRevoking, MayLookAfterRevoking, revoked_world};
 ghost use Rattle.core_world.specs.Trees.SafepointSteps.{release_plan};
 ghost use Rattle.core_world.specs.Trees.BiasSteps.{stage_after};
@@ -31,7 +31,7 @@ ghost use Rattle.core_world.specs.Trees.BiasSteps.{stage_after};
 /// thread, of an object whose mark has the bias pattern, it turns a world in which every clause holds into one in which every
 /// clause holds, with the same plain objects, where its thread counts on nothing that it saw before.
 pub fn a_revocation_as_a_whole_keeps_the_world_valid()
-    ensures { (w : World) (objects : List PlainObject) (r : ℕ) (b : Revocation) (l : Known) → (w.known r).reached ≡ true
+    ensures { (w : World) (objects : List PlainObject) (r : ℕ) (b : Revocation) (l : ThreadView) → (w.known r).reached ≡ true
         → is_biased (marks w b.object) ≡ true → HasCounted w r b l → l.seen ≡ [] → l.seen_at_safepoint ≡ []
         → Fits w objects → Fits (revoked_world w r b l) objects }
 {}
@@ -43,13 +43,13 @@ pub fn the_first_store_keeps_the_world_valid()
     // prototype and the words of the class, and that it stored nothing there are of its steps; the verdict, and that this is the rules' first
     // store, follow from what it saw (`the_steps_make_the_stores_of_the_rules`). That the object was validly biased before the first store
     // follows from the clause that a word at a reached safepoint is as it was seen there
-    ensures keeps { (w : World) (objects : List PlainObject) (r : ℕ) (e : Purpose) (b : Revocation)
-        (class : ℕ) (verdict : Verdict) (reset : Bool) (at : Name) (word : ℕ)
+    ensures keeps { (w : World) (objects : List PlainObject) (r : ℕ) (e : CallContext) (b : Revocation)
+        (class : ℕ) (verdict : Verdict) (reset : Bool) (at : WordId) (word : ℕ)
         → MayBeginRevoking w.shape (w.known r) e r b class verdict reset at word → IsValid w objects
         → IsValid (world_after
         (revoke_plan e b (own.CountVerdict class verdict reset) at word) r w) objects }
-    ensures begins { (w : World) (objects : List PlainObject) (r : ℕ) (e : Purpose) (b : Revocation)
-        (class : ℕ) (verdict : Verdict) (reset : Bool) (at : Name) (word : ℕ)
+    ensures begins { (w : World) (objects : List PlainObject) (r : ℕ) (e : CallContext) (b : Revocation)
+        (class : ℕ) (verdict : Verdict) (reset : Bool) (at : WordId) (word : ℕ)
         → MayBeginRevoking w.shape (w.known r) e r b class verdict reset at word → Fits w objects
         → RevokesSince
         (world_after
@@ -59,23 +59,23 @@ pub fn the_first_store_keeps_the_world_valid()
 /// So does each other store. The revocation that is under way goes on.
 pub fn the_next_store_keeps_the_world_valid()
     // `MayGoOnRevoking`: where the thread stands, and its steps since its safepoint was reached, by which this is the rules' next store
-    ensures keeps { (e : Purpose) (b : Revocation) (at : Name) (word : ℕ)
+    ensures keeps { (e : CallContext) (b : Revocation) (at : WordId) (word : ℕ)
         → KeepsValid (λ w r. MayGoOnRevoking w.shape (w.known r) e r b at word)
-        (λ w r. revoke_plan e b own.Same at word) }
-    ensures goes_on { (e : Purpose) (b : Revocation) (at : Name) (word : ℕ) (w : World)
+        (λ w r. revoke_plan e b own.Unchanged at word) }
+    ensures goes_on { (e : CallContext) (b : Revocation) (at : WordId) (word : ℕ) (w : World)
         (objects : List PlainObject) (s : IsRevoking w objects)
         → s.requester < w.shape.threads → MayGoOnRevoking w.shape (w.known s.requester) e s.requester b at word
-        → RevokesSince (world_after (revoke_plan e b own.Same at word) s.requester w) objects s.before }
+        → RevokesSince (world_after (revoke_plan e b own.Unchanged at word) s.requester w) objects s.before }
 {}
 
 /// The steps of a revocation make exactly the stores that its rules list, in their order, whatever the thread finds: where they have led to a
 /// store, by steps after some that stored nothing, that is the next one; where they have led to their end, all are made.
 pub fn the_steps_make_the_stores_of_the_rules()
-    ensures next { (s : Shape) (t : ℕ) (e : Purpose) (b : Revocation) (ms earlier : List StepMade)
-        (p : StepPlan) (g : ℕ → Todo RevocationOutcome) (word : ℕ)
+    ensures next { (s : Shape) (t : ℕ) (e : CallContext) (b : Revocation) (ms earlier : List StepMade)
+        (p : StepPlan) (g : ℕ → StepTree RevocationOutcome) (word : ℕ)
         → writes_in earlier ≡ [] → Leads (revoke_at_safepoint_steps s t e b) ms (step p g)
         → p.act ≡ Store word → IsNextStore s t b (ms ++ earlier) p.at word }
-    ensures all { (s : Shape) (t : ℕ) (e : Purpose) (b : Revocation) (ms earlier : List StepMade)
+    ensures all { (s : Shape) (t : ℕ) (e : CallContext) (b : Revocation) (ms earlier : List StepMade)
         (a : RevocationOutcome)
         → writes_in earlier ≡ [] → Leads (revoke_at_safepoint_steps s t e b) ms (done a)
         → AreAllStores s t b (ms ++ earlier) }
@@ -84,7 +84,7 @@ pub fn the_steps_make_the_stores_of_the_rules()
 /// What the steps of a revocation answer tells of the object's mark when all stores are made: where the thread gave itself a new bias, the mark
 /// is biased to it in the epoch of its class, and else it has the bias pattern no more.
 pub fn the_answer_tells_the_new_bias()
-    ensures { (w : World) (objects : List PlainObject) (t : ℕ) (e : Purpose) (b : Revocation)
+    ensures { (w : World) (objects : List PlainObject) (t : ℕ) (e : CallContext) (b : Revocation)
         (ms earlier : List StepMade) (a : RevocationOutcome)
         → (w.known t).reached ≡ true → revocation_in (w.known t).stage ≡ Some b
         → (w.known t).seen_at_safepoint ≡ ms ++ earlier → writes_in earlier ≡ []
@@ -99,7 +99,7 @@ pub fn the_answer_tells_the_new_bias()
 pub fn the_release_ends_the_revocation()
     // `MayEndRevoking`: where the thread stands, and its steps since its safepoint was reached, which are all that the tree of a revocation has;
     // so is whether it gave itself a new bias (`the_answer_tells_the_new_bias`)
-    ensures { (w : World) (objects : List PlainObject) (t : ℕ) (e : Purpose) (b : Revocation) (took : Bool)
+    ensures { (w : World) (objects : List PlainObject) (t : ℕ) (e : CallContext) (b : Revocation) (took : Bool)
         → MayEndRevoking w.shape (w.known t) e t b
         → IsValid w objects → Fits (world_after (release_plan e (stage_after took b.object) t) t w) objects }
 {}
@@ -111,10 +111,10 @@ pub fn a_load_ends_the_revocation()
     // `MayLookAfterRevoking`: besides, that it loaded or stored at its safepoint each mark, each word of a class and each class word that it saw
     // before in the calls of the request. A revocation loads the object's mark, its class word where it isn't declared, and the words of its class.
     // An operation sees no others before.
-    ensures calm { (w : World) (objects : List PlainObject) (t : ℕ) (e : Purpose) (b : Revocation) (at : Name)
+    ensures calm { (w : World) (objects : List PlainObject) (t : ℕ) (e : CallContext) (b : Revocation) (at : WordId)
         → MayLookAfterRevoking w.shape (w.known t) e t b
         → IsValid w objects → Fits (world_after (load e at) t w) objects }
-    ensures taking { (w : World) (objects : List PlainObject) (t : ℕ) (e : Purpose) (b : Revocation) (at : Name) (o : ℕ)
+    ensures taking { (w : World) (objects : List PlainObject) (t : ℕ) (e : CallContext) (b : Revocation) (at : WordId) (o : ℕ)
         → t < w.shape.threads → MayLookAfterRevoking w.shape (w.known t) e t b
-        → IsValid w objects → Fits (world_after (load_plan e (Takes o) at) t w) objects }
+        → IsValid w objects → Fits (world_after (load_plan e (BiasAcquired o) at) t w) objects }
 {}

@@ -8,50 +8,60 @@ use Rattle.plain_monitor.specs.declared.entry.Entry.TheVariants as entry
 use Rattle.plain_monitor.specs.declared.entry.Ending.{Ending}
 use Rattle.plain_monitor.specs.declared.entry.Value.{Value}
 use Rattle.plain_monitor.specs.ValueWords.{read_value}
-use Rattle.core_world.specs.declared.stage.Stage.TheVariants.{Calm}
-use Rattle.core_world.specs.declared.task.Op.TheVariants as op
-use Rattle.core_world.specs.declared.task.Task.{Task}
-use Rattle.core_world.specs.declared.task.Task.TheVariants as task
+use Rattle.core_world.specs.declared.stage.Stage.TheVariants.{Settled}
+use Rattle.core_world.specs.declared.heap_call.Operation.TheVariants as op
+use Rattle.core_world.specs.declared.heap_call.HeapCall.{HeapCall}
+use Rattle.core_world.specs.declared.heap_call.HeapCall.TheVariants as task
 use Rattle.core_world.specs.declared.answer.BiasTry.{BiasTry}
 use Rattle.core_world.specs.declared.answer.BiasTry.TheVariants.{Took, Unbiased, Valid, Raced}
 use Rattle.core_world.specs.declared.answer.StackOut.{StackOut}
 use Rattle.core_world.specs.declared.answer.StackOut.TheVariants.{Left, Monitor, Not}
-use Rattle.core_world.specs.declared.answer.Turn.{Turn}
-use Rattle.core_world.specs.declared.answer.Turn.TheVariants.{Done, Pending}
-use Rattle.core_world.specs.declared.answer.Why.TheVariants as why
+use Rattle.core_world.specs.declared.answer.Progress.{Progress}
+use Rattle.core_world.specs.declared.answer.Progress.TheVariants.{Done, Pending}
+use Rattle.core_world.specs.declared.answer.PendingCause.TheVariants as why
 use Rattle.core_world.specs.Words.Forms.{waits_on}
-use Rattle.core_world.specs.Threads.Known.{Start}
+use Rattle.core_world.specs.Threads.ThreadView.{Start}
 use Rattle.core_world.specs.Locks.{hold_count}
-use Rattle.core_world.specs.Trees.Plans.{Purpose, purpose, done_with, free_place}
+use Rattle.core_world.specs.Trees.Plans.{CallContext, call_context, done_with, free_place}
 use Rattle.core_world.specs.Words.Shape.{Shape}
 use Rattle.core_world.specs.Threads.Stages.{Revocation}
-use Rattle.core_world.specs.Trees.Todo.{Todo, done, never, step, ◌>>=◌}
+use Rattle.core_world.specs.Trees.StepTree.{StepTree, done, unreachable, step, ◌>>=◌}
 use Rattle.core_world.specs.Trees.LockSteps.{stack_exit_steps}
 use Rattle.core_world.specs.Trees.MonitorSteps.{monitor_enter_steps}
 use Rattle.core_world.specs.Trees.BiasSteps.{stage_after}
-use Rattle.core_world.specs.Trees.Operations.{value_found, goes_on_with, and_then, answer, lone_purpose, revocation_steps, enter_monitor_steps, enter_at, enter_unbiased, enter_revoked, enter_tried, enter_going, enter_steps, exit_at, exit_steps, revoked_steps, unbias_tried, unbias_steps, no_bias, wait_steps, notify_at, notify_steps, notify_all_at, notify_all_steps, hash_steps, get_steps, put_steps, print_steps, finish_steps, dump_steps, create_steps, check_ending, check_steps}
+use Rattle.core_world.specs.Trees.Operations.{value_found, goes_on_with, and_then, answer, lone_context, revocation_steps, enter_monitor_steps}
+use Rattle.core_world.specs.Trees.Operations.{enter_at, enter_unbiased, enter_revoked, enter_tried, enter_going, enter_steps, exit_at}
+use Rattle.core_world.specs.Trees.Operations.{exit_steps, revoked_steps, unbias_tried, unbias_steps, no_bias, wait_steps, notify_at}
+use Rattle.core_world.specs.Trees.Operations.{notify_steps, notify_all_at, notify_all_steps, hash_steps, get_steps, put_steps, print_steps}
+use Rattle.core_world.specs.Trees.Operations.{finish_steps, dump_steps, create_steps, check_ending, check_steps}
 use Rattle.core_world.specs.Trees.CreateSteps.{count_made, next_made}
-use Rattle.core_world.specs.Trees.Calls.{end, side_purpose, steps_of}
+use Rattle.core_world.specs.Trees.Calls.{end, side_context, steps_of}
 use Rattle.core_calls.specs.Bounds.{IsWithin, a_deflation, a_revocation, most_steps}
 use Rattle.core_calls.proofs.Spends.{Spends, Spend, spend_done, spend_never, spend_more, spend_either, spend_then, spend_both, spend_any}
-use Rattle.core_calls.proofs.RevocationSpends.{revoke_at_safepoint_spends}
-use Rattle.core_calls.proofs.LookSpends.{shot_spends, still_spends}
-use Rattle.core_calls.proofs.DeflationSpends.{deflate_spends}
-use Rattle.core_calls.proofs.LocksSpend.{Any, any_step, Nothing, stack_enter_spends, to_monitor, stack_exit_spends, unless_biased, bias_exit_spends, inflate_spends, monitor_enter_spends, monitor_exit_spends}
-use Rattle.core_calls.proofs.PartsSpend.{monitor_wait_spends, monitor_resume_spends, publish_spends, notify_spends, notify_all_spends, to_revoke, to_enter, bias_drop_spends, bias_enter_spends, bias_after_spends, poll_spends, request_spends, reached_spends, safepoint_spends, release_spends, halt_spends, stop_spends, resume_spends, hash_header_spends}
+use Rattle.core_calls.proofs.bias.RevocationSpends.{revoke_at_safepoint_spends}
+use Rattle.core_calls.proofs.safepoint.LookSpends.{shot_spends, still_spends}
+use Rattle.core_calls.proofs.deflation.DeflationSpends.{deflate_spends}
+use Rattle.core_calls.proofs.LocksSpend.{Any, any_step, Nothing, stack_enter_spends, to_monitor, stack_exit_spends, unless_biased}
+use Rattle.core_calls.proofs.LocksSpend.{bias_exit_spends, inflate_spends, monitor_enter_spends, monitor_exit_spends}
+use Rattle.core_calls.proofs.PartsSpend.{monitor_wait_spends, monitor_resume_spends, publish_spends, notify_spends}
+use Rattle.core_calls.proofs.PartsSpend.{notify_all_spends, to_revoke, to_enter, bias_drop_spends, bias_enter_spends}
+use Rattle.core_calls.proofs.PartsSpend.{bias_after_spends, poll_spends, request_spends, reached_spends, safepoint_spends}
+use Rattle.core_calls.proofs.PartsSpend.{release_spends, halt_spends, stop_spends, resume_spends, hash_header_spends}
 
--- a turn that is done goes on with so many steps
-then_spends : {A B : Type 0} {n : ℕ} (f : A → Todo (Turn B)) (turn : Turn A) → ((a : A) → Spend Any Nothing n (f a)) → Spend Any Nothing n (and_then turn f)
+-- a part that is done goes on with so many steps
+then_spends : {A B : Type 0} {n : ℕ} (f : A → StepTree (Progress B)) (progress : Progress A)
+    → ((a : A) → Spend Any Nothing n (f a)) → Spend Any Nothing n (and_then progress f)
 then_spends f (Done a) h = h a
 then_spends f (Pending why) h = spend_done {a = Pending why} (omega arith)
 
-module _ (s : Shape) (e : Purpose) where
+module _ (s : Shape) (e : CallContext) where
   pub revocation_spends : (t : ℕ) (requesting : Bool) (b : Revocation) → Spend Any Nothing (a_revocation s) (revocation_steps s t requesting e b)
   revocation_spends t requesting b =
-      spend_both {k = 8448 * s.threads + 141 + a_deflation s} (safepoint_spends e t requesting) (λ turn. then_spends _ turn (λ _.
+      spend_both {k = 8448 * s.threads + 141 + a_deflation s} (safepoint_spends e t requesting) (λ progress. then_spends _ progress (λ _.
       spend_both {k = a_deflation s + 1} (spend_any (revoke_at_safepoint_spends e b s t)) (λ outcome.
       spend_both {k = 1} (spend_any (deflate_spends e s (stage_after outcome.took b.object))) (λ _.
-      spend_both {k = 0} (release_spends e t (stage_after outcome.took b.object)) (λ _. spend_done {a = Done outcome.took} (omega arith)) (omega arith)) (omega arith)) (omega arith))) (omega arith)
+      spend_both {k = 0} (release_spends e t (stage_after outcome.took b.object))
+      (λ _. spend_done {a = Done outcome.took} (omega arith)) (omega arith)) (omega arith)) (omega arith))) (omega arith)
 
   unbias_spends : (k : Start) (b : Revocation) → Spend Any Nothing (a_revocation s + 3) (unbias_steps s e k b)
   unbias_spends k b =
@@ -59,7 +69,8 @@ module _ (s : Shape) (e : Purpose) where
       (spend_then (bias_drop_spends e b.object (a_revocation s) (omega arith) s) tried)
     where
       revoked : (requesting : Bool) → Spend Any Nothing (a_revocation s) (revoked_steps s k.local.thread requesting e b)
-      revoked requesting = spend_both {k = 0} (revocation_spends k.local.thread requesting b) (λ turn. then_spends (λ _. done_with tt) turn (λ _. spend_done {a = Done tt} (omega arith))) (omega arith)
+      revoked requesting = spend_both {k = 0} (revocation_spends k.local.thread requesting b)
+          (λ progress. then_spends (λ _. done_with tt) progress (λ _. spend_done {a = Done tt} (omega arith))) (omega arith)
 
       tried : (tried : BiasTry) → Spend Any Nothing (to_revoke (a_revocation s) tried) (unbias_tried tried s e k b)
       tried (Took path) = spend_never
@@ -67,15 +78,17 @@ module _ (s : Shape) (e : Purpose) where
       tried (Valid mark) = revoked false
       tried (Raced expected found) = spend_done {a = Pending (why.Raced expected found)} (omega arith)
 
-module _ (s : Shape) (e : Purpose) (k : Start) where
+module _ (s : Shape) (e : CallContext) (k : Start) where
   -- ENTER
   enter_monitor_spends : (o : ℕ) → Spend Any Nothing 17 (enter_monitor_steps s e k o)
-  enter_monitor_spends o = spend_both {k = 7} (inflate_spends e k.local o s k.kept) (λ turn. then_spends (λ m. monitor_enter_steps e k.local o m) turn (monitor_enter_spends e k.local o)) (omega arith)
+  enter_monitor_spends o = spend_both {k = 7} (inflate_spends e k.local o s k.kept)
+      (λ progress. then_spends (λ m. monitor_enter_steps e k.local o m) progress (monitor_enter_spends e k.local o)) (omega arith)
 
   pub enter_at_spends : (form : Option MarkForm) (o mark : ℕ) → Spend Any Nothing 17 (enter_at form s e k o mark)
   enter_at_spends (Some Inflating) o mark = spend_done {a = Pending why.Inflating} (omega arith)
   enter_at_spends (Some (Neutral hash age)) o mark = spend_more (omega arith) (stack_enter_spends e k.local o (read_mark mark) mark)
-  enter_at_spends (Some (Locked thread place)) o mark = spend_either (thread == k.local.thread) (spend_more (omega arith) (stack_enter_spends e k.local o (read_mark mark) mark)) (enter_monitor_spends o)
+  enter_at_spends (Some (Locked thread place)) o mark = spend_either (thread == k.local.thread)
+      (spend_more (omega arith) (stack_enter_spends e k.local o (read_mark mark) mark)) (enter_monitor_spends o)
   enter_at_spends (Some (Inflated monitor)) o mark = spend_more (omega arith) (monitor_enter_spends e k.local o monitor)
   enter_at_spends (Some (Anonymous epoch age)) o mark = spend_never
   enter_at_spends (Some (Biased thread epoch age)) o mark = spend_never
@@ -90,7 +103,7 @@ module _ (s : Shape) (e : Purpose) (k : Start) where
 
   enter_revoked_spends : (requesting : Bool) (b : Revocation) → Spend Any Nothing (a_revocation s + 18) (enter_revoked s requesting e k b)
   enter_revoked_spends requesting b =
-      spend_both {k = 18} (revocation_spends s e k.local.thread requesting b) (λ turn. then_spends _ turn (λ took.
+      spend_both {k = 18} (revocation_spends s e k.local.thread requesting b) (λ progress. then_spends _ progress (λ took.
       spend_then (bias_after_spends e k.local b.object 0 17 17 (omega arith) (omega arith) took) (unbiased_spends b.object 0))) (omega arith)
 
   pub tried_spends : (b : Revocation) (tried : BiasTry) → Spend Any Nothing (to_enter (a_revocation s + 18) 17 tried) (enter_tried tried s e k b)
@@ -102,35 +115,37 @@ module _ (s : Shape) (e : Purpose) (k : Start) where
   pub enter_going_spends : (b : Revocation) → Spend Any Nothing (a_revocation s + 21) (enter_going s e k b)
   enter_going_spends b =
       spend_either k.requesting (spend_more (omega arith) (enter_revoked_spends true b))
-      (spend_more (omega arith) (spend_then (bias_enter_spends e k.local b.object (a_revocation s + 18) 17 (a_revocation s + 18) (omega arith) (omega arith) (omega arith) s) (tried_spends b)))
+      (spend_more (omega arith) (spend_then (bias_enter_spends e k.local b.object (a_revocation s + 18) 17
+      (a_revocation s + 18) (omega arith) (omega arith) (omega arith) s) (tried_spends b)))
 
 -- the answer takes no step
-pub answers : {A E : Type 0} {n : ℕ} {d : Todo A} → Spend Any Nothing n d → Spend Any Nothing n (d >>= λ a. answer {E = E} a)
+pub answers : {A E : Type 0} {n : ℕ} {d : StepTree A} → Spend Any Nothing n d → Spend Any Nothing n (d >>= λ a. answer {E = E} a)
 answers h = spend_both {k = 0} h (λ a. spend_done {a = Ok a} (omega arith)) (omega arith)
 
-refused : {A E : Type 0} {n : ℕ} {d : Todo (Result A E)} (b : Bool) (e : E) → Spend Any Nothing n d → Spend Any Nothing n (cond b (done (Err e)) d)
+refused : {A E : Type 0} {n : ℕ} {d : StepTree (Result A E)} (b : Bool) (e : E) → Spend Any Nothing n d → Spend Any Nothing n (cond b (done (Err e)) d)
 refused b e h = spend_either b (spend_done {a = Err e} (omega arith)) h
 
 module _ (s : Shape) (k : Start) (o now : ℕ) where
-  abbrev waiting : Purpose
-  waiting = purpose (task.Wait o now) op.Wait o
+  abbrev waiting : CallContext
+  waiting = call_context (task.Wait o now) op.Wait o
 
-  abbrev notifying : Purpose
-  notifying = purpose (task.Notify o now) op.Notify o
+  abbrev notifying : CallContext
+  notifying = call_context (task.Notify o now) op.Notify o
 
-  abbrev calling : Purpose
-  calling = purpose (task.NotifyAll o now) op.NotifyAll o
+  abbrev calling : CallContext
+  calling = call_context (task.NotifyAll o now) op.NotifyAll o
 
-  abbrev hashing : Purpose
-  hashing = purpose (task.Hash o now) op.Hash o
+  abbrev hashing : CallContext
+  hashing = call_context (task.Hash o now) op.Hash o
 
-  abbrev exiting : Purpose
-  exiting = purpose (task.Exit o) op.Exit o
+  abbrev exiting : CallContext
+  exiting = call_context (task.Exit o) op.Exit o
 
   pub enter_spends : Spend Any Nothing (a_revocation s + 21) (enter_steps s k o now)
   enter_spends =
-      spend_either (free_place k.local.holds == most_holds) (spend_either (goes_on_with op.Enter o k.unfinished) spend_never (spend_done {a = Err record {}} (omega arith)))
-      (answers (enter_going_spends s (purpose (task.Enter o now) op.Enter o) k (record { object = o; rebias = true; now = now })))
+      spend_either (free_place k.local.holds == most_holds)
+      (spend_either (goes_on_with op.Enter o k.unfinished) spend_never (spend_done {a = Err record {}} (omega arith)))
+      (answers (enter_going_spends s (call_context (task.Enter o now) op.Enter o) k (record { object = o; rebias = true; now = now })))
 
   -- EXIT
   pub exit_spends : Spend Any Nothing 11 (exit_steps k o)
@@ -141,7 +156,8 @@ module _ (s : Shape) (k : Start) (o now : ℕ) where
       by_out (Not why) = spend_done {a = Pending why} (omega arith)
       by_out (Monitor number) = spend_both {k = 0} (monitor_exit_spends exiting k.local o number) (λ _. spend_done {a = Done tt} (omega arith)) (omega arith)
 
-      by_bias : (biased : Bool) → Spend Any Nothing (unless_biased exiting k.local o 9 biased) (cond biased (done_with tt) (stack_exit_steps exiting k.local o >>= λ out. exit_at out exiting k.local o))
+      by_bias : (biased : Bool) → Spend Any Nothing (unless_biased exiting k.local o 9 biased)
+          (cond biased (done_with tt) (stack_exit_steps exiting k.local o >>= λ out. exit_at out exiting k.local o))
       by_bias true = spend_done {a = Done tt} (omega arith)
       by_bias false = spend_then (stack_exit_spends exiting k.local o 6 (omega arith)) by_out
 
@@ -149,15 +165,18 @@ module _ (s : Shape) (k : Start) (o now : ℕ) where
   pub wait_spends : Spend Any Nothing (a_revocation s + 27) (wait_steps s k o now)
   wait_spends = refused (hold_count o k.local.holds == 0) (record {}) (answers (spend_either (waits_on k.local.wait o)
       (spend_more (omega arith) (monitor_resume_spends waiting k.local.thread k.saved o))
-      (spend_both {k = 24} (unbias_spends s waiting k (no_bias o now)) (λ turn. then_spends _ turn (λ _.
-      spend_both {k = 14} (inflate_spends waiting k.local o s k.kept) (λ turn. then_spends _ turn (λ m.
-      spend_both {k = 6} (monitor_wait_spends waiting k.local o m) (λ saved. monitor_resume_spends waiting k.local.thread saved o) (omega arith))) (omega arith))) (omega arith))))
+      (spend_both {k = 24} (unbias_spends s waiting k (no_bias o now)) (λ progress. then_spends _ progress (λ _.
+      spend_both {k = 14} (inflate_spends waiting k.local o s k.kept) (λ progress. then_spends _ progress (λ m.
+      spend_both {k = 6} (monitor_wait_spends waiting k.local o m) (λ saved. monitor_resume_spends waiting k.local.thread saved o) (omega arith)))
+      (omega arith))) (omega arith))))
 
   -- NOTIFY and NOTIFYALL
   notify_at_spends : (form : Option MarkForm) → Spend Any Nothing (s.threads + 1) (notify_at form s notifying k.local o)
   notify_at_spends (Some Inflating) = spend_done {a = Pending why.Inflating} (omega arith)
-  notify_at_spends (Some (Locked thread place)) = spend_more {n = 1} (omega arith) (spend_both {k = 0} (publish_spends notifying k.local o (entry.Notify o None)) (λ _. spend_done {a = Done None} (omega arith)) (omega arith))
-  notify_at_spends (Some (Inflated monitor)) = spend_both {k = 0} (notify_spends notifying k.local o s.threads) (λ woken. spend_done {a = Done woken} (omega arith)) (omega arith)
+  notify_at_spends (Some (Locked thread place)) = spend_more {n = 1} (omega arith)
+      (spend_both {k = 0} (publish_spends notifying k.local o (entry.Notify o None)) (λ _. spend_done {a = Done None} (omega arith)) (omega arith))
+  notify_at_spends (Some (Inflated monitor)) =
+      spend_both {k = 0} (notify_spends notifying k.local o s.threads) (λ woken. spend_done {a = Done woken} (omega arith)) (omega arith)
   notify_at_spends (Some (Neutral hash age)) = spend_never
   notify_at_spends (Some (Anonymous epoch age)) = spend_never
   notify_at_spends (Some (Biased thread epoch age)) = spend_never
@@ -166,13 +185,15 @@ module _ (s : Shape) (k : Start) (o now : ℕ) where
 
   pub notify_call_spends : Spend Any Nothing (a_revocation s + s.threads + 5) (notify_steps s k o now)
   notify_call_spends = refused (hold_count o k.local.holds == 0) (record {}) (answers (
-      spend_both {k = s.threads + 2} (unbias_spends s notifying k (no_bias o now)) (λ turn. then_spends _ turn (λ _.
+      spend_both {k = s.threads + 2} (unbias_spends s notifying k (no_bias o now)) (λ progress. then_spends _ progress (λ _.
       spend_more (omega arith) (any_step {n = s.threads + 1} (λ mark. notify_at_spends (read_mark mark))))) (omega arith)))
 
   notify_all_at_spends : (form : Option MarkForm) → Spend Any Nothing (2 * s.threads + 1) (notify_all_at form s calling k.local o)
   notify_all_at_spends (Some Inflating) = spend_done {a = Pending why.Inflating} (omega arith)
-  notify_all_at_spends (Some (Locked thread place)) = spend_more {n = 1} (omega arith) (spend_both {k = 0} (publish_spends calling k.local o (entry.NotifyAll o 0)) (λ _. spend_done {a = Done 0} (omega arith)) (omega arith))
-  notify_all_at_spends (Some (Inflated monitor)) = spend_both {k = 0} (notify_all_spends calling k.local o s.threads) (λ woken. spend_done {a = Done woken} (omega arith)) (omega arith)
+  notify_all_at_spends (Some (Locked thread place)) = spend_more {n = 1} (omega arith)
+      (spend_both {k = 0} (publish_spends calling k.local o (entry.NotifyAll o 0)) (λ _. spend_done {a = Done 0} (omega arith)) (omega arith))
+  notify_all_at_spends (Some (Inflated monitor)) =
+      spend_both {k = 0} (notify_all_spends calling k.local o s.threads) (λ woken. spend_done {a = Done woken} (omega arith)) (omega arith)
   notify_all_at_spends (Some (Neutral hash age)) = spend_never
   notify_all_at_spends (Some (Anonymous epoch age)) = spend_never
   notify_all_at_spends (Some (Biased thread epoch age)) = spend_never
@@ -181,17 +202,19 @@ module _ (s : Shape) (k : Start) (o now : ℕ) where
 
   pub notify_all_call_spends : Spend Any Nothing (a_revocation s + 2 * s.threads + 5) (notify_all_steps s k o now)
   notify_all_call_spends = refused (hold_count o k.local.holds == 0) (record {}) (answers (
-      spend_both {k = 2 * s.threads + 2} (unbias_spends s calling k (no_bias o now)) (λ turn. then_spends _ turn (λ _.
+      spend_both {k = 2 * s.threads + 2} (unbias_spends s calling k (no_bias o now)) (λ progress. then_spends _ progress (λ _.
       spend_more (omega arith) (any_step {n = 2 * s.threads + 1} (λ mark. notify_all_at_spends (read_mark mark))))) (omega arith)))
 
   -- HASH
   pub hash_call_spends : Spend Any Nothing (a_revocation s + 17) (hash_steps s k o now)
   hash_call_spends =
-      spend_both {k = 14} (unbias_spends s hashing k (no_bias o now)) (λ turn. then_spends _ turn (λ _. hash_header_spends s hashing k.local (record { number = k.draws + 1; value = k.draw }) o k.kept)) (omega arith)
+      spend_both {k = 14} (unbias_spends s hashing k (no_bias o now)) (λ progress. then_spends _ progress
+      (λ _. hash_header_spends s hashing k.local (record { number = k.draws + 1; value = k.draw }) o k.kept)) (omega arith)
 
 -- SLOTS, PRINTS AND ENDS
 get_spends : (k : Start) (o slot : ℕ) → Spend Any Nothing 1 (get_steps k o slot)
-get_spends k o slot = refused (hold_count o k.local.holds == 0) (record {}) (any_step {n = 0} (λ found. spend_done {a = Ok (value_found (read_value found))} (omega arith)))
+get_spends k o slot = refused (hold_count o k.local.holds == 0) (record {})
+    (any_step {n = 0} (λ found. spend_done {a = Ok (value_found (read_value found))} (omega arith)))
 
 put_spends : (k : Start) (o slot : ℕ) (value : Value) → Spend Any Nothing 1 (put_steps k o slot value)
 put_spends k o slot value = refused (hold_count o k.local.holds == 0) (record {}) (any_step {n = 0} (λ _. spend_done {a = Ok tt} (omega arith)))
@@ -209,44 +232,46 @@ finish_spends : (k : Start) (ending : Ending) → Spend Any Nothing 2 (finish_st
 finish_spends k ending = any_step {n = 1} (λ _. any_step {n = 0} (λ _. spend_done (omega arith)))
 
 module _ (s : Shape) (k : Start) where
-  abbrev dumping : Purpose
-  dumping = purpose task.Dump op.Dump 0
+  abbrev dumping : CallContext
+  dumping = call_context task.Dump op.Dump 0
 
-  abbrev checking : Purpose
+  abbrev checking : CallContext
   checking = record { task = task.Check; unfinished = k.unfinished; check = true }
 
   pub dump_spends : Spend Any Nothing (67 * length s.objects + s.threads + 6 + a_deflation s) (dump_steps s k)
   dump_spends = refused (k.shots == 4) (record {}) (answers (
-      spend_both {k = 67 * length s.objects + s.threads + 3 + a_deflation s} (safepoint_spends dumping k.local.thread k.requesting) (λ turn. then_spends _ turn (λ _.
-      spend_both {k = a_deflation s + 2} (spend_any (shot_spends dumping s)) (λ _. spend_both {k = 2} (spend_any (deflate_spends dumping s Calm)) (λ _.
-      spend_both {k = 1} (release_spends dumping k.local.thread Calm) (λ _.
-      spend_both {k = 0} (publish_spends dumping k.local 0 (entry.Dump (k.shots + 1))) (λ _. spend_done {a = Done (k.shots + 1)} (omega arith)) (omega arith)) (omega arith)) (omega arith)) (omega arith))) (omega arith)))
+      spend_both {k = 67 * length s.objects + s.threads + 3 + a_deflation s}
+      (safepoint_spends dumping k.local.thread k.requesting) (λ progress. then_spends _ progress (λ _.
+      spend_both {k = a_deflation s + 2} (spend_any (shot_spends dumping s)) (λ _. spend_both {k = 2} (spend_any (deflate_spends dumping s Settled)) (λ _.
+      spend_both {k = 1} (release_spends dumping k.local.thread Settled) (λ _.
+      spend_both {k = 0} (publish_spends dumping k.local 0 (entry.Dump (k.shots + 1)))
+      (λ _. spend_done {a = Done (k.shots + 1)} (omega arith)) (omega arith)) (omega arith)) (omega arith)) (omega arith))) (omega arith)))
 
   ending_spends : (stuck : Bool) → Spend Any Nothing 1 (check_ending stuck checking k.local.thread)
   ending_spends true = spend_both {k = 0} (halt_spends checking k.local.thread) (λ _. spend_done {a = Done true} (omega arith)) (omega arith)
-  ending_spends false = spend_both {k = 0} (release_spends checking k.local.thread Calm) (λ _. spend_done {a = Done false} (omega arith)) (omega arith)
+  ending_spends false = spend_both {k = 0} (release_spends checking k.local.thread Settled) (λ _. spend_done {a = Done false} (omega arith)) (omega arith)
 
   pub check_spends : Spend Any Nothing (3 * s.threads + 4 + a_deflation s) (check_steps s k)
   check_spends =
-      spend_both {k = 3 * s.threads + 1 + a_deflation s} (safepoint_spends checking k.local.thread k.requesting) (λ turn. then_spends _ turn (λ _.
+      spend_both {k = 3 * s.threads + 1 + a_deflation s} (safepoint_spends checking k.local.thread k.requesting) (λ progress. then_spends _ progress (λ _.
       spend_both {k = a_deflation s + 1} (spend_any (still_spends checking s)) (λ stuck.
-      spend_both {k = 1} (spend_any (deflate_spends checking s Calm)) (λ _. ending_spends stuck) (omega arith)) (omega arith))) (omega arith)
+      spend_both {k = 1} (spend_any (deflate_spends checking s Settled)) (λ _. ending_spends stuck) (omega arith)) (omega arith))) (omega arith)
 
 -- ALL CALLS
-within : {A : Type 0} (d : Todo A) (n : ℕ) → Spends Any Nothing n d → IsWithin n d
+within : {A : Type 0} (d : StepTree A) (n : ℕ) → Spends Any Nothing n d → IsWithin n d
 within (done a) n h = tt
-within never n h = tt
+within unreachable n h = tt
 within (step p f) zero h = absurd h
 within (step p f) (suc n) h = λ word. within (f word) n (h.1 word)
 
-pub spend_within : {A : Type 0} (d : Todo A) (n : ℕ) → Spend Any Nothing n d → IsWithin n d
+pub spend_within : {A : Type 0} (d : StepTree A) (n : ℕ) → Spend Any Nothing n d → IsWithin n d
 spend_within d n h = within d n h.by
 
 -- whatever the answer is
-ends : {A : Type 0} {n : ℕ} {d : Todo A} → Spend Any Nothing n d → Spend Any Nothing n (d >>= end)
+ends : {A : Type 0} {n : ℕ} {d : StepTree A} → Spend Any Nothing n d → Spend Any Nothing n (d >>= end)
 ends h = spend_both {k = 0} h (λ a. spend_done (omega arith)) (omega arith)
 
-call_spends : (s : Shape) (t : Task) (k : Start) → Spend Any Nothing (most_steps s t) (steps_of s t k)
+call_spends : (s : Shape) (t : HeapCall) (k : Start) → Spend Any Nothing (most_steps s t) (steps_of s t k)
 unfolding steps_of
 call_spends s (task.Enter o now) k = ends (enter_spends s k o now)
 call_spends s (task.Exit o) k = ends (exit_spends s k o 0)
@@ -260,15 +285,16 @@ call_spends s (task.Print value) k = print_spends k value
 call_spends s task.Dump k = ends (dump_spends s k)
 call_spends s (task.Create c) k = ends (create_spends s k c)
 call_spends s (task.Finish ending) k = finish_spends k ending
-call_spends s task.Poll k = ends (poll_spends (side_purpose task.Poll k) k.local.thread)
-call_spends s task.Stop k = stop_spends (side_purpose task.Stop k) k.local
-call_spends s task.Resume k = ends (resume_spends (side_purpose task.Resume k) k.local)
+call_spends s task.Poll k = ends (poll_spends (side_context task.Poll k) k.local.thread)
+call_spends s task.Stop k = stop_spends (side_context task.Stop k) k.local
+call_spends s task.Resume k = ends (resume_spends (side_context task.Resume k) k.local)
 call_spends s task.Check k = ends (check_spends s k)
-call_spends s (task.StackEnter o mark) k = ends (stack_enter_spends (lone_purpose (task.StackEnter o mark)) k.local o (read_mark mark) mark)
-call_spends s (task.StackExit o) k = spend_then (stack_exit_spends (purpose (task.StackExit o) op.Exit o) k.local o 2 (omega arith)) (λ out. spend_done (omega arith))
-call_spends s task.Request k = ends (request_spends (lone_purpose task.Request) k.local.thread)
-call_spends s task.Reached k = ends (reached_spends (lone_purpose task.Reached) k.local.thread)
-call_spends s task.Release k = release_spends (lone_purpose task.Release) k.local.thread Calm
+call_spends s (task.StackEnter o mark) k = ends (stack_enter_spends (lone_context (task.StackEnter o mark)) k.local o (read_mark mark) mark)
+call_spends s (task.StackExit o) k =
+    spend_then (stack_exit_spends (call_context (task.StackExit o) op.Exit o) k.local o 2 (omega arith)) (λ out. spend_done (omega arith))
+call_spends s task.Request k = ends (request_spends (lone_context task.Request) k.local.thread)
+call_spends s task.Reached k = ends (reached_spends (lone_context task.Reached) k.local.thread)
+call_spends s task.Release k = release_spends (lone_context task.Release) k.local.thread Settled
 
-pub call_within : (s : Shape) (t : Task) (k : Start) → IsWithin (most_steps s t) (steps_of s t k)
+pub call_within : (s : Shape) (t : HeapCall) (k : Start) → IsWithin (most_steps s t) (steps_of s t k)
 call_within s t k = spend_within (steps_of s t k) (most_steps s t) (call_spends s t k)

@@ -9,37 +9,39 @@ use Rattle.mark_word.specs.Owner.{owner_of, read_owner}
 use Rattle.plain_monitor.specs.declared.entry.Path.{Path}
 use Rattle.plain_monitor.specs.declared.entry.Path.TheVariants.{StackFirst, StackAgain, MonitorFirst, MonitorAgain}
 use Rattle.core_world.specs.declared.plan.StepPlan.{StepPlan}
-use Rattle.core_world.specs.declared.name.Name.TheVariants.{Mark}
-use Rattle.core_world.specs.declared.plan.Own.TheVariants as own
+use Rattle.core_world.specs.declared.word_id.WordId.TheVariants.{Mark}
+use Rattle.core_world.specs.declared.plan.LocalEffect.TheVariants as own
 use Rattle.core_world.specs.declared.stage.Stage.{Stage}
-use Rattle.core_world.specs.declared.stage.Stage.TheVariants.{Calm, Grabs, Ahead, Inflates}
+use Rattle.core_world.specs.declared.stage.Stage.TheVariants.{Settled, MonitorAcquired, RecursionsRaised, Inflates}
 use Rattle.core_world.specs.declared.answer.StackOut.{StackOut}
 use Rattle.core_world.specs.declared.answer.StackOut.TheVariants.{Left, Monitor, Not}
-use Rattle.core_world.specs.declared.answer.Why.TheVariants as why
+use Rattle.core_world.specs.declared.answer.PendingCause.TheVariants as why
 use Rattle.core_world.specs.Words.Forms.{is_entering, is_biased}
 use Rattle.core_world.specs.Words.Shape.{Shape}
-use Rattle.core_world.specs.Threads.Known.{Local}
+use Rattle.core_world.specs.Threads.ThreadView.{Local}
 use Rattle.core_world.specs.Locks.{hold_count}
-use Rattle.core_world.specs.Trees.Plans.{Purpose, with_own, store, swap, done_with, pending_for}
-use Rattle.core_world.specs.Trees.Todo.{Todo, step, ◌>>=◌, ask}
+use Rattle.core_world.specs.Trees.Plans.{CallContext, with_own, store, swap, done_with, pending_for}
+use Rattle.core_world.specs.Trees.StepTree.{StepTree, step, ◌>>=◌, ask}
 use Rattle.core_world.specs.Trees.LockSteps.{hold_steps, stack_enter_at, stack_exit_at, raise_steps, stack_exit_steps}
-use Rattle.core_world.specs.Trees.MonitorSteps.{inflate_with, inflate_by, inflate_at, inflate_steps, record_steps, monitor_enter_at, monitor_enter_steps, monitor_exit_steps}
+use Rattle.core_world.specs.Trees.MonitorSteps.{inflate_with, inflate_by, inflate_at, inflate_steps, record_steps}
+use Rattle.core_world.specs.Trees.MonitorSteps.{monitor_enter_at, monitor_enter_steps, monitor_exit_steps}
 use Rattle.core_world.specs.Trees.BiasSteps.{bias_exit_steps}
 use Rattle.core_calls.proofs.Spends.{Spend, spend_done, spend_never, spend_more, spend_step, spend_either, spend_both, spend_any}
-use Rattle.core_calls.proofs.MonitorsSay.{prepare_spends, own_spends}
+use Rattle.core_calls.proofs.monitor.MonitorsSay.{prepare_spends, own_spends}
 
 -- steps of every kind
 abbrev pub Any : StepPlan → Type 0
 Any p = Unit {0}
 
-pub any_step : {A : Type 0} {rest : A → ℕ} {p : StepPlan} {f : ℕ → Todo A} {n : ℕ} → ((word : ℕ) → Spend Any rest n (f word)) → Spend Any rest (suc n) (step p f)
+pub any_step : {A : Type 0} {rest : A → ℕ} {p : StepPlan} {f : ℕ → StepTree A} {n : ℕ}
+    → ((word : ℕ) → Spend Any rest n (f word)) → Spend Any rest (suc n) (step p f)
 any_step h = spend_step tt h
 
 -- nothing is left after the answer
 abbrev pub Nothing : {A : Type 0} → A → ℕ
 Nothing a = 0
 
-module _ (e : Purpose) (k : Local) (o : ℕ) where
+module _ (e : CallContext) (k : Local) (o : ℕ) where
   pub hold_spends : (path : Path) → Spend Any Nothing 3 (hold_steps e k o path)
   hold_spends path =
       any_step {n = 2} (λ _. spend_either (is_entering k.wait)
@@ -98,19 +100,21 @@ module _ (e : Purpose) (k : Local) (o : ℕ) where
       (spend_done (omega arith))))) (omega arith)
 
   -- MONITORS
-  naming_spends : (mark m : ℕ) → Spend Any Nothing 1 (ask (with_own own.Spend (swap e (Mark o) mark (mark_of (Inflated m)))) >>= λ found. cond (found == mark) (done_with m) (pending_for (why.Raced mark found)))
+  naming_spends : (mark m : ℕ) → Spend Any Nothing 1 (ask (with_own own.DropClaim (swap e (Mark o) mark (mark_of (Inflated m)))) >>= λ found.
+      cond (found == mark) (done_with m) (pending_for (why.Raced mark found)))
   naming_spends mark m = any_step {n = 0} (λ found. spend_either (found == mark) (spend_done (omega arith)) (spend_done (omega arith)))
 
-  inflated_spends : (m : ℕ) → Spend Any Nothing 1 (ask (with_own own.Spend (store e (Mark o) (mark_of (Inflated m)))) >>= λ _. done_with m)
+  inflated_spends : (m : ℕ) → Spend Any Nothing 1 (ask (with_own own.DropClaim (store e (Mark o) (mark_of (Inflated m)))) >>= λ _. done_with m)
   inflated_spends m = any_step {n = 0} (λ _. spend_done (omega arith))
 
   pub inflate_with_spends : (form : Option MarkForm) (mark m : ℕ) → Spend Any Nothing 7 (inflate_with form e o mark m)
   inflate_with_spends (Some (Locked thread place)) mark m =
       any_step {n = 6} (λ found. spend_either (found == mark)
-      (any_step {n = 5} (λ header. spend_both {k = 1} (spend_any (prepare_spends e (Inflates o thread place) o m header (owner_of (ByRecord thread place)))) (λ _. inflated_spends m) (omega arith)))
+      (any_step {n = 5} (λ header. spend_both {k = 1} (spend_any (prepare_spends e (Inflates o thread place) o m header
+      (owner_of (ByRecord thread place)))) (λ _. inflated_spends m) (omega arith)))
       (spend_done (omega arith)))
   inflate_with_spends (Some (Neutral hash age)) mark m =
-      spend_both {k = 1} (spend_any (prepare_spends e Calm o m mark (owner_of Free))) (λ _. naming_spends mark m) (omega arith)
+      spend_both {k = 1} (spend_any (prepare_spends e Settled o m mark (owner_of Free))) (λ _. naming_spends mark m) (omega arith)
   inflate_with_spends (Some Inflating) mark m = spend_never
   inflate_with_spends (Some (Anonymous epoch age)) mark m = spend_never
   inflate_with_spends (Some (Biased thread epoch age)) mark m = spend_never
@@ -139,11 +143,13 @@ module _ (e : Purpose) (k : Local) (o : ℕ) where
   record_spends stage path = any_step {n = 3} (λ _. held_spends path)
 
   monitor_enter_at_spends : (form : Option OwnerForm) (m found : ℕ) → Spend Any Nothing 6 (monitor_enter_at form e k o m found)
-  monitor_enter_at_spends (Some Free) m found = spend_more (omega arith) (record_spends (Grabs o) MonitorFirst)
+  monitor_enter_at_spends (Some Free) m found = spend_more (omega arith) (record_spends (MonitorAcquired o) MonitorFirst)
   monitor_enter_at_spends (Some (ByThread thread)) m found =
-      spend_either (thread == k.thread) (any_step {n = 5} (λ recursions. any_step {n = 4} (λ _. record_spends (Ahead o) MonitorAgain))) (spend_more (omega arith) (any_step {n = 0} (λ _. spend_done (omega arith))))
+      spend_either (thread == k.thread) (any_step {n = 5} (λ recursions. any_step {n = 4} (λ _. record_spends (RecursionsRaised o) MonitorAgain)))
+      (spend_more (omega arith) (any_step {n = 0} (λ _. spend_done (omega arith))))
   monitor_enter_at_spends (Some (ByRecord thread place)) m found =
-      spend_either (thread == k.thread) (any_step {n = 5} (λ _. any_step {n = 4} (λ _. record_spends (Ahead o) MonitorAgain))) (spend_more (omega arith) (any_step {n = 0} (λ _. spend_done (omega arith))))
+      spend_either (thread == k.thread) (any_step {n = 5} (λ _. any_step {n = 4} (λ _. record_spends (RecursionsRaised o) MonitorAgain)))
+      (spend_more (omega arith) (any_step {n = 0} (λ _. spend_done (omega arith))))
   monitor_enter_at_spends None m found = spend_never
 
   pub monitor_enter_spends : (m : ℕ) → Spend Any Nothing 7 (monitor_enter_steps e k o m)

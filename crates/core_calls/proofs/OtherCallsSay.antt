@@ -4,47 +4,57 @@ use Rattle.mark_word.specs.Mark.{read_mark}
 use Rattle.plain_monitor.specs.declared.entry.Entry.TheVariants as entry
 use Rattle.plain_monitor.specs.declared.entry.Ending.{Ending}
 use Rattle.plain_monitor.specs.declared.entry.Value.{Value}
-use Rattle.core_world.specs.declared.task.Op.TheVariants as op
-use Rattle.core_world.specs.declared.task.Task.TheVariants as task
-use Rattle.core_world.specs.declared.stage.Stage.TheVariants.{Calm}
-use Rattle.core_world.specs.declared.answer.Turn.{Turn}
-use Rattle.core_world.specs.declared.answer.Turn.TheVariants.{Done, Pending}
-use Rattle.core_world.specs.Threads.Known.{Start, StepMade}
+use Rattle.core_world.specs.declared.heap_call.Operation.TheVariants as op
+use Rattle.core_world.specs.declared.heap_call.HeapCall.TheVariants as task
+use Rattle.core_world.specs.declared.stage.Stage.TheVariants.{Settled}
+use Rattle.core_world.specs.declared.answer.Progress.{Progress}
+use Rattle.core_world.specs.declared.answer.Progress.TheVariants.{Done, Pending}
+use Rattle.core_world.specs.Threads.ThreadView.{Start, StepMade}
 use Rattle.core_world.specs.Locks.{hold_count}
-use Rattle.core_world.specs.Trees.Plans.{Purpose, purpose, done_with}
+use Rattle.core_world.specs.Trees.Plans.{CallContext, call_context, done_with}
 use Rattle.core_world.specs.Words.Shape.{Shape}
-use Rattle.core_world.specs.Trees.Todo.{Todo, ◌>>=◌}
+use Rattle.core_world.specs.Trees.StepTree.{StepTree, ◌>>=◌}
 use Rattle.core_world.specs.Trees.LockSteps.{stack_enter_steps, stack_exit_steps}
-use Rattle.core_world.specs.Trees.SafepointSteps.{released_word, halted_word, safepoint_steps, release_safepoint, halt_steps, stop_steps, resume_steps, poll_steps, request_steps, reached_steps}
+use Rattle.core_world.specs.Trees.SafepointSteps.{released_word, halted_word, safepoint_steps, release_safepoint, halt_steps}
+use Rattle.core_world.specs.Trees.SafepointSteps.{stop_steps, resume_steps, poll_steps, request_steps, reached_steps}
 use Rattle.core_world.specs.Trees.DeflateSteps.{deflate_steps}
 use Rattle.core_world.specs.Trees.LookSteps.{take_shot_steps, stands_still_steps}
 use Rattle.core_world.specs.Trees.WaitSteps.{publish_steps}
 use Rattle.plain_monitor.specs.Endings.{ending_entry}
-use Rattle.core_world.specs.Trees.Operations.{and_then, answer, lone_purpose, get_steps, put_steps, print_steps, finish_steps, dump_going, dump_steps, check_ending, check_steps}
-use Rattle.core_world.specs.Trees.Calls.{side_purpose}
+use Rattle.core_world.specs.Trees.Operations.{and_then, answer, lone_context, get_steps, put_steps, print_steps}
+use Rattle.core_world.specs.Trees.Operations.{finish_steps, dump_going, dump_steps, check_ending, check_steps}
+use Rattle.core_world.specs.Trees.Calls.{side_context}
 use Rattle.core_calls.specs.Paths.{Always, Says, Leaves}
 use Rattle.core_calls.specs.Causes.{Caused, CausedUnder, Overtaken, is_stopping, of_requests, of_safepoints}
-use Rattle.core_calls.specs.CallsSay.{unfinished_on, GetSays, PutSays, PrintSays, FinishSays, DumpTurnSays, DumpSays, PollSays, StopSays, ResumeSays, CheckSays, IsGiven, StackEnterSays, StackExitSays, RequestSays, ReachedSays, ReleaseSays}
+use Rattle.core_calls.specs.CallsSay.{unfinished_on, GetSays, PutSays, PrintSays, FinishSays, DumpProgressSays, DumpSays, PollSays, StopSays}
+use Rattle.core_calls.specs.CallsSay.{ResumeSays, CheckSays, IsGiven, StackEnterSays, StackExitSays, RequestSays, ReachedSays, ReleaseSays}
 use Rattle.core_calls.proofs.Paths.{always_then, always_so, either_way, Silent, Still, still, still_logged, now_logged}
 use Rattle.core_calls.proofs.Spends.{spend_quietly}
-use Rattle.core_calls.proofs.LocksSay.{stack_enter_says, stack_exit_says}
-use Rattle.core_calls.proofs.WaitsSay.{publish_says}
-use Rattle.core_calls.proofs.SafepointsSay.{Polled, poll_says, stop_says, resume_says, SafeTurn, Asked, request_says, reached_says, safepoint_says, Released, release_says, halt_says}
-use Rattle.core_calls.proofs.LookSpends.{shot_spends, still_spends}
-use Rattle.core_calls.proofs.DeflationSpends.{deflate_spends}
+use Rattle.core_calls.proofs.enter_exit.LocksSay.{stack_enter_says, stack_exit_says}
+use Rattle.core_calls.proofs.wait.WaitsSay.{publish_says}
+use Rattle.core_calls.proofs.safepoint.SafepointsSay.{Polled, poll_says, stop_says, resume_says, SafeProgress, Asked, request_says}
+use Rattle.core_calls.proofs.safepoint.SafepointsSay.{reached_says, safepoint_says, Released, release_says, halt_says}
+use Rattle.core_calls.proofs.safepoint.LookSpends.{shot_spends, still_spends}
+use Rattle.core_calls.proofs.deflation.DeflationSpends.{deflate_spends}
 use Rattle.core_calls.proofs.OperationsSay.{then_says, working, no_check}
-use Rattle.core_calls.proofs.EntersSay.{nothing_yet}
+use Rattle.core_calls.proofs.enter_exit.EntersSay.{nothing_yet}
 
 pub get_says : (k : Start) (o slot : ℕ) → Says (get_steps k o slot) (GetSays k o slot)
 get_says k o slot =
-    record { by = either_way (GetSays k o slot) [] (hold_count o k.local.holds == 0) _ _ (λ none. (none, refl)) (λ some n. (some, (record { entries = refl; unfinished = λ before. refl; checking = λ before. refl }, (n, refl, inl (refl, refl, refl))))) }
+    record {
+      by = either_way (GetSays k o slot) [] (hold_count o k.local.holds == 0) _ _ (λ none. (none, refl)) (λ some n.
+          (some, (record { entries = refl; unfinished = λ before. refl; checking = λ before. refl }, (n, refl, inl (refl, refl, refl)))));
+    }
 
 pub put_says : (k : Start) (o slot : ℕ) (value : Value) → Says (put_steps k o slot value) (PutSays k o slot value)
 put_says k o slot value =
-    record { by = either_way (PutSays k o slot value) [] (hold_count o k.local.holds == 0) _ _ (λ none. (none, refl)) (λ some n. (some, (record { entries = refl; unfinished = λ before. refl; checking = λ before. refl }, inl (refl, refl)))) }
+    record {
+      by = either_way (PutSays k o slot value) [] (hold_count o k.local.holds == 0) _ _ (λ none. (none, refl))
+          (λ some n. (some, (record { entries = refl; unfinished = λ before. refl; checking = λ before. refl }, inl (refl, refl))));
+    }
 
 pub print_says : (k : Start) (value : Value) → Says (print_steps k value) (PrintSays value)
-print_says k value = record { by = publish_says (lone_purpose (task.Print value)) k.local (entry.Print value) [] nothing_yet }
+print_says k value = record { by = publish_says (lone_context (task.Print value)) k.local (entry.Print value) [] nothing_yet }
 
 pub finish_says : (k : Start) (ending : Ending) → Says (finish_steps k ending) (FinishSays ending)
 finish_says k ending = record {
@@ -53,7 +63,9 @@ finish_says k ending = record {
 }
 
 -- what a safepoint of a dump or of a check is pending for
-safely : (e : Purpose) (k : Start) (ms : List StepMade) → Still ms → Always (SafeTurn e k.local.thread (CausedUnder of_safepoints k.requesting k.local.thread 0)) ms (safepoint_steps e k.local.thread k.requesting)
+safely : (e : CallContext) (k : Start) (ms : List StepMade) → Still ms
+    → Always (SafeProgress e k.local.thread (CausedUnder of_safepoints k.requesting k.local.thread 0)) ms
+    (safepoint_steps e k.local.thread k.requesting)
 safely e k ms h =
     safepoint_says e k.local.thread (CausedUnder of_safepoints k.requesting k.local.thread 0) k.requesting
     (λ word ms moves loaded stands. (record { among = refl; cause = (moves, loaded) }, stands))
@@ -62,87 +74,97 @@ safely e k ms h =
 
 -- DUMP
 module _ (s : Shape) (k : Start) where
-  abbrev dumping : Purpose
+  abbrev dumping : CallContext
   dumping = working task.Dump (unfinished_on op.Dump 0)
 
-  abbrev Reaching : List StepMade → Turn (Unit {0}) → Type 0
-  Reaching = SafeTurn dumping k.local.thread (CausedUnder of_safepoints k.requesting k.local.thread 0)
+  abbrev Reaching : List StepMade → Progress (Unit {0}) → Type 0
+  Reaching = SafeProgress dumping k.local.thread (CausedUnder of_safepoints k.requesting k.local.thread 0)
 
-  dump_going_says : Always (DumpTurnSays k) [] (dump_going s dumping k)
+  dump_going_says : Always (DumpProgressSays k) [] (dump_going s dumping k)
   dump_going_says =
-      always_then Reaching (DumpTurnSays k) (safepoint_steps dumping k.local.thread k.requesting) (λ turn. and_then turn shoots) []
+      always_then Reaching (DumpProgressSays k) (safepoint_steps dumping k.local.thread k.requesting) (λ progress. and_then progress shoots) []
       (safely dumping k [] nothing_yet)
-      (λ ms turn so. then_says Reaching (DumpTurnSays k) turn shoots ms so
-      (λ _ reached. always_then (λ ms _. Silent dumping ms) (DumpTurnSays k) (take_shot_steps dumping s) (λ _. deflates) ms (spend_quietly ms (shot_spends dumping s) reached.0)
-      (λ ms _ silent. always_then (λ ms _. Silent dumping ms) (DumpTurnSays k) (deflate_steps s dumping Calm) (λ _. releases) ms (spend_quietly ms (deflate_spends dumping s Calm) silent)
-      (λ ms _ silent. always_then (Released dumping k.local.thread (released_word k.local.thread)) (DumpTurnSays k) (release_safepoint dumping k.local.thread) (λ _. tells) ms (release_says dumping k.local.thread Calm ms (still silent))
+      (λ ms progress so. then_says Reaching (DumpProgressSays k) progress shoots ms so
+      (λ _ reached. always_then (λ ms _. Silent dumping ms) (DumpProgressSays k)
+      (take_shot_steps dumping s) (λ _. deflates) ms (spend_quietly ms (shot_spends dumping s) reached.0)
+      (λ ms _ silent. always_then (λ ms _. Silent dumping ms) (DumpProgressSays k) (deflate_steps s dumping Settled)
+      (λ _. releases) ms (spend_quietly ms (deflate_spends dumping s Settled) silent)
+      (λ ms _ silent. always_then (Released dumping k.local.thread (released_word k.local.thread)) (DumpProgressSays k)
+      (release_safepoint dumping k.local.thread) (λ _. tells) ms (release_says dumping k.local.thread Settled ms (still silent))
       (λ ms _ so n. (refl, now_logged (entry.Dump (k.shots + 1)) None false _ n ms refl refl refl refl (still so.0), inr so.1)))))
       (λ why so. (no_check why so.0, so.1)))
     where
-      tells : Todo (Turn ℕ)
+      tells : StepTree (Progress ℕ)
       tells = publish_steps (entry.Dump (k.shots + 1)) dumping k.local >>= λ _. done_with (k.shots + 1)
 
-      releases : Todo (Turn ℕ)
+      releases : StepTree (Progress ℕ)
       releases = release_safepoint dumping k.local.thread >>= λ _. tells
 
-      deflates : Todo (Turn ℕ)
-      deflates = deflate_steps s dumping Calm >>= λ _. releases
+      deflates : StepTree (Progress ℕ)
+      deflates = deflate_steps s dumping Settled >>= λ _. releases
 
-      shoots : Unit {0} → Todo (Turn ℕ)
+      shoots : Unit {0} → StepTree (Progress ℕ)
       shoots _ = take_shot_steps dumping s >>= λ _. deflates
 
   pub dump_says : Says (dump_steps s k) (DumpSays k)
   dump_says = record {
     by = either_way (DumpSays k) [] (k.shots == 4) _ _
         (λ many. (many, refl))
-        (λ room. always_then (DumpTurnSays k) (DumpSays k) (dump_going s dumping k) answer [] dump_going_says (λ ms turn so. (room, so)));
+        (λ room. always_then (DumpProgressSays k) (DumpSays k) (dump_going s dumping k) answer [] dump_going_says (λ ms progress so. (room, so)));
   }
 
 -- POLL, STOP, RESUME
 module _ (k : Start) where
-  pub poll_call_says : Says (poll_steps (side_purpose task.Poll k)) (PollSays k)
-  poll_call_says = record { by = always_so (Polled (side_purpose task.Poll k) k.local.thread) (PollSays k) (poll_steps (side_purpose task.Poll k)) [] (poll_says (side_purpose task.Poll k) k.local.thread [] nothing_yet) by_turn }
+  pub poll_call_says : Says (poll_steps (side_context task.Poll k)) (PollSays k)
+  poll_call_says = record {
+    by = always_so (Polled (side_context task.Poll k) k.local.thread) (PollSays k) (poll_steps (side_context task.Poll k)) []
+        (poll_says (side_context task.Poll k) k.local.thread [] nothing_yet) by_progress;
+  }
     where
-      by_turn : (ms : List StepMade) (turn : Turn (Unit {0})) → Polled (side_purpose task.Poll k) k.local.thread ms turn → PollSays k ms turn
-      by_turn ms (Done x) so = so
-      by_turn ms (Pending why) so = so
+      by_progress : (ms : List StepMade) (progress : Progress (Unit {0}))
+          → Polled (side_context task.Poll k) k.local.thread ms progress → PollSays k ms progress
+      by_progress ms (Done x) so = so
+      by_progress ms (Pending why) so = so
 
-  pub stop_call_says : Says (stop_steps (side_purpose task.Stop k) k.local) (StopSays k)
-  stop_call_says = record { by = stop_says (side_purpose task.Stop k) k.local [] nothing_yet }
+  pub stop_call_says : Says (stop_steps (side_context task.Stop k) k.local) (StopSays k)
+  stop_call_says = record { by = stop_says (side_context task.Stop k) k.local [] nothing_yet }
 
-  pub resume_call_says : Says (resume_steps (side_purpose task.Resume k) k.local) (ResumeSays k)
-  resume_call_says = record { by = resume_says (side_purpose task.Resume k) k.local [] nothing_yet }
+  pub resume_call_says : Says (resume_steps (side_context task.Resume k) k.local) (ResumeSays k)
+  resume_call_says = record { by = resume_says (side_context task.Resume k) k.local [] nothing_yet }
 
 -- CHECK
 module _ (s : Shape) (k : Start) where
-  abbrev checking : Purpose
+  abbrev checking : CallContext
   checking = record { task = task.Check; unfinished = k.unfinished; check = true }
 
-  abbrev Halting : List StepMade → Turn (Unit {0}) → Type 0
-  Halting = SafeTurn checking k.local.thread (CausedUnder of_safepoints k.requesting k.local.thread 0)
+  abbrev Halting : List StepMade → Progress (Unit {0}) → Type 0
+  Halting = SafeProgress checking k.local.thread (CausedUnder of_safepoints k.requesting k.local.thread 0)
 
   ending_says : (stuck : Bool) (ms : List StepMade) → Still ms → Always (CheckSays k) ms (check_ending stuck checking k.local.thread)
-  ending_says true ms h = always_then (Released checking k.local.thread halted_word) (CheckSays k) (halt_steps checking k.local.thread) (λ _. done_with true) ms (halt_says checking k.local.thread ms h) (λ ms _ so. so)
+  ending_says true ms h = always_then (Released checking k.local.thread halted_word) (CheckSays k)
+      (halt_steps checking k.local.thread) (λ _. done_with true) ms (halt_says checking k.local.thread ms h) (λ ms _ so. so)
   ending_says false ms h =
-      always_then (Released checking k.local.thread (released_word k.local.thread)) (CheckSays k) (release_safepoint checking k.local.thread) (λ _. done_with false) ms (release_says checking k.local.thread Calm ms h) (λ ms _ so. so)
+      always_then (Released checking k.local.thread (released_word k.local.thread)) (CheckSays k) (release_safepoint checking k.local.thread)
+      (λ _. done_with false) ms (release_says checking k.local.thread Settled ms h) (λ ms _ so. so)
 
   pub check_says : Says (check_steps s k) (CheckSays k)
   check_says = record {
     by =
-        always_then Halting (CheckSays k) (safepoint_steps checking k.local.thread k.requesting) (λ turn. and_then turn looks) []
+        always_then Halting (CheckSays k) (safepoint_steps checking k.local.thread k.requesting) (λ progress. and_then progress looks) []
         (safely checking k [] nothing_yet)
-        (λ ms turn so. then_says Halting (CheckSays k) turn looks ms so
+        (λ ms progress so. then_says Halting (CheckSays k) progress looks ms so
         (λ _ reached. always_then (λ ms _. Silent checking ms) (CheckSays k) (stands_still_steps checking s) deflates ms
         (spend_quietly ms (still_spends checking s) reached.0)
-        (λ ms stuck silent. always_then (λ ms _. Silent checking ms) (CheckSays k) (deflate_steps s checking Calm) (λ _. check_ending stuck checking k.local.thread) ms
-        (spend_quietly ms (deflate_spends checking s Calm) silent) (λ ms _ silent. ending_says stuck ms (still silent))))
+        (λ ms stuck silent. always_then (λ ms _. Silent checking ms) (CheckSays k)
+        (deflate_steps s checking Settled) (λ _. check_ending stuck checking k.local.thread) ms
+        (spend_quietly ms (deflate_spends checking s Settled) silent) (λ ms _ silent. ending_says stuck ms (still silent))))
         (λ why so. (flag (is_stopping why) so.0, so.1)));
   }
     where
-      deflates : Bool → Todo (Turn Bool)
-      deflates stuck = deflate_steps s checking Calm >>= λ _. check_ending stuck checking k.local.thread
+      deflates : Bool → StepTree (Progress Bool)
+      deflates stuck = deflate_steps s checking Settled >>= λ _. check_ending stuck checking k.local.thread
 
-      looks : Unit {0} → Todo (Turn Bool)
+      looks : Unit {0} → StepTree (Progress Bool)
       looks _ = stands_still_steps checking s >>= deflates
 
       flag : {ms : List StepMade} (b : Bool) → Leaves [] k.unfinished (cond b true false) ms → Leaves [] k.unfinished b ms
@@ -150,36 +172,45 @@ module _ (s : Shape) (k : Start) where
       flag false h = h
 
 -- THE PARTS
-pub stack_enter_call_says : (k : Start) (o mark : ℕ) → Says (stack_enter_steps (lone_purpose (task.StackEnter o mark)) k.local o mark) (StackEnterSays o mark)
-stack_enter_call_says k o mark = record { by = stack_enter_says (lone_purpose (task.StackEnter o mark)) k.local o (Overtaken (IsGiven o mark)) (IsGiven o mark) (λ m word ms given. given) (λ expected found ms missed. missed) (read_mark mark) mark [] (refl, refl) nothing_yet }
+pub stack_enter_call_says : (k : Start) (o mark : ℕ) → Says (stack_enter_steps (lone_context (task.StackEnter o mark)) k.local o mark) (StackEnterSays o mark)
+stack_enter_call_says k o mark = record {
+  by = stack_enter_says (lone_context (task.StackEnter o mark)) k.local o (Overtaken (IsGiven o mark)) (IsGiven o mark)
+      (λ m word ms given. given) (λ expected found ms missed. missed) (read_mark mark) mark [] (refl, refl) nothing_yet;
+}
 
-pub stack_exit_call_says : (k : Start) (o : ℕ) → Says (stack_exit_steps (purpose (task.StackExit o) op.Exit o) k.local o) (StackExitSays k o)
-stack_exit_call_says k o = record { by = stack_exit_says (purpose (task.StackExit o) op.Exit o) k.local o [] nothing_yet }
+pub stack_exit_call_says : (k : Start) (o : ℕ) → Says (stack_exit_steps (call_context (task.StackExit o) op.Exit o) k.local o) (StackExitSays k o)
+stack_exit_call_says k o = record { by = stack_exit_says (call_context (task.StackExit o) op.Exit o) k.local o [] nothing_yet }
 
 -- no check is unfinished
-request_aside : (k : Start) → Always (RequestSays k) [] (request_steps (lone_purpose task.Request) k.local.thread)
+request_aside : (k : Start) → Always (RequestSays k) [] (request_steps (lone_context task.Request) k.local.thread)
 request_aside k =
-    always_so (Asked (lone_purpose task.Request) k.local.thread (λ why ms. Caused of_requests k.local.thread 0 why ms)) (RequestSays k) (request_steps (lone_purpose task.Request) k.local.thread) []
-    (request_says (lone_purpose task.Request) k.local.thread (λ why ms. Caused of_requests k.local.thread 0 why ms) (λ expected found ms missed. record { among = refl; cause = missed }) (λ word ms other there. record { among = refl; cause = (other, there) }) [] nothing_yet) by_turn
+    always_so (Asked (lone_context task.Request) k.local.thread (λ why ms. Caused of_requests k.local.thread 0 why ms))
+    (RequestSays k) (request_steps (lone_context task.Request) k.local.thread) []
+    (request_says (lone_context task.Request) k.local.thread (λ why ms. Caused of_requests k.local.thread 0 why ms) (λ expected found ms missed.
+    record { among = refl; cause = missed }) (λ word ms other there. record { among = refl; cause = (other, there) }) [] nothing_yet) by_progress
   where
-    by_turn : (ms : List StepMade) (turn : Turn (Unit {0})) → Asked (lone_purpose task.Request) k.local.thread (λ why ms. Caused of_requests k.local.thread 0 why ms) ms turn → RequestSays k ms turn
-    by_turn ms (Done x) so = so
-    by_turn ms (Pending why) so = (no_check why so.0, so.1)
+    by_progress : (ms : List StepMade) (progress : Progress (Unit {0})) → Asked (lone_context task.Request) k.local.thread
+        (λ why ms. Caused of_requests k.local.thread 0 why ms) ms progress → RequestSays k ms progress
+    by_progress ms (Done x) so = so
+    by_progress ms (Pending why) so = (no_check why so.0, so.1)
 
-reached_aside : (k : Start) → Always (ReachedSays k) [] (reached_steps (lone_purpose task.Reached))
+reached_aside : (k : Start) → Always (ReachedSays k) [] (reached_steps (lone_context task.Reached))
 reached_aside k =
-    always_so (SafeTurn (lone_purpose task.Reached) k.local.thread (λ why ms. Caused is_stopping k.local.thread 0 why ms)) (ReachedSays k) (reached_steps (lone_purpose task.Reached)) []
-    (reached_says (lone_purpose task.Reached) k.local.thread (λ why ms. Caused is_stopping k.local.thread 0 why ms) true (λ word ms moves loaded stands. record { among = refl; cause = (moves, loaded) }) [] (inl refl) nothing_yet) by_turn
+    always_so (SafeProgress (lone_context task.Reached) k.local.thread (λ why ms. Caused is_stopping k.local.thread 0 why ms))
+    (ReachedSays k) (reached_steps (lone_context task.Reached)) []
+    (reached_says (lone_context task.Reached) k.local.thread (λ why ms. Caused is_stopping k.local.thread 0 why ms) true
+    (λ word ms moves loaded stands. record { among = refl; cause = (moves, loaded) }) [] (inl refl) nothing_yet) by_progress
   where
-    by_turn : (ms : List StepMade) (turn : Turn (Unit {0})) → SafeTurn (lone_purpose task.Reached) k.local.thread (λ why ms. Caused is_stopping k.local.thread 0 why ms) ms turn → ReachedSays k ms turn
-    by_turn ms (Done x) so = so
-    by_turn ms (Pending why) so = (no_check why so.0, so.1)
+    by_progress : (ms : List StepMade) (progress : Progress (Unit {0})) → SafeProgress (lone_context task.Reached) k.local.thread
+        (λ why ms. Caused is_stopping k.local.thread 0 why ms) ms progress → ReachedSays k ms progress
+    by_progress ms (Done x) so = so
+    by_progress ms (Pending why) so = (no_check why so.0, so.1)
 
-pub request_call_says : (k : Start) → Says (request_steps (lone_purpose task.Request) k.local.thread) (RequestSays k)
+pub request_call_says : (k : Start) → Says (request_steps (lone_context task.Request) k.local.thread) (RequestSays k)
 request_call_says k = record { by = request_aside k }
 
-pub reached_call_says : (k : Start) → Says (reached_steps (lone_purpose task.Reached)) (ReachedSays k)
+pub reached_call_says : (k : Start) → Says (reached_steps (lone_context task.Reached)) (ReachedSays k)
 reached_call_says k = record { by = reached_aside k }
 
-pub release_call_says : (k : Start) → Says (release_safepoint (lone_purpose task.Release) k.local.thread) (ReleaseSays k)
-release_call_says k = record { by = release_says (lone_purpose task.Release) k.local.thread Calm [] nothing_yet }
+pub release_call_says : (k : Start) → Says (release_safepoint (lone_context task.Release) k.local.thread) (ReleaseSays k)
+release_call_says k = record { by = release_says (lone_context task.Release) k.local.thread Settled [] nothing_yet }

@@ -12,52 +12,59 @@ use Rattle.mark_word.specs.Wait.{read_wait}
 use Rattle.plain_monitor.specs.declared.entry.Entry.{Entry}
 use Rattle.plain_monitor.specs.declared.entry.Path.{Path}
 use Rattle.plain_monitor.specs.declared.entry.Path.TheVariants.{BiasOwn, BiasTaken}
-use Rattle.core_world.specs.declared.name.Name.{Name}
-use Rattle.core_world.specs.declared.name.Name.TheVariants.{Waiting, Mark, Header, Recursions, Stamp, Owner}
-use Rattle.core_world.specs.declared.act.Act.TheVariants.{Raise}
-use Rattle.core_world.specs.declared.plan.Own.TheVariants as own
+use Rattle.core_world.specs.declared.word_id.WordId.{WordId}
+use Rattle.core_world.specs.declared.word_id.WordId.TheVariants.{Waiting, Mark, Header, Recursions, Stamp, Owner}
+use Rattle.core_world.specs.declared.act.Act.TheVariants.{FetchMax}
+use Rattle.core_world.specs.declared.plan.LocalEffect.TheVariants as own
 use Rattle.core_world.specs.declared.stage.Stage.{Stage}
-use Rattle.core_world.specs.declared.stage.Stage.TheVariants.{Waits, Calm}
+use Rattle.core_world.specs.declared.stage.Stage.TheVariants.{Waits, Settled}
 use Rattle.core_world.specs.declared.answer.BiasTry.{BiasTry}
 use Rattle.core_world.specs.declared.answer.BiasTry.TheVariants.{Took, Unbiased, Valid, Raced}
-use Rattle.core_world.specs.declared.answer.Turn.{Turn}
-use Rattle.core_world.specs.declared.answer.Turn.TheVariants.{Done, Pending}
-use Rattle.core_world.specs.declared.answer.Why.{Why}
-use Rattle.core_world.specs.declared.answer.Why.TheVariants as why
+use Rattle.core_world.specs.declared.answer.Progress.{Progress}
+use Rattle.core_world.specs.declared.answer.Progress.TheVariants.{Done, Pending}
+use Rattle.core_world.specs.declared.answer.PendingCause.{PendingCause}
+use Rattle.core_world.specs.declared.answer.PendingCause.TheVariants as why
 use Rattle.core_world.specs.Words.Forms.{epoch_in, is_biased, is_still, hash_in}
 use Rattle.core_world.specs.Words.Shape.{Shape}
-use Rattle.core_world.specs.Threads.Known.{Local}
-use Rattle.core_world.specs.Trees.Plans.{Purpose, quiet_plan, with_stage, with_own, load, store, pending_for, next_stamp}
-use Rattle.core_world.specs.Trees.Todo.{Todo, done, ◌>>=◌, ask}
-use Rattle.core_world.specs.Trees.WaitSteps.{log_wait_steps, monitor_wait_steps, resumed_steps, resume_owner_at, resume_mark_at, resume_at, monitor_resume_steps, waiters, by_age, publish_steps, notify_first, monitor_notify_steps, notify_each, notify_listed, monitor_notify_all_steps}
-use Rattle.core_world.specs.Trees.BiasSteps.{took_steps, unbias_swap_steps, rebias_steps, bias_enter_at, bias_enter_by, bias_enter_steps, bias_drop_at, bias_drop_by, bias_drop_steps, bias_after_at, bias_after_steps}
-use Rattle.core_world.specs.Trees.SafepointSteps.{has_requester, reached_word, bar, unless, stop_steps, resume_swap_steps, resume_steps, poll_steps, request_swap_steps, request_steps, reached_steps, then_reached, safepoint_steps, release_to, halt_steps}
-use Rattle.core_world.specs.Trees.HashSteps.{NextDraw, draw_steps, hash_monitor_steps, hash_displaced_steps, hash_inflated, hash_inflate_steps, hash_unless, hash_mark_steps, hash_header_steps}
+use Rattle.core_world.specs.Threads.ThreadView.{Local}
+use Rattle.core_world.specs.Trees.Plans.{CallContext, quiet_plan, with_stage, with_own, load, store, pending_for, next_stamp}
+use Rattle.core_world.specs.Trees.StepTree.{StepTree, done, ◌>>=◌, ask}
+use Rattle.core_world.specs.Trees.WaitSteps.{log_wait_steps, monitor_wait_steps, resumed_steps, resume_owner_at, resume_mark_at}
+use Rattle.core_world.specs.Trees.WaitSteps.{resume_at, monitor_resume_steps, waiters, by_age, publish_steps, notify_first}
+use Rattle.core_world.specs.Trees.WaitSteps.{monitor_notify_steps, notify_each, notify_listed, monitor_notify_all_steps}
+use Rattle.core_world.specs.Trees.BiasSteps.{took_steps, unbias_swap_steps, rebias_steps, bias_enter_at, bias_enter_by, bias_enter_steps}
+use Rattle.core_world.specs.Trees.BiasSteps.{bias_drop_at, bias_drop_by, bias_drop_steps, bias_after_at, bias_after_steps}
+use Rattle.core_world.specs.Trees.SafepointSteps.{has_requester, reached_word, bar, unless, stop_steps, resume_swap_steps}
+use Rattle.core_world.specs.Trees.SafepointSteps.{resume_steps, poll_steps, request_swap_steps, request_steps, reached_steps}
+use Rattle.core_world.specs.Trees.SafepointSteps.{then_reached, safepoint_steps, release_to, halt_steps}
+use Rattle.core_world.specs.Trees.HashSteps.{NextDraw, draw_steps, hash_monitor_steps, hash_displaced_steps, hash_inflated}
+use Rattle.core_world.specs.Trees.HashSteps.{hash_inflate_steps, hash_unless, hash_mark_steps, hash_header_steps}
 use Rattle.core_calls.proofs.Spends.{Spend, spend_done, spend_never, spend_more, spend_either, spend_then, spend_both, spend_list, spend_any, spend_class}
-use Rattle.core_calls.proofs.MonitorsSay.{own_spends}
-use Rattle.core_calls.proofs.WaitsSay.{look_spends}
+use Rattle.core_calls.proofs.monitor.MonitorsSay.{own_spends}
+use Rattle.core_calls.proofs.wait.WaitsSay.{look_spends}
 use Rattle.core_calls.proofs.LocksSpend.{Any, any_step, Nothing, hold_spends, inflate_spends}
-use Rattle.core_calls.proofs.Waiters.{as_many, few_waiters}
+use Rattle.core_calls.proofs.wait.Waiters.{as_many, few_waiters}
 
 -- WAIT AND NOTIFY
 -- from the load of the recursions on
-abbrev lets_go : Purpose → Local → ℕ → ℕ → Todo ℕ
+abbrev lets_go : CallContext → Local → ℕ → ℕ → StepTree ℕ
 lets_go e k o m = do
-  recursions ← ask (with_own own.Save (load e (Recursions m)))
-  _ ← ask (quiet_plan e (Stamp o) (Raise (next_stamp k)))
+  recursions ← ask (with_own own.SaveRecursions (load e (Recursions m)))
+  _ ← ask (quiet_plan e (Stamp o) (FetchMax (next_stamp k)))
   _ ← log_wait_steps e k o
   _ ← ask (with_stage (Waits o) (store e (Recursions m) 0))
   _ ← ask (store e (Owner m) (owner_of Free))
   done recursions
 
-pub monitor_wait_spends : (e : Purpose) (k : Local) (o m : ℕ) → Spend Any Nothing 8 (monitor_wait_steps e k o m)
+pub monitor_wait_spends : (e : CallContext) (k : Local) (o m : ℕ) → Spend Any Nothing 8 (monitor_wait_steps e k o m)
 monitor_wait_spends e k o m =
     any_step {n = 7} (λ owner. spend_both {k = 5} (spend_any (own_spends (read_owner owner) e k o m)) (λ _. letting_go) (omega arith))
   where
     letting_go : Spend Any Nothing 5 (lets_go e k o m)
-    letting_go = any_step {n = 4} (λ recursions. any_step {n = 3} (λ _. any_step {n = 2} (λ _. any_step {n = 1} (λ _. any_step {n = 0} (λ _. spend_done (omega arith))))))
+    letting_go = any_step {n = 4} (λ recursions. any_step {n = 3}
+        (λ _. any_step {n = 2} (λ _. any_step {n = 1} (λ _. any_step {n = 0} (λ _. spend_done (omega arith))))))
 
-module _ (e : Purpose) (t saved o : ℕ) where
+module _ (e : CallContext) (t saved o : ℕ) where
   resumed_spends : (m : ℕ) → Spend Any Nothing 3 (resumed_steps e t saved o m)
   resumed_spends m = any_step {n = 2} (λ _. any_step {n = 1} (λ _. any_step {n = 0} (λ _. spend_done (omega arith))))
 
@@ -88,7 +95,7 @@ module _ (e : Purpose) (t saved o : ℕ) where
   pub monitor_resume_spends : Spend Any Nothing 6 (monitor_resume_steps e t saved o)
   monitor_resume_spends = any_step {n = 5} (λ word. wait_spends (read_wait word) word)
 
-module _ (e : Purpose) (k : Local) (o : ℕ) where
+module _ (e : CallContext) (k : Local) (o : ℕ) where
   pub publish_spends : (told : Entry) → Spend Any Nothing 1 (publish_steps told e k)
   publish_spends told = any_step {n = 0} (λ _. spend_done (omega arith))
 
@@ -112,7 +119,8 @@ module _ (e : Purpose) (k : Local) (o : ℕ) where
 
   pub notify_all_spends : (n : ℕ) → Spend Any Nothing (n + n + 1) (monitor_notify_all_steps e k n o)
   notify_all_spends n =
-      spend_then (spend_any (look_spends e n 1)) (λ words. spend_more (omega (arith, as_many (waiters o 0 words), few_waiters o 0 words)) (listed_spends (by_age (waiters o 0 words))))
+      spend_then (spend_any (look_spends e n 1))
+      (λ words. spend_more (omega (arith, as_many (waiters o 0 words), few_waiters o 0 words)) (listed_spends (by_age (waiters o 0 words))))
 
 -- BIASES. A valid bias needs a safepoint, for which so many are left; without a bias so many are left.
 abbrev pub to_revoke : ℕ → BiasTry → ℕ
@@ -127,12 +135,14 @@ to_enter n u (Unbiased mark) = u
 to_enter n u (Valid mark) = n
 to_enter n u (Raced expected found) = 0
 
-module _ (e : Purpose) (o n : ℕ) (one : 1 ≤ n) where
+module _ (e : CallContext) (o n : ℕ) (one : 1 ≤ n) where
   unbias_spends : (mark neutral : ℕ) → Spend Any (to_revoke n) n (unbias_swap_steps e o mark neutral)
-  unbias_spends mark neutral = spend_more one (any_step {n = 0} (λ found. spend_either (found == mark) (spend_done {a = Unbiased neutral} (omega arith)) (spend_done {a = Raced mark found} (omega arith))))
+  unbias_spends mark neutral = spend_more one (any_step {n = 0}
+      (λ found. spend_either (found == mark) (spend_done {a = Unbiased neutral} (omega arith)) (spend_done {a = Raced mark found} (omega arith))))
 
   drop_at_spends : (form : Option MarkForm) (epoch mark : ℕ) → Spend Any (to_revoke n) n (bias_drop_at form epoch e o mark)
-  drop_at_spends (Some (Biased thread old age)) epoch mark = spend_either (old == epoch) (spend_done {a = Valid mark} (omega arith)) (unbias_spends mark (mark_of (Neutral 0 0)))
+  drop_at_spends (Some (Biased thread old age)) epoch mark =
+      spend_either (old == epoch) (spend_done {a = Valid mark} (omega arith)) (unbias_spends mark (mark_of (Neutral 0 0)))
   drop_at_spends (Some (Anonymous old age)) epoch mark = unbias_spends mark (mark_of (Neutral 0 0))
   drop_at_spends (Some Inflating) epoch mark = spend_never
   drop_at_spends (Some (Neutral hash age)) epoch mark = spend_never
@@ -148,21 +158,23 @@ module _ (e : Purpose) (o n : ℕ) (one : 1 ≤ n) where
   pub bias_drop_spends : (s : Shape) → Spend Any (to_revoke n) (n + 3) (bias_drop_steps s e o)
   bias_drop_spends s =
       spend_more (omega arith) (any_step {n = n + 2} (λ mark. spend_either (is_biased mark)
-      (spend_more (omega arith) (spend_class {n = n + 1} e Calm s o tt (λ class.
+      (spend_more (omega arith) (spend_class {n = n + 1} e Settled s o tt (λ class.
       spend_more (omega arith) (any_step {n = n} (λ prototype. drop_by_spends (epoch_in prototype) mark prototype)))))
       (spend_done {a = Unbiased mark} (omega arith))))
 
-module _ (e : Purpose) (k : Local) (o n u : ℕ) where
+module _ (e : CallContext) (k : Local) (o n u : ℕ) where
   pub took_spends : (path : Path) → Spend Any (to_enter n u) 3 (took_steps e k o path)
   took_spends path = spend_both (hold_spends e k o path) (λ path. spend_done {a = Took path} {n = 0} (omega arith)) (omega arith)
 
-module _ (e : Purpose) (k : Local) (o n u m : ℕ) (four : 4 ≤ m) (more : u + 1 ≤ m) (least : n ≤ m) where
+module _ (e : CallContext) (k : Local) (o n u m : ℕ) (four : 4 ≤ m) (more : u + 1 ≤ m) (least : n ≤ m) where
   rebias_spends : (mark epoch : ℕ) → Spend Any (to_enter n u) m (rebias_steps e k o mark epoch)
-  rebias_spends mark epoch = spend_more four (any_step {n = 3} (λ found. spend_either (found == mark) (took_spends e k o n u BiasTaken) (spend_done {a = Raced mark found} (omega arith))))
+  rebias_spends mark epoch = spend_more four
+      (any_step {n = 3} (λ found. spend_either (found == mark) (took_spends e k o n u BiasTaken) (spend_done {a = Raced mark found} (omega arith))))
 
   enter_at_spends : (form : Option MarkForm) (epoch mark : ℕ) → Spend Any (to_enter n u) m (bias_enter_at form epoch e k o mark)
   enter_at_spends (Some (Biased thread old age)) epoch mark =
-      spend_either (old == epoch) (spend_either (thread == k.thread) (spend_more (omega (arith, four)) (took_spends e k o n u BiasOwn)) (spend_done {a = Valid mark} least)) (rebias_spends mark epoch)
+      spend_either (old == epoch) (spend_either (thread == k.thread) (spend_more (omega (arith, four)) (took_spends e k o n u BiasOwn))
+      (spend_done {a = Valid mark} least)) (rebias_spends mark epoch)
   enter_at_spends (Some (Anonymous old age)) epoch mark = rebias_spends mark epoch
   enter_at_spends (Some Inflating) epoch mark = spend_never
   enter_at_spends (Some (Neutral hash age)) epoch mark = spend_never
@@ -173,7 +185,8 @@ module _ (e : Purpose) (k : Local) (o n u m : ℕ) (four : 4 ≤ m) (more : u + 
 
   enter_by_spends : (form : Option MarkForm) (mark prototype : ℕ) → Spend Any (to_enter n u) m (bias_enter_by form e k o mark prototype)
   enter_by_spends (Some (Neutral hash age)) mark prototype =
-      spend_more more (spend_more (omega arith) (any_step {n = u} (λ found. spend_either (found == mark) (spend_done {a = Unbiased prototype} (omega arith)) (spend_done {a = Raced mark found} (omega arith)))))
+      spend_more more (spend_more (omega arith) (any_step {n = u} (λ found. spend_either (found == mark)
+      (spend_done {a = Unbiased prototype} (omega arith)) (spend_done {a = Raced mark found} (omega arith)))))
   enter_by_spends (Some (Anonymous epoch age)) mark prototype = enter_at_spends (read_mark mark) epoch mark
   enter_by_spends (Some Inflating) mark prototype = spend_never
   enter_by_spends (Some (Biased thread epoch age)) mark prototype = spend_never
@@ -185,12 +198,12 @@ module _ (e : Purpose) (k : Local) (o n u m : ℕ) (four : 4 ≤ m) (more : u + 
   pub bias_enter_spends : (s : Shape) → Spend Any (to_enter n u) (m + 3) (bias_enter_steps s e k o)
   bias_enter_spends s =
       spend_more (omega arith) (any_step {n = m + 2} (λ mark. spend_either (is_biased mark)
-      (spend_more (omega arith) (spend_class {n = m + 1} e Calm s o tt (λ class.
+      (spend_more (omega arith) (spend_class {n = m + 1} e Settled s o tt (λ class.
       spend_more (omega arith) (any_step {n = m} (λ prototype. enter_by_spends (read_mark prototype) mark prototype)))))
       (spend_done {a = Unbiased mark} (omega (arith, more)))))
 
--- behind a revocation the mark is loaded again, and is not exchanged
-module _ (e : Purpose) (k : Local) (o n u m : ℕ) (three : 3 ≤ m) (room : u ≤ m) where
+-- after a revocation the mark is loaded again, and is not exchanged
+module _ (e : CallContext) (k : Local) (o n u m : ℕ) (three : 3 ≤ m) (room : u ≤ m) where
   after_at_spends : (form : Option MarkForm) → Spend Any (to_enter n u) m (bias_after_at form e k o)
   after_at_spends (Some (Biased thread epoch age)) = spend_either (thread == k.thread) (spend_more three (took_spends e k o n u BiasTaken)) spend_never
   after_at_spends (Some (Anonymous epoch age)) = spend_never
@@ -203,25 +216,29 @@ module _ (e : Purpose) (k : Local) (o n u m : ℕ) (three : 3 ≤ m) (room : u �
 
   pub bias_after_spends : (took : Bool) → Spend Any (to_enter n u) (m + 1) (bias_after_steps e k o took)
   bias_after_spends took =
-      spend_more (omega arith) (any_step {n = m} (λ mark. spend_either (is_biased mark) (after_at_spends (read_mark mark)) (spend_done {a = Unbiased mark} room)))
+      spend_more (omega arith) (any_step {n = m}
+      (λ mark. spend_either (is_biased mark) (after_at_spends (read_mark mark)) (spend_done {a = Unbiased mark} room)))
 
 -- SAFEPOINTS
-module _ (e : Purpose) (t : ℕ) where
+module _ (e : CallContext) (t : ℕ) where
   pub poll_spends : Spend Any Nothing 1 (poll_steps e)
-  poll_spends = any_step {n = 0} (λ word. spend_either (has_requester word) (spend_done {a = Pending (why.Requested word)} (omega arith)) (spend_done {a = Done tt} (omega arith)))
+  poll_spends = any_step {n = 0} (λ word. spend_either (has_requester word)
+      (spend_done {a = Pending (why.Requested word)} (omega arith)) (spend_done {a = Done tt} (omega arith)))
 
   swap_spends : (word : ℕ) → Spend Any Nothing 1 (request_swap_steps e t word)
   swap_spends word =
       any_step {n = 0} (λ found. spend_either (found == word) (spend_done {a = Done tt} (omega arith))
-      (spend_either (has_requester found) (spend_done {a = Pending (why.Requested found)} (omega arith)) (spend_done {a = Pending (why.Raced word found)} (omega arith))))
+      (spend_either (has_requester found) (spend_done {a = Pending (why.Requested found)} (omega arith))
+      (spend_done {a = Pending (why.Raced word found)} (omega arith))))
 
   pub request_spends : Spend Any Nothing 2 (request_steps e t)
   request_spends = any_step {n = 1} (λ word. spend_either (has_requester word) (spend_done {a = Pending (why.Requested word)} (omega arith)) (swap_spends word))
 
   pub reached_spends : Spend Any Nothing 1 (reached_steps e)
-  reached_spends = any_step {n = 0} (λ word. spend_either (is_still word) (spend_done {a = Done tt} (omega arith)) (spend_done {a = Pending (why.Stopping word)} (omega arith)))
+  reached_spends = any_step {n = 0}
+      (λ word. spend_either (is_still word) (spend_done {a = Done tt} (omega arith)) (spend_done {a = Pending (why.Stopping word)} (omega arith)))
 
-  then_spends : (turn : Turn (Unit {0})) → Spend Any Nothing 1 (then_reached e turn)
+  then_spends : (progress : Progress (Unit {0})) → Spend Any Nothing 1 (then_reached e progress)
   then_spends (Done x) = reached_spends
   then_spends (Pending why) = spend_done {a = Pending why} (omega arith)
 
@@ -234,30 +251,33 @@ module _ (e : Purpose) (t : ℕ) where
   pub halt_spends : Spend Any Nothing 1 (halt_steps e t)
   halt_spends = any_step {n = 0} (λ found. spend_either (found == reached_word t) (spend_done (omega arith)) spend_never)
 
-module _ (e : Purpose) (k : Local) where
+module _ (e : CallContext) (k : Local) where
   pub stop_spends : Spend Any Nothing 2 (stop_steps e k)
   stop_spends = any_step {n = 1} (λ _. any_step {n = 0} (λ _. spend_done (omega arith)))
 
-  barred_spends : (bars : Option Why) (n : ℕ) (d : Todo (Turn (Unit {0}))) → Spend Any Nothing n d → Spend Any Nothing n (unless bars d)
+  barred_spends : (bars : Option PendingCause) (n : ℕ) (d : StepTree (Progress (Unit {0}))) → Spend Any Nothing n d → Spend Any Nothing n (unless bars d)
   barred_spends (Some why) n d h = spend_done {a = Pending why} (omega arith)
   barred_spends None n d h = h
 
   resume_swap_spends : (word : ℕ) → Spend Any Nothing 1 (resume_swap_steps e k word)
   resume_swap_spends word =
-      any_step {n = 0} (λ found. spend_either (found == word) (spend_done {a = Done tt} (omega arith)) (barred_spends (bar found) 0 (pending_for (why.Raced word found)) (spend_done {a = Pending (why.Raced word found)} (omega arith))))
+      any_step {n = 0} (λ found. spend_either (found == word) (spend_done {a = Done tt} (omega arith))
+      (barred_spends (bar found) 0 (pending_for (why.Raced word found)) (spend_done {a = Pending (why.Raced word found)} (omega arith))))
 
   pub resume_spends : Spend Any Nothing 2 (resume_steps e k)
   resume_spends = any_step {n = 1} (λ word. barred_spends (bar word) 1 (resume_swap_steps e k word) (resume_swap_spends word))
 
 -- HASHES
-module _ (s : Shape) (e : Purpose) (k : Local) (draw : NextDraw) (o : ℕ) where
-  draw_spends : (at : Name) (header : ℕ) → Spend Any Nothing 1 (draw_steps e draw at o header)
-  draw_spends at header = any_step {n = 0} (λ found. spend_either (found == header) (spend_done {a = Done draw.value} (omega arith)) (spend_done {a = Pending (why.Raced header found)} (omega arith)))
+module _ (s : Shape) (e : CallContext) (k : Local) (draw : NextDraw) (o : ℕ) where
+  draw_spends : (at : WordId) (header : ℕ) → Spend Any Nothing 1 (draw_steps e draw at o header)
+  draw_spends at header = any_step {n = 0} (λ found. spend_either (found == header)
+      (spend_done {a = Done draw.value} (omega arith)) (spend_done {a = Pending (why.Raced header found)} (omega arith)))
 
   hash_monitor_spends : (m : ℕ) → Spend Any Nothing 2 (hash_monitor_steps e draw o m)
-  hash_monitor_spends m = any_step {n = 1} (λ header. spend_either (hash_in header == 0) (draw_spends (Header m) header) (spend_done {a = Done (hash_in header)} (omega arith)))
+  hash_monitor_spends m = any_step {n = 1}
+      (λ header. spend_either (hash_in header == 0) (draw_spends (Header m) header) (spend_done {a = Done (hash_in header)} (omega arith)))
 
-  inflated_spends : (turn : Turn ℕ) → Spend Any Nothing 2 (hash_inflated e draw o turn)
+  inflated_spends : (progress : Progress ℕ) → Spend Any Nothing 2 (hash_inflated e draw o progress)
   inflated_spends (Done m) = hash_monitor_spends m
   inflated_spends (Pending why) = spend_done {a = Pending why} (omega arith)
 
@@ -273,9 +293,11 @@ module _ (s : Shape) (e : Purpose) (k : Local) (draw : NextDraw) (o : ℕ) where
 
   hash_at_spends : (form : Option MarkForm) (kept : Option ℕ) (mark : ℕ) → Spend Any Nothing 13 (hash_mark_steps form s e k kept draw o mark)
   hash_at_spends (Some Inflating) kept mark = spend_done {a = Pending why.Inflating} (omega arith)
-  hash_at_spends (Some (Neutral hash age)) kept mark = spend_either (hash == 0) (spend_more (omega arith) (draw_spends (Mark o) mark)) (spend_done {a = Done hash} (omega arith))
+  hash_at_spends (Some (Neutral hash age)) kept mark =
+      spend_either (hash == 0) (spend_more (omega arith) (draw_spends (Mark o) mark)) (spend_done {a = Done hash} (omega arith))
   hash_at_spends (Some (Locked thread place)) kept mark =
-      spend_either (thread == k.thread) (spend_both {k = 12} displaced_spends (λ found. unless_spends found kept) (omega arith)) (spend_more (omega arith) (hash_inflate_spends kept))
+      spend_either (thread == k.thread) (spend_both {k = 12} displaced_spends (λ found. unless_spends found kept) (omega arith))
+      (spend_more (omega arith) (hash_inflate_spends kept))
   hash_at_spends (Some (Inflated monitor)) kept mark = spend_more (omega arith) (hash_monitor_spends monitor)
   hash_at_spends (Some (Anonymous epoch age)) kept mark = spend_never
   hash_at_spends (Some (Biased thread epoch age)) kept mark = spend_never

@@ -1,15 +1,17 @@
 -- How many atomic steps a call makes at most, whatever words its steps find: no call waits or tries again.
 use Rattle.std.specs.Prelude.{ℕ, zero, suc, ◌+◌, ◌*◌, length, nat_lt, if◌then◌else◌}
 use Rattle.plain_monitor.specs.Limits.{most_holds}
-use Rattle.core_world.specs.declared.task.Task.{Task}
-use Rattle.core_world.specs.declared.task.Task.TheVariants.{Enter, Exit, Wait, Notify, NotifyAll, Hash, Get, Put, Print, Dump, Create, Finish, Poll, Stop, Resume, Check, StackEnter, StackExit, Request, Reached, Release}
+use Rattle.core_world.specs.declared.heap_call.HeapCall.{HeapCall}
+use Rattle.core_world.specs.declared.heap_call.HeapCall.TheVariants.{Enter, Exit, Wait, Notify, NotifyAll, Hash, Get, Put}
+use Rattle.core_world.specs.declared.heap_call.HeapCall.TheVariants.{Print, Dump, Create, Finish, Poll, Stop, Resume, Check}
+use Rattle.core_world.specs.declared.heap_call.HeapCall.TheVariants.{StackEnter, StackExit, Request, Reached, Release}
 use Rattle.core_world.specs.Words.Shape.{Shape, monitor_count}
-use Rattle.core_world.specs.Trees.Todo.{Todo, done, never, step, after_answer}
+use Rattle.core_world.specs.Trees.StepTree.{StepTree, done, unreachable, step, after_answer}
 
 -- on no path are there more than n steps
-abbrev pub IsWithin : {A : Type 0} → ℕ → Todo A → Type 0
+abbrev pub IsWithin : {A : Type 0} → ℕ → StepTree A → Type 0
 IsWithin n (done a) = Unit {0}
-IsWithin n never = Unit {0}
+IsWithin n unreachable = Unit {0}
 IsWithin zero (step p f) = ⊥
 IsWithin (suc n) (step p f) = (word : ℕ) → IsWithin n (f word)
 
@@ -29,7 +31,7 @@ abbrev pub a_revocation : Shape → ℕ
 a_revocation s = most_holds * a_visit * s.threads + 144 + a_deflation s
 
 -- at most so many steps has a call; a dump and a check give idle monitors back too
-abbrev pub most_steps : Shape → Task → ℕ
+abbrev pub most_steps : Shape → HeapCall → ℕ
 most_steps s (Enter o now) = a_revocation s + 21
 most_steps s (Exit o) = 11
 most_steps s (Wait o now) = a_revocation s + 27
@@ -53,5 +55,5 @@ most_steps s Reached = 1
 most_steps s Release = 1
 
 -- what is left to do once the class of o is found, whatever its class word is: nothing is loaded where o is declared
-abbrev pub after_class : {A : Type 0} → Shape → ℕ → ℕ → Todo A → Todo A
+abbrev pub after_class : {A : Type 0} → Shape → ℕ → ℕ → StepTree A → StepTree A
 after_class s o word d = if nat_lt o s.declared then d else after_answer d word

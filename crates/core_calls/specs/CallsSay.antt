@@ -1,5 +1,6 @@
 -- What each call logs and leaves, by its answer, and why it is pending.
-use Rattle.std.specs.Prelude.{◌≡◌, ◌≢◌, ◌⊎◌, ℕ, ◌+◌, ◌==◌, ◌&&◌, ◌||◌, nat_lt, not, cond, Bool, true, false, List, [], ◌∷◌, length, Option, Some, None, Result, Ok, Err}
+use Rattle.std.specs.Prelude.{◌≡◌, ◌≢◌, ◌⊎◌, ℕ, ◌+◌, ◌==◌, ◌&&◌, ◌||◌, nat_lt, not, cond, Bool, true}
+use Rattle.std.specs.Prelude.{false, List, [], ◌∷◌, length, Option, Some, None, Result, Ok, Err}
 use Rattle.plain_monitor.specs.Limits.{most_holds, most_made}
 use Rattle.plain_monitor.specs.declared.entry.Entry.{Entry}
 use Rattle.plain_monitor.specs.declared.entry.Entry.TheVariants as entry
@@ -10,25 +11,25 @@ use Rattle.plain_monitor.specs.ValueWords.{word_of, read_value}
 use Rattle.mark_word.specs.declared.mark.MarkForm.TheVariants.{Neutral, Inflated}
 use Rattle.mark_word.specs.Mark.{mark_of, read_mark}
 use Rattle.mark_word.specs.Safe.{read_safe}
-use Rattle.core_world.specs.declared.act.Act.TheVariants.{Load, Store, Swap, Mask}
-use Rattle.core_world.specs.declared.name.Name.{Name}
-use Rattle.core_world.specs.declared.name.Name.TheVariants.{Safepoint, Prototype, Mark, Class, Slot, Displaced, Header, Length}
-use Rattle.core_world.specs.declared.task.Op.{Op}
-use Rattle.core_world.specs.declared.task.Op.TheVariants as op
-use Rattle.core_world.specs.declared.task.Unfinished.{Unfinished}
+use Rattle.core_world.specs.declared.act.Act.TheVariants.{Load, Store, CompareExchange, FetchAnd}
+use Rattle.core_world.specs.declared.word_id.WordId.{WordId}
+use Rattle.core_world.specs.declared.word_id.WordId.TheVariants.{Safepoint, Prototype, Mark, Class, Slot, Displaced, Header, Length}
+use Rattle.core_world.specs.declared.heap_call.Operation.{Operation}
+use Rattle.core_world.specs.declared.heap_call.Operation.TheVariants as op
+use Rattle.core_world.specs.declared.heap_call.Unfinished.{Unfinished}
 use Rattle.core_world.specs.declared.answer.StackOut.{StackOut}
 use Rattle.core_world.specs.declared.answer.StackOut.TheVariants.{Left, Monitor, Not}
-use Rattle.core_world.specs.declared.answer.Turn.{Turn}
-use Rattle.core_world.specs.declared.answer.Turn.TheVariants.{Done, Pending}
-use Rattle.core_world.specs.declared.answer.Why.{Why}
-use Rattle.core_world.specs.declared.answer.Why.TheVariants.{Requested}
+use Rattle.core_world.specs.declared.answer.Progress.{Progress}
+use Rattle.core_world.specs.declared.answer.Progress.TheVariants.{Done, Pending}
+use Rattle.core_world.specs.declared.answer.PendingCause.{PendingCause}
+use Rattle.core_world.specs.declared.answer.PendingCause.TheVariants.{Requested}
 use Rattle.core_world.specs.declared.answer.TooDeep.{TooDeep}
 use Rattle.core_world.specs.declared.answer.IllegalMonitorState.{IllegalMonitorState}
 use Rattle.core_world.specs.declared.answer.Unguarded.{Unguarded}
 use Rattle.core_world.specs.declared.answer.TooMany.{TooMany}
 use Rattle.core_world.specs.declared.answer.TooManyDumps.{TooManyDumps}
 use Rattle.core_world.specs.Words.Forms.{hash_in, waits_on, is_halted, is_still}
-use Rattle.core_world.specs.Threads.Known.{StepMade, Start}
+use Rattle.core_world.specs.Threads.ThreadView.{StepMade, Start}
 use Rattle.core_world.specs.Locks.{hold_count}
 use Rattle.core_world.specs.Words.Shape.{Shape}
 use Rattle.core_world.specs.Trees.CreateSteps.{count_made, next_made}
@@ -37,26 +38,27 @@ use Rattle.core_world.specs.Trees.SafepointSteps.{has_requester, running_too, al
 use Rattle.plain_monitor.specs.Endings.{ending_entry}
 use Rattle.core_world.specs.Trees.Operations.{goes_on_with, value_found}
 use Rattle.core_calls.specs.Paths.{Leaves}
-use Rattle.core_calls.specs.Causes.{Among, AmongBehind, Loaded, Put, Caused, CausedUnder, Overtaken, Requests, of_exchanges, of_safepoints, of_owners, of_waits, of_requests, of_polls, of_resumes, is_stopping}
+use Rattle.core_calls.specs.Causes.{AmongSteps, AmongAfter, Loaded, Put, Caused, CausedUnder, Overtaken, Requests, of_exchanges}
+use Rattle.core_calls.specs.Causes.{of_safepoints, of_owners, of_waits, of_requests, of_polls, of_resumes, is_stopping}
 
--- A turn. Done: it logs these entries, by its answer, and nothing is unfinished. Pending: it logs none, this operation is unfinished, and it is so
+-- How far a call is. Done: it logs these entries, by its answer, and nothing is unfinished. Pending: it logs none, this operation is unfinished, and it is so
 -- for this cause. Of a check this is said in both cases.
-abbrev pub PendsFor : {A : Type 0} → (A → List Entry) → (Why → List StepMade → Type 0) → Option Unfinished
-    → Bool → List StepMade → Turn A → Type 0
-PendsFor own For u check ms (Done a) = Leaves (own a) None check ms
-PendsFor own For u check ms (Pending why) = Leaves [] u check ms × For why ms
+abbrev pub IsPendingBy : {A : Type 0} → (A → List Entry) → (PendingCause → List StepMade → Type 0) → Option Unfinished
+    → Bool → List StepMade → Progress A → Type 0
+IsPendingBy own For u check ms (Done a) = Leaves (own a) None check ms
+IsPendingBy own For u check ms (Pending why) = Leaves [] u check ms × For why ms
 
--- a turn of thread t on object o, which is pending for one of these reasons
-abbrev pub TurnSays : {A : Type 0} → (A → List Entry) → (Why → Bool) → ℕ → ℕ → Option Unfinished → Bool
-    → List StepMade → Turn A → Type 0
-TurnSays own may_be t o u check = PendsFor own (Caused may_be t o) u check
+-- a call of thread t on object o, which is pending for one of these reasons
+abbrev pub ProgressSays : {A : Type 0} → (A → List Entry) → (PendingCause → Bool) → ℕ → ℕ → Option Unfinished → Bool
+    → List StepMade → Progress A → Type 0
+ProgressSays own may_be t o u check = IsPendingBy own (Caused may_be t o) u check
 
 -- A refusal comes without a step, and exactly where this holds of what the thread knew.
 abbrev pub ResultSays : {A E : Type 0} → Bool → (List StepMade → A → Type 0) → List StepMade → Result A E → Type 0
 ResultSays refuses says ms (Err e) = (refuses ≡ true) × (ms ≡ [])
 ResultSays refuses says ms (Ok a) = (refuses ≡ false) × says ms a
 
-abbrev pub unfinished_on : Op → ℕ → Option Unfinished
+abbrev pub unfinished_on : Operation → ℕ → Option Unfinished
 unfinished_on op o = Some (record { op = op; object = o })
 
 -- the thread has no hold on o
@@ -67,30 +69,30 @@ has_none k o = hold_count o k.local.holds == 0
 abbrev pub is_full : Start → ℕ → Bool
 is_full k o = (free_place k.local.holds == most_holds) && not (goes_on_with op.Enter o k.unfinished)
 
-abbrev pub of_notifies : Bool → Why → Bool
+abbrev pub of_notifies : Bool → PendingCause → Bool
 of_notifies requesting why = of_exchanges why || of_safepoints requesting why
 
-abbrev pub of_enters : Bool → Why → Bool
+abbrev pub of_enters : Bool → PendingCause → Bool
 of_enters requesting why = of_owners why || of_notifies requesting why
 
 -- An enter may take the bias away from the mark by an exchange of its own, for a neutral prototype, and expect that word there in its next exchange.
 -- In every other exchange it expects a word that it loaded.
-abbrev pub PutInMark : ℕ → Name → ℕ → List StepMade → Type 0
+abbrev pub PutInMark : ℕ → WordId → ℕ → List StepMade → Type 0
 PutInMark o at word before = (at ≡ Mark o) × Put at word before
 
-abbrev pub EnterCause : Bool → ℕ → ℕ → Why → List StepMade → Type 0
+abbrev pub EnterCause : Bool → ℕ → ℕ → PendingCause → List StepMade → Type 0
 EnterCause requesting t o why ms = CausedUnder of_enters requesting t o why ms ⊎ Overtaken (PutInMark o) why ms
 
-abbrev pub EnterSays : Start → ℕ → List StepMade → Result (Turn Path) TooDeep → Type 0
+abbrev pub EnterSays : Start → ℕ → List StepMade → Result (Progress Path) TooDeep → Type 0
 EnterSays k o =
     ResultSays (is_full k o)
-    (PendsFor (λ path. entry.Enter o path ∷ []) (EnterCause k.requesting k.local.thread o)
+    (IsPendingBy (λ path. entry.Enter o path ∷ []) (EnterCause k.requesting k.local.thread o)
     (unfinished_on op.Enter o) false)
 
-abbrev pub ExitSays : Start → ℕ → List StepMade → Result (Turn (Unit {0})) IllegalMonitorState → Type 0
+abbrev pub ExitSays : Start → ℕ → List StepMade → Result (Progress (Unit {0})) IllegalMonitorState → Type 0
 ExitSays k o =
     ResultSays (has_none k o)
-    (TurnSays (λ _. entry.Exit o ∷ []) of_exchanges k.local.thread o (unfinished_on op.Exit o) false)
+    (ProgressSays (λ _. entry.Exit o ∷ []) of_exchanges k.local.thread o (unfinished_on op.Exit o) false)
 
 -- A wait that has let go, in this call or in an earlier one, is pending for a notify or an owner; one that hasn't is for all else. The
 -- call that lets go logs Wait.
@@ -100,44 +102,44 @@ lets_go k o = not (waits_on k.local.wait o)
 abbrev pub begins_with : Bool → ℕ → List Entry → List Entry
 begins_with lets_go o es = cond lets_go (entry.Wait o ∷ es) es
 
-abbrev pub WaitTurnSays : Bool → Bool → ℕ → ℕ → List StepMade → Turn (Unit {0}) → Type 0
-WaitTurnSays lets_go requesting t o ms (Done x) = Leaves (begins_with lets_go o (entry.Resume o ∷ [])) None false ms
-WaitTurnSays lets_go requesting t o ms (Pending why) =
+abbrev pub WaitProgressSays : Bool → Bool → ℕ → ℕ → List StepMade → Progress (Unit {0}) → Type 0
+WaitProgressSays lets_go requesting t o ms (Done x) = Leaves (begins_with lets_go o (entry.Resume o ∷ [])) None false ms
+WaitProgressSays lets_go requesting t o ms (Pending why) =
     Leaves (cond (of_waits why) (begins_with lets_go o []) []) (unfinished_on op.Wait o) false ms
     × CausedUnder (λ requesting why. of_waits why || (lets_go && of_notifies requesting why)) requesting t o why ms
 
-abbrev pub WaitSays : Start → ℕ → List StepMade → Result (Turn (Unit {0})) IllegalMonitorState → Type 0
-WaitSays k o = ResultSays (has_none k o) (WaitTurnSays (lets_go k o) k.requesting k.local.thread o)
+abbrev pub WaitSays : Start → ℕ → List StepMade → Result (Progress (Unit {0})) IllegalMonitorState → Type 0
+WaitSays k o = ResultSays (has_none k o) (WaitProgressSays (lets_go k o) k.requesting k.local.thread o)
 
-abbrev pub NotifySays : Start → ℕ → List StepMade → Result (Turn (Option ℕ)) IllegalMonitorState → Type 0
+abbrev pub NotifySays : Start → ℕ → List StepMade → Result (Progress (Option ℕ)) IllegalMonitorState → Type 0
 NotifySays k o =
     ResultSays (has_none k o)
-    (PendsFor (λ woken. entry.Notify o woken ∷ []) (CausedUnder of_notifies k.requesting k.local.thread o)
+    (IsPendingBy (λ woken. entry.Notify o woken ∷ []) (CausedUnder of_notifies k.requesting k.local.thread o)
     (unfinished_on op.Notify o) false)
 
-abbrev pub NotifyAllSays : Start → ℕ → List StepMade → Result (Turn ℕ) IllegalMonitorState → Type 0
+abbrev pub NotifyAllSays : Start → ℕ → List StepMade → Result (Progress ℕ) IllegalMonitorState → Type 0
 NotifyAllSays k o =
     ResultSays (has_none k o)
-    (PendsFor (λ woken. entry.NotifyAll o woken ∷ [])
+    (IsPendingBy (λ woken. entry.NotifyAll o woken ∷ [])
     (CausedUnder of_notifies k.requesting k.local.thread o) (unfinished_on op.NotifyAll o) false)
 
 -- the word of this name may be o's header: its mark, a displaced word of thread t, or a monitor's header
-abbrev pub IsHeader : ℕ → ℕ → Name → Type 0
+abbrev pub IsHeader : ℕ → ℕ → WordId → Type 0
 IsHeader t o at = (at ≡ Mark o) ⊎ (((place : ℕ) × (at ≡ Displaced t place)) ⊎ ((monitor : ℕ) × (at ≡ Header monitor)))
 
 -- Not drawn: the value is a hash that a header had when it was loaded. Drawn: it is the value of the draw that was the thread's next, and an exchange
 -- put it into a header.
 abbrev pub IsDraw : Start → ℕ → ℕ → List StepMade → Option ℕ → Type 0
 IsDraw k o value ms None =
-    (value ≢ 0) × Among
+    (value ≢ 0) × AmongSteps
     (λ m. IsHeader k.local.thread o m.plan.at × (m.plan.act ≡ Load) × (hash_in m.found ≡ value)) ms
 IsDraw k o value ms (Some number) =
     (number ≡ k.draws + 1)
     × (value ≡ k.draw)
-    × Among (λ m. IsHeader k.local.thread o m.plan.at × (m.plan.act ≡ Swap m.found (mark_of (Neutral value 0)))) ms
+    × AmongSteps (λ m. IsHeader k.local.thread o m.plan.at × (m.plan.act ≡ CompareExchange m.found (mark_of (Neutral value 0)))) ms
 
 -- The entry has the answer, and is drawn or not.
-abbrev pub HashSays : Start → ℕ → List StepMade → Turn ℕ → Type 0
+abbrev pub HashSays : Start → ℕ → List StepMade → Progress ℕ → Type 0
 HashSays k o ms (Done value) =
     (drawn : Option ℕ) × IsDraw k o value ms drawn × Leaves (entry.Hash o value drawn ∷ []) None false ms
 HashSays k o ms (Pending why) =
@@ -155,7 +157,7 @@ GetSays k o slot =
 
 -- the word of the value was stored in this slot
 abbrev pub IsWritten : ℕ → ℕ → Value → List StepMade → Type 0
-IsWritten o slot value ms = Among (λ m. (m.plan.at ≡ Slot o slot) × (m.plan.act ≡ Store (word_of value))) ms
+IsWritten o slot value ms = AmongSteps (λ m. (m.plan.at ≡ Slot o slot) × (m.plan.act ≡ Store (word_of value))) ms
 
 abbrev pub PutSays : Start → ℕ → ℕ → Value → List StepMade → Result (Unit {0}) Unguarded → Type 0
 PutSays k o slot value =
@@ -169,16 +171,16 @@ abbrev pub FinishSays : Ending → List StepMade → Unit {0} → Type 0
 FinishSays ending ms x = Leaves (ending_entry ending ∷ []) None false ms
 
 -- the thread's next shot
-abbrev pub DumpTurnSays : Start → List StepMade → Turn ℕ → Type 0
-DumpTurnSays k ms (Done number) =
+abbrev pub DumpProgressSays : Start → List StepMade → Progress ℕ → Type 0
+DumpProgressSays k ms (Done number) =
     (number ≡ k.shots + 1) × Leaves (entry.Dump number ∷ []) None false ms
     × Put Safepoint (released_word k.local.thread) ms
-DumpTurnSays k ms (Pending why) =
+DumpProgressSays k ms (Pending why) =
     Leaves [] (unfinished_on op.Dump 0) false ms
     × CausedUnder of_safepoints k.requesting k.local.thread 0 why ms
 
-abbrev pub DumpSays : Start → List StepMade → Result (Turn ℕ) TooManyDumps → Type 0
-DumpSays k = ResultSays (k.shots == 4) (DumpTurnSays k)
+abbrev pub DumpSays : Start → List StepMade → Result (Progress ℕ) TooManyDumps → Type 0
+DumpSays k = ResultSays (k.shots == 4) (DumpProgressSays k)
 
 -- CREATE is never pending. The thread has made as many objects as a thread may.
 abbrev pub has_made_all : Start → Bool
@@ -205,7 +207,7 @@ CreateSays s k c =
 -- POLL, STOP, RESUME and CHECK log nothing, and leave the unfinished operation. So they leave the check, but for the check itself: that is
 -- unfinished where its request stands and isn't reached, and over after every other answer.
 -- A poll is done exactly where the word that it loads has no requester, and else it is pending for the requester of that word.
-abbrev pub PollSays : Start → List StepMade → Turn (Unit {0}) → Type 0
+abbrev pub PollSays : Start → List StepMade → Progress (Unit {0}) → Type 0
 PollSays k ms (Done x) =
     Leaves [] k.unfinished k.checking ms
     × ((word : ℕ) × (has_requester word ≡ false) × Loaded Safepoint word ms)
@@ -213,11 +215,11 @@ PollSays k ms (Pending why) =
     Leaves [] k.unfinished k.checking ms × Caused of_polls k.local.thread 0 why ms
     × ((word : ℕ) × (why ≡ Requested word) × Loaded Safepoint word ms)
 
--- The length of the log was published, and behind that the thread's bit was cleared.
+-- The length of the log was published, and after that the thread's bit was cleared.
 abbrev pub Stops : Start → List StepMade → Type 0
 Stops k ms =
-    AmongBehind (λ m before. (m.plan.at ≡ Safepoint) × (m.plan.act ≡ Mask (all_but k.local.thread))
-    × Among (λ n. (n.plan.at ≡ Length k.local.thread) × (n.plan.act ≡ Store (length k.local.log))) before)
+    AmongAfter (λ m before. (m.plan.at ≡ Safepoint) × (m.plan.act ≡ FetchAnd (all_but k.local.thread))
+    × AmongSteps (λ n. (n.plan.at ≡ Length k.local.thread) × (n.plan.act ≡ Store (length k.local.log))) before)
     ms
 
 abbrev pub StopSays : Start → List StepMade → Unit {0} → Type 0
@@ -226,10 +228,10 @@ StopSays k ms x = Leaves [] k.unfinished k.checking ms × Stops k ms
 -- A resume is done where its exchange set the thread's bit, in a word without a requester and without the halt.
 abbrev pub Resumes : ℕ → List StepMade → Type 0
 Resumes t ms =
-    Among (λ m. (m.plan.at ≡ Safepoint) × (m.plan.act ≡ Swap m.found (running_too (read_safe m.found) t))
+    AmongSteps (λ m. (m.plan.at ≡ Safepoint) × (m.plan.act ≡ CompareExchange m.found (running_too (read_safe m.found) t))
     × (is_halted m.found ≡ false) × (has_requester m.found ≡ false)) ms
 
-abbrev pub ResumeSays : Start → List StepMade → Turn (Unit {0}) → Type 0
+abbrev pub ResumeSays : Start → List StepMade → Progress (Unit {0}) → Type 0
 ResumeSays k ms (Done x) = Leaves [] k.unfinished k.checking ms × Resumes k.local.thread ms
 ResumeSays k ms (Pending why) = Leaves [] k.unfinished k.checking ms × Caused of_resumes k.local.thread 0 why ms
 
@@ -237,7 +239,7 @@ ResumeSays k ms (Pending why) = Leaves [] k.unfinished k.checking ms × Caused o
 abbrev pub ended_word : Bool → ℕ → ℕ
 ended_word stuck t = cond stuck halted_word (released_word t)
 
-abbrev pub CheckSays : Start → List StepMade → Turn Bool → Type 0
+abbrev pub CheckSays : Start → List StepMade → Progress Bool → Type 0
 CheckSays k ms (Done stuck) = Leaves [] k.unfinished false ms × Put Safepoint (ended_word stuck k.local.thread) ms
 CheckSays k ms (Pending why) =
     Leaves [] k.unfinished (is_stopping why) ms
@@ -245,12 +247,12 @@ CheckSays k ms (Pending why) =
 
 -- THE PARTS that are calls by themselves: the stack lock's enter and exit, and a safepoint's request, look and release. The enter has the mark that it was
 -- given.
-abbrev pub IsGiven : ℕ → ℕ → Name → ℕ → List StepMade → Type 0
+abbrev pub IsGiven : ℕ → ℕ → WordId → ℕ → List StepMade → Type 0
 IsGiven o mark at word before = (at ≡ Mark o) × (word ≡ mark)
 
 -- It is pending for its one exchange alone, which expects that mark.
-abbrev pub StackEnterSays : ℕ → ℕ → List StepMade → Turn Path → Type 0
-StackEnterSays o mark = PendsFor (λ path. entry.Enter o path ∷ []) (Overtaken (IsGiven o mark)) None false
+abbrev pub StackEnterSays : ℕ → ℕ → List StepMade → Progress Path → Type 0
+StackEnterSays o mark = IsPendingBy (λ path. entry.Enter o path ∷ []) (Overtaken (IsGiven o mark)) None false
 
 -- the mark of o was loaded, and names this monitor
 abbrev pub NamesMonitor : ℕ → ℕ → List StepMade → Type 0
@@ -266,7 +268,7 @@ abbrev pub StackExitSays : Start → ℕ → List StepMade → StackOut → Type
 StackExitSays k o = StackOutSays k.local.thread o (unfinished_on op.Exit o) false
 
 -- done where its exchange made the request
-abbrev pub RequestSays : Start → List StepMade → Turn (Unit {0}) → Type 0
+abbrev pub RequestSays : Start → List StepMade → Progress (Unit {0}) → Type 0
 RequestSays k ms (Done x) = Leaves [] None false ms × Requests k.local.thread ms
 RequestSays k ms (Pending why) = Leaves [] None false ms × Caused of_requests k.local.thread 0 why ms
 
@@ -274,7 +276,7 @@ RequestSays k ms (Pending why) = Leaves [] None false ms × Caused of_requests k
 abbrev pub IsReached : List StepMade → Type 0
 IsReached ms = (word : ℕ) × (is_still word ≡ true) × Loaded Safepoint word ms
 
-abbrev pub ReachedSays : Start → List StepMade → Turn (Unit {0}) → Type 0
+abbrev pub ReachedSays : Start → List StepMade → Progress (Unit {0}) → Type 0
 ReachedSays k ms (Done x) = Leaves [] None false ms × IsReached ms
 ReachedSays k ms (Pending why) = Leaves [] None false ms × Caused is_stopping k.local.thread 0 why ms
 

@@ -4,39 +4,39 @@ use Rattle.plain_monitor.specs.declared.entry.Entry.{Entry}
 use Rattle.plain_monitor.specs.declared.entry.Entry.TheVariants as entry
 use Rattle.plain_monitor.specs.declared.entry.Logged.{Logged}
 use Rattle.plain_monitor.specs.ValueWords.{read_value}
-use Rattle.core_world.specs.declared.plan.Note.{Note}
-use Rattle.core_world.specs.declared.plan.Note.TheVariants.{Quiet, Log, LogGet, LogHash}
+use Rattle.core_world.specs.declared.plan.LogEffect.{LogEffect}
+use Rattle.core_world.specs.declared.plan.LogEffect.TheVariants.{Quiet, Log, LogGet, LogHash}
 use Rattle.core_world.specs.declared.plan.StepPlan.{StepPlan}
-use Rattle.core_world.specs.declared.task.Unfinished.{Unfinished}
+use Rattle.core_world.specs.declared.heap_call.Unfinished.{Unfinished}
 use Rattle.core_world.specs.Words.Acts.{hits}
 use Rattle.core_world.specs.Words.Forms.{hash_in}
-use Rattle.core_world.specs.Threads.Known.{Known, StepMade}
+use Rattle.core_world.specs.Threads.ThreadView.{ThreadView, StepMade}
 use Rattle.core_world.specs.Trees.Operations.{value_found}
 use Rattle.core_world.specs.Words.Shape.{Shape}
 use Rattle.core_world.specs.Steps.{unfinished_after, known_along}
-use Rattle.core_world.specs.Trees.Todo.{Todo, done, never, step}
+use Rattle.core_world.specs.Trees.StepTree.{StepTree, done, unreachable, step}
 
 abbrev pub made : StepPlan → ℕ → StepMade
 made p n = record { plan = p; found = n }
 
 -- at the end P holds of the steps made, the newest first, and of the answer, whatever words the steps find
-abbrev pub Always : {A : Type 0} → (List StepMade → A → Type 0) → List StepMade → Todo A → Type 0
+abbrev pub Always : {A : Type 0} → (List StepMade → A → Type 0) → List StepMade → StepTree A → Type 0
 Always P ms (done a) = P ms a
-Always P ms never = Unit {0}
+Always P ms unreachable = Unit {0}
 Always P ms (step p f) = (n : ℕ) → Always P (made p n ∷ ms) (f n)
 
 -- so it is when these are all the steps of a call
-pub record Says {A : Type 0} (d : Todo A) (P : List StepMade → A → Type 0) : Type 0 where
+pub record Says {A : Type 0} (d : StepTree A) (P : List StepMade → A → Type 0) : Type 0 where
   pub by : Always P [] d
 
--- behind the steps so far, these are all the steps of a path, the newest first, and its answer
-abbrev pub IsPath : {A : Type 0} → Todo A → List StepMade → List StepMade → A → Type 0
+-- after the steps so far, these are all the steps of a path, the newest first, and its answer
+abbrev pub IsPath : {A : Type 0} → StepTree A → List StepMade → List StepMade → A → Type 0
 IsPath (done b) sofar ms a = (ms ≡ sofar) × (a ≡ b)
-IsPath never sofar ms a = ⊥
+IsPath unreachable sofar ms a = ⊥
 IsPath (step p f) sofar ms a = (n : ℕ) × IsPath (f n) (made p n ∷ sofar) ms a
 
--- what a step with this note logs, where it hits and finds n
-abbrev pub noted : Note → ℕ → List Entry
+-- what a step with this effect logs, where it hits and finds n
+abbrev pub noted : LogEffect → ℕ → List Entry
 noted Quiet n = []
 noted (Log e) n = e ∷ []
 noted (LogGet o slot) n = entry.Get o slot (value_found (read_value n)) ∷ []
@@ -65,14 +65,14 @@ pub record Leaves (es : List Entry) (u : Option Unfinished) (check : Bool) (ms :
   pub checking : (before : Bool) → left_checking ms before ≡ check
 
 -- A thread that knew this makes the steps of a path through the tree, with its answer; and all that it knows then is what they make of it.
-pub record Follows {A : Type 0} (s : Shape) (start : ℕ) (d : Todo A) (k l : Known) (a : A) : Type 0 where
+pub record FollowsTree {A : Type 0} (s : Shape) (start : ℕ) (d : StepTree A) (k l : ThreadView) (a : A) : Type 0 where
   pub steps : List StepMade
   pub path : IsPath d [] steps a
   pub added : l.steps ≡ steps ++ k.steps
   pub known : l ≡ known_along s start steps k
 
 -- What a thread knew became this by steps of which P holds: they are added to its steps, and their entries, with some stamps, to its log.
-pub record Tells (k l : Known) (P : List StepMade → Type 0) : Type 0 where
+pub record Tells (k l : ThreadView) (P : List StepMade → Type 0) : Type 0 where
   pub steps : List StepMade
   pub added : l.steps ≡ steps ++ k.steps
   pub new : List Logged
@@ -82,8 +82,8 @@ pub record Tells (k l : Known) (P : List StepMade → Type 0) : Type 0 where
   pub checking : l.checking ≡ left_checking steps k.checking
   pub says : P steps
 
--- What steps that leave this make of what a thread knew: these entries behind its log, with some stamps.
-pub record Did (es : List Entry) (u : Option Unfinished) (check : Bool) (k l : Known) : Type 0 where
+-- What steps that leave this make of what a thread knew: these entries after its log, with some stamps.
+pub record ThreadHasLogged (es : List Entry) (u : Option Unfinished) (check : Bool) (k l : ThreadView) : Type 0 where
   pub new : List Logged
   pub log : l.log ≡ k.log ++ new
   pub entries : map (λ (x : Logged). x.entry) new ≡ es

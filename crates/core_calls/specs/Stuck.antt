@@ -6,11 +6,11 @@ use Rattle.mark_word.specs.declared.wait.WaitForm.TheVariants as wait
 use Rattle.mark_word.specs.Mark.{read_mark}
 use Rattle.mark_word.specs.Owner.{read_owner}
 use Rattle.mark_word.specs.Wait.{read_wait}
-use Rattle.core_world.specs.declared.name.Name.TheVariants.{Mark, Waiting, Owner}
-use Rattle.core_world.specs.declared.answer.Turn.{Turn}
-use Rattle.core_world.specs.declared.answer.Turn.TheVariants.{Done, Pending}
-use Rattle.core_world.specs.Threads.Known.{StepMade}
-use Rattle.core_world.specs.Trees.LookSteps.{is_open_to, some_live, none_goes_on}
+use Rattle.core_world.specs.declared.word_id.WordId.TheVariants.{Mark, Waiting, Owner}
+use Rattle.core_world.specs.declared.answer.Progress.{Progress}
+use Rattle.core_world.specs.declared.answer.Progress.TheVariants.{Done, Pending}
+use Rattle.core_world.specs.Threads.ThreadView.{StepMade}
+use Rattle.core_world.specs.Trees.LookSteps.{can_acquire, some_live, none_goes_on}
 use Rattle.core_world.specs.Words.Shape.{Shape}
 use Rattle.core_calls.specs.Causes.{Loaded}
 
@@ -22,7 +22,7 @@ pub record GoesByOwner (o t : ℕ) (ms : List StepMade) (on : Option Bool) : Typ
   pub names : read_mark mark ≡ Some (Inflated monitor)
   pub mark_loaded : Loaded (Mark o) mark ms
   pub owner_loaded : Loaded (Owner monitor) owner ms
-  pub so : on ≡ Some (is_open_to (read_owner owner) t)
+  pub so : on ≡ Some (can_acquire (read_owner owner) t)
 
 -- By its waiting word a thread has ended (None), or goes on (true), or doesn't (false): a ready one goes on, one that waits doesn't, and one that
 -- enters, or that was notified, does by the owner.
@@ -48,6 +48,6 @@ Finds s ms stuck =
     (ons : List (Option Bool)) × (length ons ≡ s.threads) × AllGo 0 ons ms
     × (stuck ≡ some_live ons && none_goes_on ons)
 
-abbrev pub CheckFinds : Shape → List StepMade → Turn Bool → Type 0
+abbrev pub CheckFinds : Shape → List StepMade → Progress Bool → Type 0
 CheckFinds s ms (Done stuck) = Finds s ms stuck
 CheckFinds s ms (Pending why) = Unit {0}

@@ -2,11 +2,11 @@
 use Rattle.std.specs.Prelude.{◌≡◌, ◌⊎◌, ℕ, ◌+◌, List, [], ◌∷◌, length, Option, Some, None, Result, Ok, Err}
 use Rattle.mark_word.specs.declared.mark.MarkForm.TheVariants.{Locked, Inflated}
 use Rattle.mark_word.specs.Mark.{read_mark}
-use Rattle.core_world.specs.declared.name.Name.TheVariants.{Mark, Waiting}
+use Rattle.core_world.specs.declared.word_id.WordId.TheVariants.{Mark, Waiting}
 use Rattle.core_world.specs.declared.answer.IllegalMonitorState.{IllegalMonitorState}
-use Rattle.core_world.specs.declared.answer.Turn.{Turn}
-use Rattle.core_world.specs.declared.answer.Turn.TheVariants.{Done, Pending}
-use Rattle.core_world.specs.Threads.Known.{StepMade}
+use Rattle.core_world.specs.declared.answer.Progress.{Progress}
+use Rattle.core_world.specs.declared.answer.Progress.TheVariants.{Done, Pending}
+use Rattle.core_world.specs.Threads.ThreadView.{StepMade}
 use Rattle.core_world.specs.Words.Shape.{Shape}
 use Rattle.core_world.specs.Trees.WaitSteps.{waiters, by_age}
 use Rattle.core_calls.specs.Causes.{Loaded}
@@ -55,7 +55,7 @@ WakesAll s o ms woken = (IsRecordLocked o ms × (woken ≡ 0)) ⊎ WakesEach s o
 
 -- so it is of a call that is done
 abbrev pub IfDone : {A : Type 0} → (List StepMade → A → Type 0) → List StepMade
-    → Result (Turn A) IllegalMonitorState → Type 0
+    → Result (Progress A) IllegalMonitorState → Type 0
 IfDone P ms (Ok (Done a)) = P ms a
 IfDone P ms (Ok (Pending why)) = Unit {0}
 IfDone P ms (Err e) = Unit {0}

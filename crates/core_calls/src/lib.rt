@@ -6,37 +6,37 @@
 #![tactic(auto)]
 
 mod bounding;
-mod locking;
-mod making;
+pub mod enter_exit;
+pub mod made;
 mod moments;
 mod running;
+pub mod safepoint;
 mod standing;
-mod stopping;
 mod telling;
-mod waiting;
+pub mod wait;
 
 pub use bounding::{a_revocation_is_bounded, common_enters_are_short, every_call_is_bounded};
-pub use locking::{
+pub use enter_exit::{
     enter_logs_its_answer, exit_logs_its_answer, stack_enter_logs_its_answer,
     stack_exit_logs_its_answer,
 };
-pub use making::create_logs_its_object;
+pub use made::create_logs_its_object;
 pub use moments::{a_run_counts_by_the_moment_of_its_call, each_step_names_its_call};
 pub use running::{a_run_follows_a_path_of_its_tree, steps_make_of_knowledge_what_they_leave};
-pub use standing::{
-    a_thread_knows_how_it_stands, calls_at_the_safepoint_word_tell_how_their_thread_stands,
-    operations_leave_their_thread_running, short_operations_leave_their_thread_running,
-};
-pub use stopping::{
+pub use safepoint::{
     check_answers_whether_any_thread_goes_on, check_logs_nothing, poll_logs_nothing,
     reached_logs_nothing, release_logs_nothing, request_logs_nothing, resume_logs_nothing,
     stop_logs_nothing,
+};
+pub use standing::{
+    a_thread_knows_how_it_stands, calls_at_the_safepoint_word_tell_how_their_thread_stands,
+    operations_leave_their_thread_running, short_operations_leave_their_thread_running,
 };
 pub use telling::{
     dump_logs_its_answer, finish_logs_its_ending, get_logs_its_answer, hash_logs_its_answer,
     print_logs_its_value, put_logs_its_value,
 };
-pub use waiting::{
+pub use wait::{
     notify_all_logs_its_answer, notify_logs_its_answer, notify_wakes_the_oldest_waiter,
     wait_logs_its_answer,
 };

@@ -1,21 +1,23 @@
 //! Laws of runs: what a run makes of its thread's knowledge, by what its steps leave.
 ghost use Rattle.std.specs.Prelude.{◌≡◌, ℕ, ◌++◌, Bool, List, [], ◌∷◌, Option};
 ghost use Rattle.plain_monitor.specs.declared.entry.Entry.{Entry};
-ghost use Rattle.core_world.specs.declared.task.Unfinished.{Unfinished};
+ghost use Rattle.core_world.specs.declared.heap_call.Unfinished.{Unfinished};
 ghost use Rattle.core_world.specs.Due.{Ran};
-ghost use Rattle.core_world.specs.Threads.Known.{Known};
+ghost use Rattle.core_world.specs.Threads.ThreadView.{ThreadView};
 ghost use Rattle.core_world.specs.Words.Shape.{Shape};
-ghost use Rattle.core_world.specs.Trees.Todo.{Todo};
-ghost use Rattle.core_calls.specs.Paths.{IsPath, Follows, Leaves, Tells, Did};
+ghost use Rattle.core_world.specs.Trees.StepTree.{StepTree};
+ghost use Rattle.core_calls.specs.Paths.{IsPath, FollowsTree, Leaves, Tells, ThreadHasLogged};
 
-/// What the steps of a run leave, it makes of its thread's knowledge: the entries stand behind the log, with some stamps, and the operation
+/// What the steps of a run leave, it makes of its thread's knowledge: the entries stand after the log, with some stamps, and the operation
 /// and the check are unfinished or not. Where there are no entries, the log is the old one; where there is one, it is the old one with this
 /// entry.
 pub fn steps_make_of_knowledge_what_they_leave()
-    ensures did { (es : List Entry) (u : Option Unfinished) (check : Bool) (k l : Known)
-        → Tells k l (Leaves es u check) → Did es u check k l }
-    ensures none { (u : Option Unfinished) (check : Bool) (k l : Known) → Did [] u check k l → l.log ≡ k.log }
-    ensures one { (e : Entry) (u : Option Unfinished) (check : Bool) (k l : Known) → Did (e ∷ []) u check k l
+    ensures did { (es : List Entry) (u : Option Unfinished) (check : Bool) (k l : ThreadView)
+        → Tells k l (Leaves es u check) → ThreadHasLogged es u check k l }
+    ensures none { (u : Option Unfinished) (check : Bool) (k l : ThreadView) → ThreadHasLogged [] u check k l
+        → l.log ≡ k.log }
+    ensures one { (e : Entry) (u : Option Unfinished) (check : Bool) (k l : ThreadView)
+        → ThreadHasLogged (e ∷ []) u check k l
         → (stamp : ℕ) × (l.log ≡ k.log ++ record { stamp = stamp; entry = e } ∷ []) }
 {}
 
@@ -24,8 +26,8 @@ pub fn steps_make_of_knowledge_what_they_leave()
 /// that its thread knows then, too, is what these steps, one after the other, make of what it knew: whether it runs, its hold words, its shots,
 /// and the rest.
 pub fn a_run_follows_a_path_of_its_tree<A>()
-    ensures known { (s : Shape) (start : ℕ) (d : Todo A) (k l : Known) (a : A) → Ran s start d k l a
-        → Follows s start d k l a }
-    ensures path { (s : Shape) (start : ℕ) (d : Todo A) (k l : Known) (a : A) → Ran s start d k l a
+    ensures known { (s : Shape) (start : ℕ) (d : StepTree A) (k l : ThreadView) (a : A) → Ran s start d k l a
+        → FollowsTree s start d k l a }
+    ensures path { (s : Shape) (start : ℕ) (d : StepTree A) (k l : ThreadView) (a : A) → Ran s start d k l a
         → Tells k l (λ ms. IsPath d [] ms a) }
 {}

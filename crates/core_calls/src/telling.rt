@@ -2,13 +2,13 @@
 ghost use Rattle.std.specs.Prelude.{◌≡◌, ℕ, [], ◌∷◌, ◌++◌, length, Result, Ok};
 ghost use Rattle.plain_monitor.specs.declared.entry.Value.{Value};
 ghost use Rattle.plain_monitor.specs.declared.entry.Ending.{Ending};
-ghost use Rattle.core_world.specs.declared.answer.Turn.{Turn};
-ghost use Rattle.core_world.specs.declared.answer.Turn.TheVariants.{Done, Pending};
-ghost use Rattle.core_world.specs.declared.answer.Why.{Why};
+ghost use Rattle.core_world.specs.declared.answer.Progress.{Progress};
+ghost use Rattle.core_world.specs.declared.answer.Progress.TheVariants.{Done, Pending};
+ghost use Rattle.core_world.specs.declared.answer.PendingCause.{PendingCause};
 ghost use Rattle.core_world.specs.declared.answer.Unguarded.{Unguarded};
 ghost use Rattle.core_world.specs.declared.answer.TooManyDumps.{TooManyDumps};
 ghost use Rattle.core_world.specs.Words.Shape.{Shape};
-ghost use Rattle.core_world.specs.Threads.Known.{Known, Start, DumpShot};
+ghost use Rattle.core_world.specs.Threads.ThreadView.{ThreadView, Start, DumpShot};
 ghost use Rattle.core_world.specs.Trees.Operations.{hash_steps, get_steps, put_steps, print_steps, finish_steps, dump_steps};
 ghost use Rattle.core_world.specs.Due.{Ran};
 ghost use Rattle.core_calls.specs.Paths.{Says, Tells};
@@ -19,7 +19,7 @@ ghost use Rattle.core_calls.specs.CallsSay.{HashSays, GetSays, PutSays, PrintSay
 /// exchange put this hash into a header. A pending one logs nothing and stays unfinished.
 pub fn hash_logs_its_answer()
     ensures steps { (s : Shape) (k : Start) (o now : ℕ) → Says (hash_steps s k o now) (HashSays k o) }
-    ensures run { (s : Shape) (k : Start) (o now : ℕ) (shape : Shape) (start : ℕ) (before after : Known) (a : Turn ℕ)
+    ensures run { (s : Shape) (k : Start) (o now : ℕ) (shape : Shape) (start : ℕ) (before after : ThreadView) (a : Progress ℕ)
         → Ran shape start (hash_steps s k o now) before after a
         → Tells before after (λ ms. HashSays k o ms a) }
 {}
@@ -27,7 +27,7 @@ pub fn hash_logs_its_answer()
 /// A get logs its Get with the value that it answers, which the word loaded from the slot spells. It is refused, without a step, exactly where the thread has no hold on the object.
 pub fn get_logs_its_answer()
     ensures steps { (k : Start) (o slot : ℕ) → Says (get_steps k o slot) (GetSays k o slot) }
-    ensures run { (k : Start) (o slot : ℕ) (shape : Shape) (start : ℕ) (before after : Known)
+    ensures run { (k : Start) (o slot : ℕ) (shape : Shape) (start : ℕ) (before after : ThreadView)
         (a : Result Value Unguarded)
         → Ran shape start (get_steps k o slot) before after a
         → Tells before after (λ ms. GetSays k o slot ms a) }
@@ -37,7 +37,7 @@ pub fn get_logs_its_answer()
 pub fn put_logs_its_value()
     ensures steps { (k : Start) (o slot : ℕ) (value : Value)
         → Says (put_steps k o slot value) (PutSays k o slot value) }
-    ensures run { (k : Start) (o slot : ℕ) (value : Value) (shape : Shape) (start : ℕ) (before after : Known)
+    ensures run { (k : Start) (o slot : ℕ) (value : Value) (shape : Shape) (start : ℕ) (before after : ThreadView)
         (a : Result (Unit {0}) Unguarded)
         → Ran shape start (put_steps k o slot value) before after a
         → Tells before after (λ ms. PutSays k o slot value ms a) }
@@ -46,7 +46,7 @@ pub fn put_logs_its_value()
 /// A print logs its Print with its value.
 pub fn print_logs_its_value()
     ensures steps { (k : Start) (value : Value) → Says (print_steps k value) (PrintSays value) }
-    ensures run { (k : Start) (value : Value) (shape : Shape) (start : ℕ) (before after : Known) (a : Unit {0})
+    ensures run { (k : Start) (value : Value) (shape : Shape) (start : ℕ) (before after : ThreadView) (a : Unit {0})
         → Ran shape start (print_steps k value) before after a
         → Tells before after (λ ms. PrintSays value ms a) }
 {}
@@ -54,7 +54,7 @@ pub fn print_logs_its_value()
 /// A finish logs its ending entry.
 pub fn finish_logs_its_ending()
     ensures steps { (k : Start) (ending : Ending) → Says (finish_steps k ending) (FinishSays ending) }
-    ensures run { (k : Start) (ending : Ending) (shape : Shape) (start : ℕ) (before after : Known) (a : Unit {0})
+    ensures run { (k : Start) (ending : Ending) (shape : Shape) (start : ℕ) (before after : ThreadView) (a : Unit {0})
         → Ran shape start (finish_steps k ending) before after a
         → Tells before after (λ ms. FinishSays ending ms a) }
 {}
@@ -64,15 +64,15 @@ pub fn finish_logs_its_ending()
 /// refused, without a step, exactly where the thread has 4 shots.
 pub fn dump_logs_its_answer()
     ensures steps { (s : Shape) (k : Start) → Says (dump_steps s k) (DumpSays k) }
-    ensures run { (s : Shape) (k : Start) (shape : Shape) (start : ℕ) (before after : Known)
-        (a : Result (Turn ℕ) TooManyDumps)
+    ensures run { (s : Shape) (k : Start) (shape : Shape) (start : ℕ) (before after : ThreadView)
+        (a : Result (Progress ℕ) TooManyDumps)
         → Ran shape start (dump_steps s k) before after a
         → Tells before after (λ ms. DumpSays k ms a) }
-    ensures keeps { (s : Shape) (k : Start) (shape : Shape) (start number : ℕ) (before after : Known)
+    ensures keeps { (s : Shape) (k : Start) (shape : Shape) (start number : ℕ) (before after : ThreadView)
         → length before.shots ≡ k.shots
         → Ran shape start (dump_steps s k) before after (Ok (Done number))
         → (shot : DumpShot) × (after.shots ≡ before.shots ++ shot ∷ []) × (shot.number ≡ number) }
-    ensures pends { (s : Shape) (k : Start) (shape : Shape) (start : ℕ) (before after : Known) (why : Why)
+    ensures pends { (s : Shape) (k : Start) (shape : Shape) (start : ℕ) (before after : ThreadView) (why : PendingCause)
         → Ran shape start (dump_steps s k) before after (Ok (Pending why))
         → after.shots ≡ before.shots }
 {}

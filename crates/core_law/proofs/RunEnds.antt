@@ -6,11 +6,11 @@ use Rattle.plain_monitor.specs.Objects.{PlainObject}
 use Rattle.plain_monitor.specs.declared.entry.Logged.{Logged}
 use Rattle.plain_history.specs.EnterPaths.{PathsFit, has_hash}
 use Rattle.plain_history.specs.HeldByLog.{nothing_held}
-use Rattle.core_world.specs.declared.name.Name.TheVariants.{Revocations}
+use Rattle.core_world.specs.declared.word_id.WordId.TheVariants.{Revocations}
 use Rattle.core_world.specs.declared.stage.Stage.{Stage}
-use Rattle.core_world.specs.declared.task.Op.TheVariants as op
-use Rattle.core_world.specs.declared.task.Unfinished.{Unfinished}
-use Rattle.core_world.specs.Threads.Known.{Known}
+use Rattle.core_world.specs.declared.heap_call.Operation.TheVariants as op
+use Rattle.core_world.specs.declared.heap_call.Unfinished.{Unfinished}
+use Rattle.core_world.specs.Threads.ThreadView.{ThreadView}
 use Rattle.core_world.specs.Locks.{marks}
 use Rattle.core_world.specs.Clauses.Safepoints.{IsUnfinished}
 use Rattle.core_world.specs.Words.Names.{class_by}
@@ -28,11 +28,12 @@ module _ (w : World) (P : List PlainObject) (v : Fits w P) (law : BiasLawHolds w
   log_is t within = log_at 0 w.shape.threads t t w.known (omega arith) within
 
   -- a Hash that is logged or open is logged, where none is open; a thread that the heap lacks has logged none
-  hash_logged : ((t o : ℕ) → IsUnfinished (w.known t).unfinished op.Hash o → ⊥) → (o : ℕ) → IsHashed (λ t. (w.known t).log) (λ t. (w.known t).unfinished) o → IsHashLogged (logs w) o
+  hash_logged : ((t o : ℕ) → IsUnfinished (w.known t).unfinished op.Hash o → ⊥) → (o : ℕ)
+      → IsHashed (λ t. (w.known t).log) (λ t. (w.known t).unfinished) o → IsHashLogged (logs w) o
   hash_logged none o (t, inr h) = absurd (none t o h)
   hash_logged none o (t, inl h) = elim (cases_lt t w.shape.threads) [
     | inl within ↦ (t, ap (has_hash o) (log_is t within) ∙ h)
-    | inr far ↦ absurd (let a = ap (λ (k : Known). has_hash o k.log) (v.absent t far) in cc (a, h))
+    | inr far ↦ absurd (let a = ap (λ (k : ThreadView). has_hash o k.log) (v.absent t far) in cc (a, h))
   ]
 
   pub run_fits : ((t o : ℕ) → IsUnfinished (w.known t).unfinished op.Hash o → ⊥)
@@ -54,7 +55,8 @@ module _ (w : World) (P : List PlainObject) (v : Fits w P) (law : BiasLawHolds w
   one_more n log s u (inl h) = omega (arith, h)
   one_more n log s u (inr h) = let a = h.0 in omega (arith, a)
 
-  no_more : (verdicts : ℕ) (log : List Logged) (s : Stage) (u : Option Unfinished) → u ≡ None → VerdictsFit (marks w) verdicts log s u → verdicts ≤ length log + 0
+  no_more : (verdicts : ℕ) (log : List Logged) (s : Stage) (u : Option Unfinished)
+      → u ≡ None → VerdictsFit (marks w) verdicts log s u → verdicts ≤ length log + 0
   no_more n log s u none (inl h) = omega (arith, h)
   no_more n log s u none (inr h) = absurd (subst (IsDecided (marks w) s) none h.1)
 

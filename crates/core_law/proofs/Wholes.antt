@@ -1,12 +1,12 @@
 -- When every clause holds and the laws with them, and how a step that ends no revocation keeps all.
 use Rattle.std.proofs.Common.{◌≡◌, ℕ, Bool, true, false, cond, List, None, ap, ◌∙◌, inl, inr}
 use Rattle.plain_monitor.specs.Objects.{PlainObject}
-use Rattle.core_world.specs.declared.name.Name.TheVariants.{Safepoint}
+use Rattle.core_world.specs.declared.word_id.WordId.TheVariants.{Safepoint}
 use Rattle.core_world.specs.declared.plan.StepPlan.{StepPlan}
-use Rattle.core_world.specs.declared.stage.Stage.TheVariants.{Calm}
+use Rattle.core_world.specs.declared.stage.Stage.TheVariants.{Settled}
 use Rattle.core_world.specs.Words.Acts.{hits}
 use Rattle.core_world.specs.Words.Forms.{requester_in}
-use Rattle.core_world.specs.Threads.Known.{Known}
+use Rattle.core_world.specs.Threads.ThreadView.{ThreadView}
 use Rattle.core_world.specs.Threads.Stages.{revocation_in}
 use Rattle.core_world.specs.Steps.{known_after, known_hit, known_miss, world_after}
 use Rattle.core_world.specs.Valid.{Fits, IsRevoking, IsValid}
@@ -21,7 +21,7 @@ use Rattle.core_law.specs.WholeLaw.{IsWhollyValid, WhollyValid}
 -- NO BIAS IS BEING REVOKED
 module _ (w : World) (P : List PlainObject) (s : IsRevoking w P) where
   reached_now : (w.known s.requester).reached ≡ true
-  reached_now = ap (λ (k : Known). k.reached) s.knows ∙ s.reached
+  reached_now = ap (λ (k : ThreadView). k.reached) s.knows ∙ s.reached
 
   -- while a thread runs
   pub stops_all : (t : ℕ) → (w.known t).running ≡ true → ⊥
@@ -39,7 +39,7 @@ module _ (w : World) (P : List PlainObject) (s : IsRevoking w P) where
   requester_is t reached = one_requester w P s.safe s.requester t (s.safe.safepoint s.requester reached_now).0 (s.safe.safepoint t reached).0
 
   -- and so no bias is being revoked where that thread is in the middle of nothing
-  pub not_calm : (t : ℕ) → (w.known t).reached ≡ true → (w.known t).stage ≡ Calm → ⊥
+  pub not_calm : (t : ℕ) → (w.known t).reached ≡ true → (w.known t).stage ≡ Settled → ⊥
   not_calm t reached calm =
       let none = ap (λ u. revocation_in (w.known u).stage) (requester_is t reached) ∙ ap revocation_in calm in
       let some = s.its_revocation in
@@ -62,7 +62,8 @@ module _ (w : World) (P : List PlainObject) (t : ℕ) (p : StepPlan) (a : All w 
   stage_after = cases (hits p.act (w.words p.at))
     where
       cases : (b : Bool)
-          → revocation_in (cond b (known_hit w.shape w.start p (w.words p.at) (w.known t)) (known_miss w.shape w.start p (w.words p.at) (w.known t))).stage ≡ None
+          → revocation_in (cond b (known_hit w.shape w.start p (w.words p.at) (w.known t))
+          (known_miss w.shape w.start p (w.words p.at) (w.known t))).stage ≡ None
       cases true = unrevoking (a.fits.quiet.none_revokes t)
       cases false = a.fits.quiet.none_revokes t
 
@@ -73,5 +74,7 @@ module _ (w : World) (P : List PlainObject) (t : ℕ) (p : StepPlan) (a : All w 
       let some = s.its_revocation in
       absurd (cc (none, some))
 
-  pub kept_whole : (Q : List PlainObject) → IsValid (world_after p t w) Q → BiasLawHolds (world_after p t w) → MadeLawHolds (world_after p t w) → WhollyValid (world_after p t w)
-  kept_whole Q valid biases made = record { objects = Q; is = elim valid [ inl v ↦ inl (v, record { biases = biases; made = made }) | inr s ↦ absurd (unrevoked Q s) ] }
+  pub kept_whole : (Q : List PlainObject) → IsValid (world_after p t w) Q
+      → BiasLawHolds (world_after p t w) → MadeLawHolds (world_after p t w) → WhollyValid (world_after p t w)
+  kept_whole Q valid biases made =
+      record { objects = Q; is = elim valid [ inl v ↦ inl (v, record { biases = biases; made = made }) | inr s ↦ absurd (unrevoked Q s) ] }

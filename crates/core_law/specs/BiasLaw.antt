@@ -6,9 +6,9 @@ use Rattle.plain_monitor.specs.declared.entry.Logged.{Logged}
 use Rattle.plain_monitor.specs.Order.{order}
 use Rattle.plain_history.specs.Known.{makes, is_one_of}
 use Rattle.plain_history.specs.EnterPaths.{entries_on, needs_bias}
-use Rattle.core_world.specs.declared.name.Name.TheVariants.{Revocations}
+use Rattle.core_world.specs.declared.word_id.WordId.TheVariants.{Revocations}
 use Rattle.core_world.specs.declared.stage.Stage.{Stage}
-use Rattle.core_world.specs.declared.task.Unfinished.{Unfinished}
+use Rattle.core_world.specs.declared.heap_call.Unfinished.{Unfinished}
 use Rattle.core_world.specs.Threads.Counts.{ClassCounts, counts_of}
 use Rattle.core_world.specs.Locks.{Lock, lock, marks}
 use Rattle.core_world.specs.Words.Names.{class_by}

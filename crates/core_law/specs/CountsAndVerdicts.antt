@@ -4,8 +4,8 @@ use Rattle.plain_monitor.specs.declared.entry.Logged.{Logged}
 use Rattle.plain_monitor.specs.declared.entry.Path.TheVariants.{BiasTaken}
 use Rattle.lock_policy.specs.Policy.{decided, is_reset, rebias_threshold, revoke_threshold, most_revocations}
 use Rattle.core_world.specs.declared.stage.Stage.{Stage}
-use Rattle.core_world.specs.declared.task.Op.TheVariants as op
-use Rattle.core_world.specs.declared.task.Unfinished.{Unfinished}
+use Rattle.core_world.specs.declared.heap_call.Operation.TheVariants as op
+use Rattle.core_world.specs.declared.heap_call.Unfinished.{Unfinished}
 use Rattle.core_world.specs.Threads.Counts.{ClassCounts, with_verdict, with_reset}
 use Rattle.core_world.specs.Words.Forms.{is_biased}
 use Rattle.core_world.specs.Threads.Stages.{one_if, path_into}
@@ -16,14 +16,15 @@ sum_below zero f = 0
 sum_below (suc n) f = sum_below n f + f n
 
 -- the count of a class beyond its last bulk operation
-abbrev pub beyond : ℕ → ℕ
-beyond count = if nat_lt count rebias_threshold then count else if nat_lt count revoke_threshold then count - rebias_threshold else count - revoke_threshold
+abbrev pub since_last_bulk : ℕ → ℕ
+since_last_bulk count = if nat_lt count rebias_threshold then count
+    else if nat_lt count revoke_threshold then count - rebias_threshold else count - revoke_threshold
 
 -- The count of a class, and how many single revocations, bulk rebiases and bulk revokes of it were counted, and resets of the count.
 pub record CountFits (count single rebias revoke reset : ℕ) : Type 0 where
   pub revoked : revoke ≡ one_if (nat_le revoke_threshold count)
   pub rebiased : rebias_threshold ≤ count → 1 ≤ rebias
-  pub spent : rebias_threshold * (rebias + revoke) + beyond count ≤ single + rebias + revoke
+  pub spent : rebias_threshold * (rebias + revoke) + since_last_bulk count ≤ single + rebias + revoke
   pub few : count ≤ single + rebias + revoke
   pub capped : count ≤ most_revocations
   -- where it was never set to 0
@@ -36,8 +37,8 @@ abbrev pub ClassFits : ℕ → ClassCounts → Type 0
 ClassFits count k = CountFits count k.single k.rebias k.revoke k.reset
 
 -- the counts after one more verdict by the policy
-abbrev pub once_more : ClassCounts → ℕ → ℕ → ℕ → ClassCounts
-once_more k count last now = with_reset (with_verdict k (decided count last now).0) (is_reset count last now)
+abbrev pub incremented : ClassCounts → ℕ → ℕ → ℕ → ClassCounts
+incremented k count last now = with_reset (with_verdict k (decided count last now).0) (is_reset count last now)
 
 abbrev pub verdicts_on : ClassCounts → ℕ
 verdicts_on k = k.single + k.rebias + k.revoke

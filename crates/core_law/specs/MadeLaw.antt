@@ -4,15 +4,15 @@ use Rattle.mark_word.specs.Mark.{mark_of}
 use Rattle.mark_word.specs.declared.mark.MarkForm.TheVariants.{Neutral}
 use Rattle.plain_monitor.specs.declared.entry.Logged.{Logged}
 use Rattle.plain_monitor.specs.History.{objects_after}
-use Rattle.plain_monitor.specs.Made.{Numbering, first_made, class_of, is_there, may_create, made_after, IsMadeInTime}
+use Rattle.plain_monitor.specs.Made.{Numbering, first_made, class_if_there, is_there, may_create, made_after, IsMadeInTime}
 use Rattle.plain_monitor.specs.Objects.{PlainObject, new_objects}
 use Rattle.plain_history.specs.Cuts.{cut_logs}
 use Rattle.plain_history.specs.Known.{IsKnown, SlotsAreKnown}
-use Rattle.core_world.specs.declared.name.Name.TheVariants.{Mark, Class, Stamp}
-use Rattle.core_world.specs.declared.task.Unfinished.{Unfinished}
+use Rattle.core_world.specs.declared.word_id.WordId.TheVariants.{Mark, Class, Stamp}
+use Rattle.core_world.specs.declared.heap_call.Unfinished.{Unfinished}
 use Rattle.core_world.specs.Locks.{Open, lock, marks, hold_count}
 use Rattle.core_world.specs.RevocationRules.{words_from}
-use Rattle.core_world.specs.Threads.Known.{DumpShot, StepMade, last_seen}
+use Rattle.core_world.specs.Threads.ThreadView.{DumpShot, StepMade, last_seen}
 use Rattle.core_world.specs.Threads.References.{numbering, is_told, knows_by_log, is_on, making_in}
 use Rattle.core_world.specs.World.{World, logs}
 
@@ -48,7 +48,7 @@ pub record MadeLaw (n : Numbering) (shape : List (ℕ × ℕ)) (logs : List (Lis
   pub in_time : made_after n logs ≡ Some made
   pub cut_in_time : (t i : ℕ) (s : DumpShot) → slice_get (shots t) i ≡ Some s → IsMadeInTime n (cut_logs s.cut logs)
   -- the class word of an object that was made says its class
-  pub classes : (o c : ℕ) → first_made n ≤ o → class_of n made o ≡ Some c → class o ≡ c + 1
+  pub classes : (o c : ℕ) → first_made n ≤ o → class_if_there n made o ≡ Some c → class o ≡ c + 1
   pub absent : (o : ℕ) → is_there n made o ≡ false → IsAbsent under_way o (class o) (mark o) holds
   pub making : (t o : ℕ) → making_in (under_way t) ≡ Some o → IsMaking n made class t o
   -- what a thread knows by its log it knows by its last stamp; and the object of its unfinished operation it knows by its log

@@ -5,8 +5,8 @@ use Rattle.plain_monitor.specs.declared.entry.Entry.TheVariants.{Enter, Resume}
 use Rattle.plain_monitor.specs.declared.entry.Logged.{Logged}
 use Rattle.plain_monitor.specs.History.{last_stamp}
 use Rattle.plain_history.specs.HeldByLog.{IsLastLetGo}
-use Rattle.core_world.specs.declared.plan.Note.{Note}
-use Rattle.core_world.specs.declared.plan.Note.TheVariants.{Log}
+use Rattle.core_world.specs.declared.plan.LogEffect.{LogEffect}
+use Rattle.core_world.specs.declared.plan.LogEffect.TheVariants.{Log}
 use Rattle.core_world.specs.declared.plan.StepPlan.{StepPlan}
 use Rattle.core_world.specs.Steps.{stamp_by}
 use Rattle.core_world.specs.World.{World, logs}
@@ -20,7 +20,7 @@ StampsTaking logs found last (Resume o) =
     (let_go : ℕ) → IsLastLetGo logs o let_go → stamp_by (Resume o) found last ≡ max let_go last + 1
 StampsTaking logs found last _ = Unit {0}
 
-abbrev pub StampsNote : List (List Logged) → ℕ → ℕ → Note → Type 0
+abbrev pub StampsNote : List (List Logged) → ℕ → ℕ → LogEffect → Type 0
 StampsNote logs found last (Log e) = StampsTaking logs found last e
 StampsNote logs found last _ = Unit {0}
 

@@ -1,5 +1,14 @@
 -- The clauses of a valid world by name, over the parts that they read. A step shows those that it touches, and all others by what they were.
-use Rattle.core_locks.proofs.Prelude.{◌≡◌, ℕ, zero, suc, ◌+◌, ◌≤◌, Bool, List, ◌∷◌, length, Option, Some, refl, ◌∙◌, read_mark, PlainMonitor, PlainObject, Logged, objects_after, LegalObjects, Value, Safepoint, Prototype, Stamp, Slot, Hold, Waiting, Length, Recursions, Object, Claim, Revocations, LastBulk, is_halted, Inflation, inflation_in, hold_words_ahead, Known, World, logs, logs_from, Lock, lock, lock_form, header, marks, displaced_words, headers, owner_words, prototype_of, inflations, holder, hold_count, holds_by_monitor, object_of, monitor_of, owner_at, hash_at, waits_at, notified_at, inflated_to, inflation_of, SeenStays, HoldsFitLogs, RecordsRest, RecursionsFit, Fits, WaitsFit, ends, StoppedAreQuiet, SafepointIsKnown, StampsFit, LocksArePlain, BiasedAreFree, LengthsFit, InflationsAreOne, DrawsFit, MonitorsAreClaimed, first_known, HashesFit, SlotsFit, ClassesFit, bulk_rebiases, bulk_revokes, IsInLimits, WordsHaveForms, MonitorsAreNamed, ShotsFit, End, Ring, MovesFit, monitor_count, ring_bits, Class}
+use Rattle.core_locks.proofs.Prelude.{◌≡◌, ℕ, zero, suc, ◌+◌, ◌≤◌, Bool, List, ◌∷◌, length, Option, Some, refl, ◌∙◌, read_mark, PlainMonitor}
+use Rattle.core_locks.proofs.Prelude.{PlainObject, Logged, objects_after, LegalObjects, Value, Safepoint, Prototype, Stamp, Slot, Hold}
+use Rattle.core_locks.proofs.Prelude.{Waiting, Length, Recursions, Object, Claim, Revocations, LastBulk, is_halted, Inflation, inflation_in}
+use Rattle.core_locks.proofs.Prelude.{hold_words_ahead, ThreadView, World, logs, logs_from, Lock, lock, lock_form, header, marks, displaced_words}
+use Rattle.core_locks.proofs.Prelude.{headers, owner_words, prototype_of, inflations, holder, hold_count, holds_by_monitor, object_of}
+use Rattle.core_locks.proofs.Prelude.{monitor_of, owner_at, hash_at, waits_at, notified_at, inflated_to, inflation_of, SeenStays, HoldsFitLogs}
+use Rattle.core_locks.proofs.Prelude.{RecordsRest, RecursionsFit, Fits, WaitsFit, ends, StoppedAreQuiet, SafepointIsKnown, StampsFit}
+use Rattle.core_locks.proofs.Prelude.{LocksArePlain, BiasedAreFree, LengthsFit, InflationsAreOne, DrawsFit, MonitorsAreClaimed, first_known}
+use Rattle.core_locks.proofs.Prelude.{HashesFit, SlotsFit, ClassesFit, bulk_rebiases, bulk_revokes, IsInLimits, WordsHaveForms, MonitorsAreNamed}
+use Rattle.core_locks.proofs.Prelude.{ShotsFit, End, Ring, MovesFit, monitor_count, ring_bits, Class}
 
 -- what the clauses read: the world, what is made of its words and stages, and the plain objects
 pub record Parts : Type 0 where
@@ -55,7 +64,8 @@ Holds p forms =
     WordsHaveForms p.world.shape (marks p.world) (owner_words p.world) (λ t. p.world.words (Waiting t)) (λ m. p.world.words (Object m))
     (λ o. p.world.words (Class o)) (λ t q. p.world.words (Hold t q)) (p.world.words Safepoint)
 Holds p safe =
-    SafepointIsKnown p.world.shape.threads (p.world.words Safepoint) (λ t. (p.world.known t).running) (λ t. (p.world.known t).requesting) (λ t. (p.world.known t).reached)
+    SafepointIsKnown p.world.shape.threads (p.world.words Safepoint) (λ t. (p.world.known t).running)
+    (λ t. (p.world.known t).requesting) (λ t. (p.world.known t).reached)
     (λ t. (p.world.known t).halted) (λ t. ends (p.world.known t).log) (λ t. (p.world.known t).unfinished) p.monitors
 Holds p quiet = StoppedAreQuiet (λ t. (p.world.known t).running) (λ t. (p.world.known t).reached) (λ t. (p.world.known t).stage)
 Holds p holds = HoldsFitLogs (λ t q. p.world.words (Hold t q)) (λ t. (p.world.known t).holds) (λ t o. hold_words_ahead (p.world.known t).stage o) p.stands
@@ -65,7 +75,8 @@ Holds p records = RecordsRest p.lock (λ t. (p.world.known t).holds) (λ t. (p.w
 Holds p inflating = InflationsAreOne (marks p.world) p.inflates p.inflation
 Holds p monitors = MonitorsAreNamed p.inflated (λ m. p.world.words (Object m)) (headers p.world)
 Holds p recursions =
-    RecursionsFit (marks p.world) (λ m. p.world.words (Recursions m)) p.lock (λ t. (p.world.known t).holds) (λ t. (p.world.known t).stage) (λ t. (p.world.known t).saved)
+    RecursionsFit (marks p.world) (λ m. p.world.words (Recursions m)) p.lock
+    (λ t. (p.world.known t).holds) (λ t. (p.world.known t).stage) (λ t. (p.world.known t).saved)
     (displaced_words p.world) p.waits p.called
 Holds p hashes = HashesFit (marks p.world) p.lock p.header (λ t. (p.world.known t).holds) (displaced_words p.world) p.hash
 Holds p draws = DrawsFit p.world.start p.logs (λ t. (p.world.known t).log) (λ t. (p.world.known t).draws) p.hash
@@ -78,7 +89,8 @@ Holds p lengths =
     LengthsFit (λ t. p.world.words (Length t)) (λ t. (p.world.known t).published) (λ t. (p.world.known t).log) (λ t. (p.world.known t).running)
     (λ t. (p.world.known t).requesting) (is_halted (p.world.words Safepoint))
 Holds p claims =
-    MonitorsAreClaimed p.world.shape.threads (length p.world.shape.objects) (monitor_count p.world.shape) (ring_bits p.world.shape) (p.world.words Claim) (p.world.words End)
+    MonitorsAreClaimed p.world.shape.threads (length p.world.shape.objects)
+    (monitor_count p.world.shape) (ring_bits p.world.shape) (p.world.words Claim) (p.world.words End)
     (λ q. p.world.words (Ring q)) p.inflated (λ t. (p.world.known t).kept) (λ t. (p.world.known t).moving)
 Holds p moves = MovesFit (λ t. (p.world.known t).running) (λ t. (p.world.known t).reached) (λ t. (p.world.known t).moving)
 Holds p classes =
@@ -133,17 +145,23 @@ pub locks_stand : (w x : World) (objects : List PlainObject) → x.shape ≡ w.s
     → ((inflations x ≡ inflations w) → header x ≡ header w) → parts_of x objects ≡ kept_locks w (parts_of x objects)
 locks_stand w x objects shape inflates mark prototype owned head =
     let named : inflations x ≡ inflations w = λ i. λ o. inflation_of o (shape i).threads (λ t. inflates t i) in
-    λ i. record (parts_of x objects) { inflates = λ t. inflates t i; inflation = named i; lock = λ o. lock_form (read_mark (mark i o)) (prototype i o) (owned i) (named i o); header = head named i }
+    λ i. record (parts_of x objects) {
+      inflates = λ t. inflates t i;
+      inflation = named i;
+      lock = λ o. lock_form (read_mark (mark i o)) (prototype i o) (owned i) (named i o);
+      header = head named i;
+    }
 
 -- and so is each log
 abbrev pub kept_parts : World → World → List PlainObject → Parts
 kept_parts w x objects = record (kept_locks w (parts_of x objects)) { logs = logs w }
 
-logs_same : (u n : ℕ) (f g : ℕ → Known) → ((t : ℕ) → (f t).log ≡ (g t).log) → logs_from u n f ≡ logs_from u n g
+logs_same : (u n : ℕ) (f g : ℕ → ThreadView) → ((t : ℕ) → (f t).log ≡ (g t).log) → logs_from u n f ≡ logs_from u n g
 logs_same u zero f g e = refl
 logs_same u (suc n) f g e = λ i. e u i ∷ logs_same (u + 1) n f g e i
 
-pub parts_stand : (w x : World) (objects : List PlainObject) → x.shape ≡ w.shape → ((t : ℕ) → (x.known t).log ≡ (w.known t).log) → ((t : ℕ) → inflation_in (x.known t).stage ≡ inflation_in (w.known t).stage)
+pub parts_stand : (w x : World) (objects : List PlainObject) → x.shape ≡ w.shape
+    → ((t : ℕ) → (x.known t).log ≡ (w.known t).log) → ((t : ℕ) → inflation_in (x.known t).stage ≡ inflation_in (w.known t).stage)
     → marks x ≡ marks w → prototype_of x ≡ prototype_of w → owner_words x ≡ owner_words w
     → ((inflations x ≡ inflations w) → header x ≡ header w) → parts_of x objects ≡ kept_parts w x objects
 parts_stand w x objects shape log inflates mark prototype owned head =
@@ -154,7 +172,8 @@ parts_stand w x objects shape log inflates mark prototype owned head =
 abbrev pub turned_parts : World → World → List PlainObject → (ℕ → Lock) → Parts
 turned_parts w x objects f = record (kept_parts w x objects) { lock = f; inflated = inflated_to w }
 
-pub parts_turn : (w x : World) (objects : List PlainObject) (f : ℕ → Lock) → x.shape ≡ w.shape → ((t : ℕ) → (x.known t).log ≡ (w.known t).log) → ((t : ℕ) → inflation_in (x.known t).stage ≡ inflation_in (w.known t).stage)
+pub parts_turn : (w x : World) (objects : List PlainObject) (f : ℕ → Lock) → x.shape ≡ w.shape
+    → ((t : ℕ) → (x.known t).log ≡ (w.known t).log) → ((t : ℕ) → inflation_in (x.known t).stage ≡ inflation_in (w.known t).stage)
     → lock x ≡ f → header x ≡ header w → inflated_to x ≡ inflated_to w → parts_of x objects ≡ turned_parts w x objects f
 parts_turn w x objects f shape log inflates lock_is header_is names =
     let logs_is : logs x ≡ logs w = (λ i. logs_from 0 (shape i).threads x.known) ∙ logs_same 0 w.shape.threads x.known w.known log in
@@ -171,7 +190,8 @@ parts_turn w x objects f shape log inflates lock_is header_is names =
 abbrev pub parts_with : World → World → List PlainObject → (ℕ → Option ℕ) → (ℕ → Lock) → (ℕ → Option ℕ) → Parts
 parts_with w x objects g f h = record (parts_of x objects) { logs = logs w; inflated = g; lock = f; header = h }
 
-pub parts_are : (w x : World) (objects : List PlainObject) (g : ℕ → Option ℕ) (f : ℕ → Lock) (h : ℕ → Option ℕ) → x.shape ≡ w.shape → ((t : ℕ) → (x.known t).log ≡ (w.known t).log)
+pub parts_are : (w x : World) (objects : List PlainObject) (g : ℕ → Option ℕ) (f : ℕ → Lock) (h : ℕ → Option ℕ)
+    → x.shape ≡ w.shape → ((t : ℕ) → (x.known t).log ≡ (w.known t).log)
     → inflated_to x ≡ g → lock x ≡ f → header x ≡ h → parts_of x objects ≡ parts_with w x objects g f h
 parts_are w x objects g f h shape log names lock_is header_is =
     let logs_is : logs x ≡ logs w = (λ i. logs_from 0 (shape i).threads x.known) ∙ logs_same 0 w.shape.threads x.known w.known log in

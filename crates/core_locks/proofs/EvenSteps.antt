@@ -1,35 +1,81 @@
 -- A step of a thread that stands, before and after, where it has the locks that its log says, with as many hold words; the locks and hold words stay.
-use Rattle.core_locks.proofs.Prelude.{◌≡◌, ℕ, ◌||◌, Bool, true, false, List, refl, sym, ap, ◌∙◌, inl, inr, PlainObject, Hold, Stage, Calm, Seizes, Grabs, Exits, TakesOver, Ahead, Behind, Inflates, bears, hold_words_ahead, Known, World, with_known, lock, displaced_words, who, holds_by_monitor, monitor_of, owner_at, HoldsFitLogs, RecordsRest, Fits, LocksArePlain, Takes}
+use Rattle.core_locks.proofs.Prelude.{◌≡◌, ℕ, ◌||◌, Bool, true, false, List, refl, sym, ap, ◌∙◌, inl, inr, PlainObject, Hold, Stage, Settled}
+use Rattle.core_locks.proofs.Prelude.{RecordLocked, MonitorAcquired, Exits, OwnerConverted, RecursionsRaised, RecursionsLowered, Inflates}
+use Rattle.core_locks.proofs.Prelude.{bears, hold_words_ahead, ThreadView, World, with_known, lock, displaced_words, who, holds_by_monitor}
+use Rattle.core_locks.proofs.Prelude.{monitor_of, owner_at, HoldsFitLogs, RecordsRest, Fits, LocksArePlain, BiasAcquired}
 use Rattle.core_locks.proofs.Clauses.{Clause, holds, owners, records}
-use Rattle.core_locks.proofs.Steps.{owners_move, stage_part, holds_stand, Fields, IsStep, GoesOnTo, IsPlain, plain_by, Plain, plain_step, stage_back, stage_forth}
+use Rattle.core_locks.proofs.Steps.{owners_move, stage_part, holds_stand, Fields, IsStep, GoesOnTo}
+use Rattle.core_locks.proofs.Steps.{IsPlain, plain_by, Plain, plain_step, stage_back, stage_forth}
 
 pub record IsEven (s : Stage) : Type 0 where
   pub plain : IsPlain s
   pub unborne : (o : ℕ) → bears s o ≡ false
   pub alone : (o : ℕ) → hold_words_ahead s o ≡ 0
-  pub seizes : (o p : ℕ) → s ≡ Seizes o p → ⊥
-  pub grabs : (o : ℕ) → s ≡ Grabs o → ⊥
+  pub seizes : (o p : ℕ) → s ≡ RecordLocked o p → ⊥
+  pub grabs : (o : ℕ) → s ≡ MonitorAcquired o → ⊥
   pub exits : (o p : ℕ) → s ≡ Exits o p → ⊥
 
 abbrev pub is_even : Stage → Bool
-is_even Calm = true
-is_even (Takes o) = true
-is_even (TakesOver o) = true
-is_even (Ahead o) = true
-is_even (Behind o) = true
+is_even Settled = true
+is_even (BiasAcquired o) = true
+is_even (OwnerConverted o) = true
+is_even (RecursionsRaised o) = true
+is_even (RecursionsLowered o) = true
 is_even (Inflates o t p) = true
 is_even _ = false
 
 pub even_by : (s : Stage) → is_even s ≡ true → IsEven s
-even_by Calm e = record { plain = plain_by Calm refl; unborne = λ o. refl; alone = λ o. refl; seizes = λ o p c. cc c; grabs = λ o c. cc c; exits = λ o p c. cc c }
-even_by (Takes i) e = record { plain = plain_by (Takes i) refl; unborne = λ o. refl; alone = λ o. refl; seizes = λ o p c. cc c; grabs = λ o c. cc c; exits = λ o p c. cc c }
-even_by (TakesOver i) e = record { plain = plain_by (TakesOver i) refl; unborne = λ o. refl; alone = λ o. refl; seizes = λ o p c. cc c; grabs = λ o c. cc c; exits = λ o p c. cc c }
-even_by (Ahead i) e = record { plain = plain_by (Ahead i) refl; unborne = λ o. refl; alone = λ o. refl; seizes = λ o p c. cc c; grabs = λ o c. cc c; exits = λ o p c. cc c }
-even_by (Behind i) e = record { plain = plain_by (Behind i) refl; unborne = λ o. refl; alone = λ o. refl; seizes = λ o p c. cc c; grabs = λ o c. cc c; exits = λ o p c. cc c }
-even_by (Inflates i t p) e = record { plain = plain_by (Inflates i t p) refl; unborne = λ o. refl; alone = λ o. refl; seizes = λ o p c. cc c; grabs = λ o c. cc c; exits = λ o p c. cc c }
+even_by Settled e = record {
+  plain = plain_by Settled refl;
+  unborne = λ o. refl;
+  alone = λ o. refl;
+  seizes = λ o p c. cc c;
+  grabs = λ o c. cc c;
+  exits = λ o p c. cc c;
+}
+even_by (BiasAcquired i) e = record {
+  plain = plain_by (BiasAcquired i) refl;
+  unborne = λ o. refl;
+  alone = λ o. refl;
+  seizes = λ o p c. cc c;
+  grabs = λ o c. cc c;
+  exits = λ o p c. cc c;
+}
+even_by (OwnerConverted i) e = record {
+  plain = plain_by (OwnerConverted i) refl;
+  unborne = λ o. refl;
+  alone = λ o. refl;
+  seizes = λ o p c. cc c;
+  grabs = λ o c. cc c;
+  exits = λ o p c. cc c;
+}
+even_by (RecursionsRaised i) e = record {
+  plain = plain_by (RecursionsRaised i) refl;
+  unborne = λ o. refl;
+  alone = λ o. refl;
+  seizes = λ o p c. cc c;
+  grabs = λ o c. cc c;
+  exits = λ o p c. cc c;
+}
+even_by (RecursionsLowered i) e = record {
+  plain = plain_by (RecursionsLowered i) refl;
+  unborne = λ o. refl;
+  alone = λ o. refl;
+  seizes = λ o p c. cc c;
+  grabs = λ o c. cc c;
+  exits = λ o p c. cc c;
+}
+even_by (Inflates i t p) e = record {
+  plain = plain_by (Inflates i t p) refl;
+  unborne = λ o. refl;
+  alone = λ o. refl;
+  seizes = λ o p c. cc c;
+  grabs = λ o c. cc c;
+  exits = λ o p c. cc c;
+}
 even_by _ e = absurd (cc e)
 
-module _ {w : World} {t : ℕ} {l : Known} {fields : Fields} (s : IsStep w t l fields) (before : IsEven (w.known t).stage) (now : IsEven l.stage) where
+module _ {w : World} {t : ℕ} {l : ThreadView} {fields : Fields} (s : IsStep w t l fields) (before : IsEven (w.known t).stage) (now : IsEven l.stage) where
   pub bears_stay : (u o : ℕ) → bears (with_known t l w.known u).stage o ≡ bears (w.known u).stage o
   bears_stay u o = stage_part s (λ f. bears f o) (now.unborne o ∙ sym (before.unborne o)) u
 
@@ -42,7 +88,8 @@ module _ {w : World} {t : ℕ} {l : Known} {fields : Fields} (s : IsStep w t l f
 
   module _ (P : List PlainObject) (goes_on : GoesOnTo (w.known t) l) where
     abbrev pub Even : Clause → Type 0
-    Even holds = HoldsFitLogs (λ u q. w.words (Hold u q)) (λ u. (w.known u).holds) (λ u o. hold_words_ahead (with_known t l w.known u).stage o) (λ o u. holds_by_monitor (monitor_of P o) u)
+    Even holds = HoldsFitLogs (λ u q. w.words (Hold u q)) (λ u. (w.known u).holds)
+        (λ u o. hold_words_ahead (with_known t l w.known u).stage o) (λ o u. holds_by_monitor (monitor_of P o) u)
     Even owners = LocksArePlain (who w) (λ u. (with_known t l w.known u).stage) (owner_at P)
     Even records = RecordsRest (lock w) (λ u. (w.known u).holds) (λ u. (with_known t l w.known u).stage) (displaced_words w)
     Even c = Plain s P goes_on before.plain now.plain c
@@ -52,10 +99,10 @@ module _ {w : World} {t : ℕ} {l : Known} {fields : Fields} (s : IsStep w t l f
     even_step runs h owners = owners_move s now.plain.waits now.exits (λ o c. absurd (cc (c, now.plain.calls)))
         (λ o u. h.owners.same o u ∙ ap (λ (b : Bool). owner_at P o u || b) (sym (bears_stay u o))) h
     even_step runs h records = record {
-      first = λ o u p r. elim (h.records.first o u p r) [ inl a ↦ inl a | inr a ↦ inr (stage_forth s (Seizes o p) u (before.seizes o p) a) ];
+      first = λ o u p r. elim (h.records.first o u p r) [ inl a ↦ inl a | inr a ↦ inr (stage_forth s (RecordLocked o p) u (before.seizes o p) a) ];
       header = h.records.header;
       others = h.records.others;
-      seized = λ o u p e. h.records.seized o u p (even_back (Seizes o p) u (now.seizes o p) e);
-      grabbed = λ o u e. h.records.grabbed o u (even_back (Grabs o) u (now.grabs o) e);
+      seized = λ o u p e. h.records.seized o u p (even_back (RecordLocked o p) u (now.seizes o p) e);
+      grabbed = λ o u e. h.records.grabbed o u (even_back (MonitorAcquired o) u (now.grabs o) e);
     }
     even_step runs h c = plain_step s P goes_on before.plain now.plain runs h c

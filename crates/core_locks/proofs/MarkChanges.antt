@@ -1,6 +1,11 @@
 -- The mark of one object changes: what stays of marks, locks and headers, which clauses read of marks only what stays, and that the other
 -- threads don't count on the mark that was there.
-use Rattle.core_locks.proofs.Prelude.{◌≡◌, ◌≢◌, ◌⊎◌, ℕ, ◌||◌, eq-eqb, ne_eqb, Bool, true, false, cond, List, [], Option, Some, None, refl, sym, ap, ◌∙◌, subst, inl, inr, read_mark, Logged, Mark, Stage, is_biased, monitor_in, Inflation, inflation_in, bears, revocation_in, Known, World, with_word_and_known, with_known, Lock, BiasedTo, OwnedBy, lock, lock_form, header, header_form, marks, displaced_words, headers, owner_words, prototype_of, inflations, IsValidBias, RecursionsFit, GoesByMonitor, WaitsFit, BiasedAreFree, InflationsAreOne, MonitorsAreClaimed, ClassesFit, Unfinished, MonitorsAreNamed, by_equal, stays_back, Back, Spares, Moving, has_class}
+use Rattle.core_locks.proofs.Prelude.{◌≡◌, ◌≢◌, ◌⊎◌, ℕ, ◌||◌, eq-eqb, ne_eqb, Bool, true, false, cond, List, [], Option, Some, None, refl, sym}
+use Rattle.core_locks.proofs.Prelude.{ap, ◌∙◌, subst, inl, inr, read_mark, Logged, Mark, Stage, is_biased, monitor_in, Inflation, inflation_in}
+use Rattle.core_locks.proofs.Prelude.{bears, revocation_in, ThreadView, World, with_word_and_known, with_known, Lock, BiasedTo, OwnedBy, lock}
+use Rattle.core_locks.proofs.Prelude.{lock_form, header, header_form, marks, displaced_words, headers, owner_words, prototype_of, inflations}
+use Rattle.core_locks.proofs.Prelude.{IsValidBias, RecursionsFit, GoesByMonitor, WaitsFit, BiasedAreFree, InflationsAreOne, MonitorsAreClaimed}
+use Rattle.core_locks.proofs.Prelude.{ClassesFit, Unfinished, MonitorsAreNamed, by_equal, stays_back, Back, Spares, Moving, has_class}
 use Rattle.core_locks.proofs.OwnSeen.{either}
 use Rattle.core_locks.proofs.MarkMeanings.{each_set, IsBare, bare_unnamed, bare_unbiased}
 
@@ -12,19 +17,25 @@ module _ (f g : ℕ → ℕ) (same : (i : ℕ) → monitor_in (f i) ≡ monitor_
   named : ◌≡◌ {A = ℕ → Option ℕ} (λ i. monitor_in (f i)) (λ i. monitor_in (g i))
   named = λ j. λ i. same i j
 
-  pub monitors_by_marks : (object header : ℕ → ℕ) → MonitorsAreNamed (λ i. monitor_in (f i)) object header → MonitorsAreNamed (λ i. monitor_in (g i)) object header
+  pub monitors_by_marks : (object header : ℕ → ℕ) → MonitorsAreNamed (λ i. monitor_in (f i)) object header
+      → MonitorsAreNamed (λ i. monitor_in (g i)) object header
   monitors_by_marks object header = subst (λ n. MonitorsAreNamed n object header) named
 
-  pub claims_by_marks : (threads objects monitors bits claim end : ℕ) (ring : ℕ → ℕ) (kept : ℕ → Option ℕ) (moving : ℕ → Moving) → MonitorsAreClaimed threads objects monitors bits claim end ring (λ i. monitor_in (f i)) kept moving
+  pub claims_by_marks : (threads objects monitors bits claim end : ℕ) (ring : ℕ → ℕ) (kept : ℕ → Option ℕ) (moving : ℕ → Moving)
+      → MonitorsAreClaimed threads objects monitors bits claim end ring (λ i. monitor_in (f i)) kept moving
       → MonitorsAreClaimed threads objects monitors bits claim end ring (λ i. monitor_in (g i)) kept moving
-  claims_by_marks threads objects monitors bits claim end ring kept moving = subst (λ n. MonitorsAreClaimed threads objects monitors bits claim end ring n kept moving) named
+  claims_by_marks threads objects monitors bits claim end ring kept moving =
+      subst (λ n. MonitorsAreClaimed threads objects monitors bits claim end ring n kept moving) named
 
-  pub waits_by_marks : (wait own : ℕ → ℕ) (log : ℕ → List Logged) (stage : ℕ → Stage) (operation : ℕ → Option Unfinished) (running : ℕ → Bool) (waits called : ℕ → List (ℕ × ℕ))
-      → WaitsFit (λ i. monitor_in (f i)) wait own log stage operation running waits called → WaitsFit (λ i. monitor_in (g i)) wait own log stage operation running waits called
+  pub waits_by_marks : (wait own : ℕ → ℕ) (log : ℕ → List Logged) (stage : ℕ → Stage)
+      (operation : ℕ → Option Unfinished) (running : ℕ → Bool) (waits called : ℕ → List (ℕ × ℕ))
+      → WaitsFit (λ i. monitor_in (f i)) wait own log stage operation running waits called
+      → WaitsFit (λ i. monitor_in (g i)) wait own log stage operation running waits called
   waits_by_marks wait own log stage operation running waits called = subst (λ n. WaitsFit n wait own log stage operation running waits called) named
 
   -- the locks may change too, but for those of inflated objects; and nobody comes to have one through a monitor
-  pub recursions_by_marks : (recursions : ℕ → ℕ) (lock next : ℕ → Lock) (holds : ℕ → List ℕ) (stage : ℕ → Stage) (saved : ℕ → ℕ) (displaced : ℕ → ℕ → ℕ) (waits called : ℕ → List (ℕ × ℕ))
+  pub recursions_by_marks : (recursions : ℕ → ℕ) (lock next : ℕ → Lock) (holds : ℕ → List ℕ)
+      (stage : ℕ → Stage) (saved : ℕ → ℕ) (displaced : ℕ → ℕ → ℕ) (waits called : ℕ → List (ℕ × ℕ))
       → ((i u : ℕ) → next i ≡ OwnedBy u → lock i ≡ OwnedBy u) → ((i a : ℕ) → monitor_in (f i) ≡ Some a → next i ≡ lock i)
       → RecursionsFit f recursions lock holds stage saved displaced waits called → RecursionsFit g recursions next holds stage saved displaced waits called
   recursions_by_marks recursions lock next holds stage saved displaced waits called thread_owns inflated h = record {
@@ -42,8 +53,10 @@ module _ (f g : ℕ → ℕ) (same : (i : ℕ) → monitor_in (f i) ≡ monitor_
       goes i t (inr e) = inr e
 
 -- a mark with the bias pattern had it before, and its object leans to the same thread as before
-pub biases_by_marks : (f g : ℕ → ℕ) (lock next : ℕ → Lock) (holds : ℕ → List ℕ) (hash : ℕ → ℕ) (waits called : ℕ → List (ℕ × ℕ)) → ((i : ℕ) → is_biased (g i) ≡ true → is_biased (f i) ≡ true)
-    → ((i t : ℕ) → lock i ≡ BiasedTo t → is_biased (g i) ≡ true → next i ≡ BiasedTo t) → BiasedAreFree f lock holds hash waits called → BiasedAreFree g next holds hash waits called
+pub biases_by_marks : (f g : ℕ → ℕ) (lock next : ℕ → Lock) (holds : ℕ → List ℕ) (hash : ℕ → ℕ) (waits called : ℕ → List (ℕ × ℕ))
+    → ((i : ℕ) → is_biased (g i) ≡ true → is_biased (f i) ≡ true)
+    → ((i t : ℕ) → lock i ≡ BiasedTo t → is_biased (g i) ≡ true → next i ≡ BiasedTo t)
+    → BiasedAreFree f lock holds hash waits called → BiasedAreFree g next holds hash waits called
 biases_by_marks f g lock next holds hash waits called back leans h = search (back, leans, h.hashless, h.nobody, h.unheld)
 
 -- without biasing no mark gets a bias pattern
@@ -57,7 +70,7 @@ pub inflating_by_marks : (f g : ℕ → ℕ) (inflates inflation : ℕ → Optio
 inflating_by_marks f g inflates inflation back forth h = search (back, forth, h.some, h.zero, h)
 
 -- THE MARK m IS WRITTEN AT o by a step of thread t, which knows l then.
-module _ (w : World) (o m t : ℕ) (l : Known) where
+module _ (w : World) (o m t : ℕ) (l : ThreadView) where
   abbrev x : World
   x = with_word_and_known (Mark o) m t l w
 
@@ -72,7 +85,8 @@ module _ (w : World) (o m t : ℕ) (l : Known) where
   names_same e i = each_set (λ j y. monitor_in (marks w j) ≡ monitor_in y) o m (marks w) i e (λ d. refl)
 
   pub bias_back : is_biased m ≡ false → (i : ℕ) → is_biased (marks x i) ≡ true → (i ≢ o) × (is_biased (marks w i) ≡ true)
-  bias_back plain i = each_set (λ j y. is_biased y ≡ true → (j ≢ o) × (is_biased (marks w j) ≡ true)) o m (marks w) i (λ h. absurd (cc (h, plain))) (λ d h. (d, h))
+  bias_back plain i =
+      each_set (λ j y. is_biased y ≡ true → (j ≢ o) × (is_biased (marks w j) ≡ true)) o m (marks w) i (λ h. absurd (cc (h, plain))) (λ d h. (d, h))
 
   pub bias_forth : is_biased m ≡ false → (i : ℕ) → is_biased (marks w i) ≡ false → is_biased (marks x i) ≡ false
   bias_forth plain i = each_set (λ j y. is_biased (marks w j) ≡ false → is_biased y ≡ false) o m (marks w) i (λ h. plain) (λ d h. h)
@@ -92,7 +106,8 @@ module _ (w : World) (o m t : ℕ) (l : Known) where
     lock_else i d = λ j. lock_form (read_mark (mark_else i d j)) (prototype_of w i) (owner_words w) (sym inflation j i)
 
     -- the lock of the object is this one now, and each other lock is as before
-    pub lock_at : (f : Lock) → lock_form (read_mark m) (prototype_of w o) (owner_words w) (inflations w o) ≡ f → (i : ℕ) → ((i ≡ o) × (lock x i ≡ f)) ⊎ ((i ≢ o) × (lock x i ≡ lock w i))
+    pub lock_at : (f : Lock) → lock_form (read_mark m) (prototype_of w o) (owner_words w) (inflations w o) ≡ f
+        → (i : ℕ) → ((i ≡ o) × (lock x i ≡ f)) ⊎ ((i ≢ o) × (lock x i ≡ lock w i))
     lock_at f e i = by_equal i o
         (λ a. inl (a, ap (lock x) a ∙ (λ j. lock_form (read_mark (mark_here j)) (prototype_of w o) (owner_words w) (sym inflation j o)) ∙ e))
         (λ d. inr (d, lock_else i d))
@@ -106,8 +121,9 @@ module _ (w : World) (o m t : ℕ) (l : Known) where
 
   -- what thread u, which knew k and knows y, may count on after the step it could count on before; so it is with the thread that makes
   -- the step and with the others
-  pub mark_back : (k y : Known) (owner next : ℕ → ℕ → Bool) (u : ℕ) → ((i a : ℕ) → monitor_in (marks x i) ≡ Some a → monitor_in (marks w i) ≡ Some a)
-      → y.running ≡ k.running → y.requesting ≡ k.requesting → inflation_in y.stage ≡ inflation_in k.stage → (revocation_in y.stage ≡ None → revocation_in k.stage ≡ None) → y.kept ≡ k.kept → ((i : ℕ) → next i u ≡ true → owner i u ≡ true)
+  pub mark_back : (k y : ThreadView) (owner next : ℕ → ℕ → Bool) (u : ℕ) → ((i a : ℕ) → monitor_in (marks x i) ≡ Some a → monitor_in (marks w i) ≡ Some a)
+      → y.running ≡ k.running → y.requesting ≡ k.requesting → inflation_in y.stage ≡ inflation_in k.stage
+      → (revocation_in y.stage ≡ None → revocation_in k.stage ≡ None) → y.kept ≡ k.kept → ((i : ℕ) → next i u ≡ true → owner i u ≡ true)
       → ((i a : ℕ) → monitor_in (marks x i) ≡ Some a → (next i u || bears y.stage i) ≡ true → (owner i u || bears k.stage i) ≡ true) → Back w x k y owner next u
   mark_back k y owner next u names run ask inflates none_revokes kept owned held =
       search (sym run, sym ask, sym inflates, sym kept, none_revokes, names, owned, held)

@@ -1,5 +1,9 @@
 -- What a mark means that is neutral, or that names a lock record.
-use Rattle.core_locks.proofs.Prelude.{◌≡◌, ◌≢◌, ℕ, ◌<◌, ◌==◌, eq-eqb, ne_eqb, Bool, true, false, cond, Option, Some, None, refl, sym, ap, ◌∙◌, subst, eqb-true, MarkForm, read_mark, mark_of, read_owner, Locked, Neutral, Biased, read_mark-mark_of, read_mark-spells, is_biased, is_neutral, monitor_in, is_biased_form, monitor_form, is_neutral_form, Inflation, Open, OnRecord, lock_form, header_form, IsValidBias, Shape, IsOwner, IsMark, WordsHaveForms, by_equal, mark_zero}
+use Rattle.core_locks.proofs.Prelude.{◌≡◌, ◌≢◌, ℕ, ◌<◌, ◌==◌, eq-eqb, ne_eqb, Bool, true, false, cond, Option, Some, None, refl}
+use Rattle.core_locks.proofs.Prelude.{sym, ap, ◌∙◌, subst, eqb-true, MarkForm, read_mark, mark_of, read_owner, Locked, Neutral}
+use Rattle.core_locks.proofs.Prelude.{Biased, read_mark-mark_of, read_mark-spells, is_biased, is_neutral, monitor_in, is_biased_form}
+use Rattle.core_locks.proofs.Prelude.{monitor_form, is_neutral_form, Inflation, Open, OnRecord, lock_form, header_form, IsValidBias}
+use Rattle.core_locks.proofs.Prelude.{Shape, IsOwner, IsMark, WordsHaveForms, by_equal, mark_zero}
 
 -- a fact of the words of which the one at o is v now: by that of v, and of the others as they were
 pub each_set : {A : Type 0} (Q : ℕ → A → Type 0) (o : ℕ) (v : A) (f : ℕ → A) (i : ℕ) → Q o v → (i ≢ o → Q i (f i)) → Q i (cond (i == o) v (f i))
@@ -39,7 +43,8 @@ pub neutral_some : (n : ℕ) → is_neutral n ≡ true → n ≢ 0
 neutral_some n e z = absurd (cc (sym (neutral_is n e).1 ∙ ap read_mark z ∙ mark_zero))
 
 -- nobody has the lock, and the mark is the header itself
-pub neutral_lock : (n prototype : ℕ) (owners : ℕ → ℕ) (inflation : Option Inflation) → is_neutral n ≡ true → lock_form (read_mark n) prototype owners inflation ≡ Open
+pub neutral_lock : (n prototype : ℕ) (owners : ℕ → ℕ) (inflation : Option Inflation)
+    → is_neutral n ≡ true → lock_form (read_mark n) prototype owners inflation ≡ Open
 neutral_lock n prototype owners inflation e = ap (λ f. lock_form f prototype owners inflation) (neutral_is n e).1
 
 pub neutral_header : (n : ℕ) (displaced : ℕ → ℕ → ℕ) (headers : ℕ → ℕ) (inflation : Option Inflation) → is_neutral n ≡ true
@@ -69,9 +74,12 @@ pub locked_header : (n t p : ℕ) (displaced : ℕ → ℕ → ℕ) (headers : �
 locked_header n t p displaced headers inflation e = ap (λ f. header_form f n displaced headers inflation) e
 
 -- FORMS. A word of the kind that changes has its form, and so have all.
-module _ {s : Shape} {mark owner waiting object class : ℕ → ℕ} {hold : ℕ → ℕ → ℕ} {safe : ℕ} (i n : ℕ) (h : WordsHaveForms s mark owner waiting object class hold safe) where
+module _ {s : Shape} {mark owner waiting object class : ℕ → ℕ} {hold : ℕ → ℕ → ℕ} {safe : ℕ}
+    (i n : ℕ) (h : WordsHaveForms s mark owner waiting object class hold safe) where
   pub forms_marked : IsMark s (read_mark n) → WordsHaveForms s (λ o. cond (o == i) n (mark o)) owner waiting object class hold safe
-  forms_marked is = let marks : (o : ℕ) → IsMark s (read_mark (cond (o == i) n (mark o))) = λ o. each_set (λ o y. IsMark s (read_mark y)) i n mark o is (λ d. h.marks o) in search (marks, h)
+  forms_marked is = let marks : (o : ℕ) → IsMark s (read_mark (cond (o == i) n (mark o))) =
+      λ o. each_set (λ o y. IsMark s (read_mark y)) i n mark o is (λ d. h.marks o) in search (marks, h)
 
   pub forms_owned : IsOwner s (read_owner n) → WordsHaveForms s mark (λ m. cond (m == i) n (owner m)) waiting object class hold safe
-  forms_owned is = let owners : (m : ℕ) → IsOwner s (read_owner (cond (m == i) n (owner m))) = λ m. each_set (λ m y. IsOwner s (read_owner y)) i n owner m is (λ d. h.owners m) in search (owners, h)
+  forms_owned is = let owners : (m : ℕ) → IsOwner s (read_owner (cond (m == i) n (owner m))) =
+      λ m. each_set (λ m y. IsOwner s (read_owner y)) i n owner m is (λ d. h.owners m) in search (owners, h)

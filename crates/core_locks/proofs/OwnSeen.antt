@@ -1,11 +1,16 @@
 -- What the threads have seen stays when a running thread makes a step on a word on which no other counts, with the same marks and plain objects.
-use Rattle.core_locks.proofs.Prelude.{◌≡◌, ◌≢◌, ℕ, ◌||◌, Bool, true, false, List, [], ◌∷◌, Option, Some, None, refl, sym, ap, ◌∙◌, inl, inr, PlainObject, Mark, Waiting, StepPlan, is_biased, monitor_in, waits_on, inflation_in, bears, revocation_in, word_after, same_name, its_monitor, Known, World, with_word_and_known, marks, prototype_of, owner_at, waits_at, Stays, IsKeptOrNamed, SeenStays, known_hit, seen_before, Fits, SeenFit, seen_is_part, stays_back, Back, Spares, seen_moves, counts_more, hits, world_after, known_miss, subst, cond, Name, Length, Hold, Class, nat_lt, not, ◌==◌}
+use Rattle.core_locks.proofs.Prelude.{◌≡◌, ◌≢◌, ℕ, ◌||◌, Bool, true, false, List, [], ◌∷◌, Option, Some, None, refl, sym, ap, ◌∙◌}
+use Rattle.core_locks.proofs.Prelude.{inl, inr, PlainObject, Mark, Waiting, StepPlan, is_biased, monitor_in, waits_on, inflation_in}
+use Rattle.core_locks.proofs.Prelude.{bears, revocation_in, word_after, same_name, its_monitor, ThreadView, World, with_word_and_known}
+use Rattle.core_locks.proofs.Prelude.{marks, prototype_of, owner_at, waits_at, Stays, IsKeptOrNamed, SeenStays, known_hit, seen_before}
+use Rattle.core_locks.proofs.Prelude.{Fits, SeenFit, seen_is_part, stays_back, Back, Spares, seen_moves, counts_more, hits, world_after}
+use Rattle.core_locks.proofs.Prelude.{known_miss, subst, cond, WordId, Length, Hold, Class, nat_lt, not, ◌==◌}
 use Rattle.std.proofs.Math.Bool.{or-true}
 use Rattle.std.specs.Prelude.{IfSome}
 use Rattle.core_locks.proofs.Steps.{none_reached}
 
 -- what thread t knows after its plan's step, where the act hits, and the world then
-abbrev pub left_with : World → ℕ → StepPlan → Known
+abbrev pub left_with : World → ℕ → StepPlan → ThreadView
 left_with w t plan = known_hit w.shape w.start plan (w.words plan.at) (w.known t)
 
 abbrev pub hit_world : World → ℕ → StepPlan → World
@@ -26,7 +31,8 @@ pub record OnOwn (w : World) (P : List PlainObject) (t : ℕ) (p : StepPlan) : T
   pub kept : (left_with w t p).kept ≡ (w.known t).kept
   pub inflates : inflation_in (left_with w t p).stage ≡ inflation_in (w.known t).stage
   -- what it bears afterwards through a monitor it bore before
-  pub held : (o a : ℕ) → monitor_in (marks w o) ≡ Some a → (owner_at P o t || bears (left_with w t p).stage o) ≡ true → (owner_at P o t || bears (w.known t).stage o) ≡ true
+  pub held : (o a : ℕ) → monitor_in (marks w o) ≡ Some a → (owner_at P o t || bears (left_with w t p).stage o) ≡ true
+      → (owner_at P o t || bears (w.known t).stage o) ≡ true
   pub marks : marks (hit_world w t p) ≡ marks w
   pub prototypes : prototype_of (hit_world w t p) ≡ prototype_of w
   pub no_mark : (o : ℕ) → same_name (Mark o) p.at ≡ false
@@ -50,8 +56,10 @@ either true b c f e = ap (λ d. d || b) (f refl)
 either false b c f e = ap (λ d. c || d) e ∙ or-true c
 
 -- WHAT COUNTS BEFORE, where marks and prototypes are as they were, and who owns an object afterwards owned it
-pub back_by : (w x : World) (k y : Known) (owner next : ℕ → ℕ → Bool) (u : ℕ) → marks x ≡ marks w → prototype_of x ≡ prototype_of w → (y.running ≡ true → k.running ≡ true) → y.requesting ≡ k.requesting
-    → inflation_in y.stage ≡ inflation_in k.stage → (revocation_in y.stage ≡ None → revocation_in k.stage ≡ None) → y.kept ≡ k.kept → ((o : ℕ) → next o u ≡ true → owner o u ≡ true)
+pub back_by : (w x : World) (k y : ThreadView) (owner next : ℕ → ℕ → Bool) (u : ℕ) → marks x ≡ marks w
+    → prototype_of x ≡ prototype_of w → (y.running ≡ true → k.running ≡ true) → y.requesting ≡ k.requesting
+    → inflation_in y.stage ≡ inflation_in k.stage → (revocation_in y.stage ≡ None → revocation_in k.stage ≡ None)
+    → y.kept ≡ k.kept → ((o : ℕ) → next o u ≡ true → owner o u ≡ true)
     → ((o a : ℕ) → monitor_in (marks w o) ≡ Some a → (owner o u || bears y.stage o) ≡ true → (owner o u || bears k.stage o) ≡ true) → Back w x k y owner next u
 back_by w x k y owner next u mark prototype run ask inflates none_revokes kept fewer held =
     let prototypes : (o : ℕ) → prototype_of x o ≡ prototype_of w o = λ o. λ i. prototype i o in
@@ -61,16 +69,17 @@ back_by w x k y owner next u mark prototype run ask inflates none_revokes kept f
     search (run, sym ask, none_revokes, sym inflates, sym kept, prototypes, monitor, fewer, before)
 
 -- so another thread, which knows what it knew, counted before on what it may count on
-pub other_back : (w x : World) (k : Known) (owner next : ℕ → ℕ → Bool) (u : ℕ) → marks x ≡ marks w → prototype_of x ≡ prototype_of w
+pub other_back : (w x : World) (k : ThreadView) (owner next : ℕ → ℕ → Bool) (u : ℕ) → marks x ≡ marks w → prototype_of x ≡ prototype_of w
     → ((o : ℕ) → next o u ≡ true → owner o u ≡ true)
-    → (n : Name) (s : ℕ) → Stays x k next u n s → Stays w k owner u n s
+    → (n : WordId) (s : ℕ) → Stays x k next u n s → Stays w k owner u n s
 other_back w x k owner next u mark prototype fewer =
     stays_back w x k k owner next u (back_by w x k k owner next u mark prototype (λ h. h) refl refl (λ h. h) refl fewer (λ o m g h. h))
 
 -- who owns an object afterwards owned it before, and those who wait on each object on which somebody did are now `waiters`
-module _ (w : World) (P : List PlainObject) (t : ℕ) (p : StepPlan) (a : OnOwn w P t p) (next : ℕ → ℕ → Bool) (fewer : (o u : ℕ) → next o u ≡ true → owner_at P o u ≡ true) (waiters : ℕ → List (ℕ × ℕ))
+module _ (w : World) (P : List PlainObject) (t : ℕ) (p : StepPlan) (a : OnOwn w P t p) (next : ℕ → ℕ → Bool)
+    (fewer : (o u : ℕ) → next o u ≡ true → owner_at P o u ≡ true) (waiters : ℕ → List (ℕ × ℕ))
     (no_more : (o : ℕ) → waits_at P o ≡ [] → waiters o ≡ []) (v : Fits w P) where
-  abbrev l : Known
+  abbrev l : ThreadView
   l = left_with w t p
 
   abbrev n : ℕ
@@ -80,7 +89,8 @@ module _ (w : World) (P : List PlainObject) (t : ℕ) (p : StepPlan) (a : OnOwn 
   x = hit_world w t p
 
   mine : Back w x (w.known t) l (owner_at P) next t
-  mine = back_by w x (w.known t) l (owner_at P) next t a.marks a.prototypes (λ h. a.runs) a.requesting a.inflates (λ h. v.quiet.none_revokes t) a.kept (λ o. fewer o t) a.held
+  mine = back_by w x (w.known t) l (owner_at P) next t a.marks a.prototypes
+      (λ h. a.runs) a.requesting a.inflates (λ h. v.quiet.none_revokes t) a.kept (λ o. fewer o t) a.held
 
   spares : Spares p.at (word_after p.act n) t l w (owner_at P) next (waits_at P) waiters
   spares = record {
@@ -104,7 +114,8 @@ module _ (w : World) (P : List PlainObject) (t : ℕ) (p : StepPlan) (a : OnOwn 
   seen_as =
       seen_moves p n t l w (owner_at P) next (waits_at P) waiters (seen_before w.shape (w.known t)) a.seen
       (counts_more p.at (word_after p.act n) t l w (owner_at P) next (waits_at P) waiters (seen_before w.shape (w.known t)) (seen_is_part w.shape (w.known t))
-      mine (λ m h. inl (a.kept ∙ h)) (λ m r is. fresh (its_monitor p.at) a.named m is) (λ o is. absurd (cc (is, a.no_mark o))) (λ o e h. no_more o h) spares (λ u o e h. a.waits u o h) v.seen)
+      mine (λ m h. inl (a.kept ∙ h)) (λ m r is. fresh (its_monitor p.at) a.named m is)
+      (λ o is. absurd (cc (is, a.no_mark o))) (λ o e h. no_more o h) spares (λ u o e h. a.waits u o h) v.seen)
       spares v.seen
 
 -- and the same threads wait

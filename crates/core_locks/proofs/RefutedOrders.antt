@@ -1,5 +1,6 @@
 -- The last entry of each log stands in the order.
-use Rattle.core_locks.proofs.Prelude.{◌≡◌, ℕ, ◌==◌, Bool, true, false, List, [], ◌∷◌, ◌++◌, refl, ◌∙◌, subst, AllByRecursion, Logged, log_of, RisesAbove, order, of_thread, thread_kept}
+use Rattle.core_locks.proofs.Prelude.{◌≡◌, ℕ, ◌==◌, Bool, true, false, List, [], ◌∷◌, ◌++◌, refl, ◌∙◌, subst}
+use Rattle.core_locks.proofs.Prelude.{AllByRecursion, Logged, log_of, RisesAbove, order, of_thread, thread_kept}
 
 -- what holds of all entries holds of a thread's, by the test against the head
 own_at_head : (F : Logged → Type 0) (t : ℕ) (x : ℕ × Logged) (xs : List (ℕ × Logged)) (b : Bool) → (x.0 == t) ≡ b → F x.1 → AllByRecursion F (of_thread t xs)

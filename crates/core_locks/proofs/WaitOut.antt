@@ -1,5 +1,8 @@
 -- A thread whose waiting word says neither that it waits nor that it was notified stands at no object's lists, so who holds an object owns it.
-use Rattle.core_locks.proofs.Prelude.{◌≡◌, ℕ, ◌≤◌, Bool, true, false, cond, List, refl, ap, ◌∙◌, arith, inl, inr, is_listed, PlainObject, Waiting, Calm, Resumes, waits_on, says_notified, hold_words_ahead, Known, World, hold_count, holds_by_monitor, monitor_of, owner_at, waits_at, notified_at, Fits, no_wait, no_told, unlisted_count, IsOut, is_thread, who, bears, sym, ◌||◌}
+use Rattle.core_locks.proofs.Prelude.{◌≡◌, ℕ, ◌≤◌, Bool, true, false, cond, List, refl, ap, ◌∙◌, arith, inl, inr, is_listed}
+use Rattle.core_locks.proofs.Prelude.{PlainObject, Waiting, Settled, Resumes, waits_on, says_notified, hold_words_ahead}
+use Rattle.core_locks.proofs.Prelude.{ThreadView, World, hold_count, holds_by_monitor, monitor_of, owner_at, waits_at, notified_at}
+use Rattle.core_locks.proofs.Prelude.{Fits, no_wait, no_told, unlisted_count, IsOut, is_thread, who, bears, sym, ◌||◌}
 
 -- a test that can't hold fails
 pub fails : (b : Bool) → (b ≡ true → ⊥) → b ≡ false
@@ -17,7 +20,7 @@ pub no_other : (w : World) (P : List PlainObject) (o u : ℕ) → Fits w P → i
 no_other w P o u v h = neither (owner_at P o u) (bears (w.known u).stage o) (sym h ∙ v.owners.same o u)
 
 -- a thread whose waiting word says that it is ready is out
-pub ready_is_out : (k : Known) → k.wait ≡ 0 → IsOut k
+pub ready_is_out : (k : ThreadView) → k.wait ≡ 0 → IsOut k
 ready_is_out k ready o = (ap (λ n. waits_on n o) ready ∙ no_wait o, ap (λ n. says_notified n o) ready ∙ no_told o)
 
 module _ (w : World) (P : List PlainObject) (t : ℕ) (v : Fits w P) (out : IsOut (w.known t)) where
@@ -62,18 +65,21 @@ out_standing w P t v out o d =
 -- a thread that is out, and has a hold word for an object, is its plain owner, and has as many as the plain count, at each stage but those at
 -- which it has one that its log doesn't say or resumes
 pub even_holder_owns : (w : World) (P : List PlainObject) (t : ℕ) → Fits w P → IsOut (w.known t) → (o : ℕ) → ((w.known t).stage ≡ Resumes o → ⊥)
-    → hold_words_ahead (w.known t).stage o ≡ 0 → 1 ≤ hold_count o (w.known t).holds → (owner_at P o t ≡ true) × (hold_count o (w.known t).holds ≡ (monitor_of P o).count)
+    → hold_words_ahead (w.known t).stage o ≡ 0 → 1 ≤ hold_count o (w.known t).holds
+    → (owner_at P o t ≡ true) × (hold_count o (w.known t).holds ≡ (monitor_of P o).count)
 even_holder_owns w P t v out o d none holds =
     let number = v.holds.number t o in
     let named_is : hold_count o (w.known t).holds ≡ holds_by_monitor (monitor_of P o) t = omega (arith, number, none) in
     cases (owner_at P o t) refl (out_standing w P t v out o d) named_is
   where
-    cases : (b : Bool) → owner_at P o t ≡ b → holds_by_monitor (monitor_of P o) t ≡ cond b (monitor_of P o).count 0 → hold_count o (w.known t).holds ≡ holds_by_monitor (monitor_of P o) t
+    cases : (b : Bool) → owner_at P o t ≡ b → holds_by_monitor (monitor_of P o) t ≡ cond b (monitor_of P o).count 0
+        → hold_count o (w.known t).holds ≡ holds_by_monitor (monitor_of P o) t
         → (owner_at P o t ≡ true) × (hold_count o (w.known t).holds ≡ (monitor_of P o).count)
     cases true e s n = (e, n ∙ s)
     cases false e s n = absurd (omega (arith, s, n, holds))
 
--- so it is at the stage Calm
-pub holder_owns : (w : World) (P : List PlainObject) (t : ℕ) → Fits w P → IsOut (w.known t) → (o : ℕ) → (w.known t).stage ≡ Calm → 1 ≤ hold_count o (w.known t).holds
+-- so it is at the stage Settled
+pub holder_owns : (w : World) (P : List PlainObject) (t : ℕ) → Fits w P → IsOut (w.known t)
+    → (o : ℕ) → (w.known t).stage ≡ Settled → 1 ≤ hold_count o (w.known t).holds
     → (owner_at P o t ≡ true) × (hold_count o (w.known t).holds ≡ (monitor_of P o).count)
 holder_owns w P t v out o calm holds = even_holder_owns w P t v out o (λ e. absurd (cc (e, calm))) (ap (λ s. hold_words_ahead s o) calm) holds

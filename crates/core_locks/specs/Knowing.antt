@@ -4,28 +4,28 @@ use Rattle.plain_monitor.specs.declared.entry.Entry.{Entry}
 use Rattle.plain_monitor.specs.declared.entry.Entry.TheVariants as entry
 use Rattle.plain_monitor.specs.Objects.{PlainObject, take_entry}
 use Rattle.core_world.specs.declared.plan.StepPlan.{StepPlan}
-use Rattle.core_world.specs.declared.name.Name.{Name}
-use Rattle.core_world.specs.declared.name.Name.TheVariants.{Mark, Owner, Prototype}
+use Rattle.core_world.specs.declared.word_id.WordId.{WordId}
+use Rattle.core_world.specs.declared.word_id.WordId.TheVariants.{Mark, Owner, Prototype}
 use Rattle.mark_word.specs.declared.mark.MarkForm.{MarkForm}
 use Rattle.mark_word.specs.declared.mark.MarkForm.TheVariants.{Biased}
 use Rattle.mark_word.specs.Mark.{read_mark}
 use Rattle.mark_word.specs.Owner.{owner_of}
 use Rattle.mark_word.specs.declared.owner.OwnerForm.TheVariants.{ByThread}
-use Rattle.core_world.specs.declared.task.Op.TheVariants as op
-use Rattle.core_world.specs.declared.task.Unfinished.{Unfinished}
+use Rattle.core_world.specs.declared.heap_call.Operation.TheVariants as op
+use Rattle.core_world.specs.declared.heap_call.Unfinished.{Unfinished}
 use Rattle.core_world.specs.Words.Shape.{Shape}
 use Rattle.core_world.specs.Threads.AtRest.{SawClass}
 use Rattle.core_world.specs.Shots.{dumps_from}
 use Rattle.core_world.specs.Words.Forms.{epoch_in, is_biased, waits_on, says_notified, monitor_in}
-use Rattle.core_world.specs.Threads.Known.{Known, last_seen}
+use Rattle.core_world.specs.Threads.ThreadView.{ThreadView, last_seen}
 use Rattle.core_world.specs.Locks.{has_epoch, hold_count}
-use Rattle.core_world.specs.Trees.Plans.{Purpose}
+use Rattle.core_world.specs.Trees.Plans.{CallContext}
 use Rattle.core_world.specs.Steps.{world_after}
 use Rattle.core_world.specs.Valid.{IsValid}
 use Rattle.core_world.specs.World.{World}
 
--- The steps of a purpose leave unfinished what the thread has unfinished; where that is nothing, they may begin an operation.
-abbrev pub GoesOn : Known → Purpose → Type 0
+-- The steps of a call leave unfinished what the thread has unfinished; where that is nothing, they may begin an operation.
+abbrev pub GoesOn : ThreadView → CallContext → Type 0
 GoesOn k e = (e.unfinished ≡ k.unfinished) ⊎ (k.unfinished ≡ None)
 
 -- the operation that a step works for which logs this entry; none where the entry's one step is all there is to do
@@ -42,24 +42,24 @@ operation_of (entry.New o class) = Some (record { op = op.Create; object = o })
 operation_of _ = None
 
 -- What the thread has unfinished is nothing, or the operation of this entry.
-abbrev pub WorksFor : Known → Entry → Type 0
+abbrev pub WorksFor : ThreadView → Entry → Type 0
 WorksFor k e = (k.unfinished ≡ None) ⊎ (k.unfinished ≡ operation_of e)
 
 -- The thread's waiting word, as it last stored it, says neither that it waits nor that it was notified. So it is at every step of an operation
 -- but those of a wait that has logged its Wait.
-abbrev pub IsOut : Known → Type 0
+abbrev pub IsOut : ThreadView → Type 0
 IsOut k = (o : ℕ) → (waits_on k.wait o ≡ false) × (says_notified k.wait o ≡ false)
 
 -- it has a hold word for o
-abbrev pub HasHold : Known → ℕ → Type 0
+abbrev pub HasHold : ThreadView → ℕ → Type 0
 HasHold k o = 1 ≤ hold_count o k.holds
 
 -- in this call it has seen a mark of o that names the monitor m
-abbrev pub SawInflated : Known → ℕ → ℕ → Type 0
+abbrev pub SawInflated : ThreadView → ℕ → ℕ → Type 0
 SawInflated k o m = (v : ℕ) × (last_seen (Mark o) k.seen ≡ Some v) × (monitor_in v ≡ Some m)
 
 -- in this call it has seen, or stored, that it is itself the owner of m
-abbrev pub SawOwn : Known → ℕ → ℕ → Type 0
+abbrev pub SawOwn : ThreadView → ℕ → ℕ → Type 0
 SawOwn k t m = last_seen (Owner m) k.seen ≡ Some (owner_of (ByThread t))
 
 -- the mark is biased to thread t, in the epoch of its class
@@ -68,22 +68,22 @@ IsBiasTo t (Some (Biased thread epoch age)) e = (thread ≡ t) × (has_epoch e e
 IsBiasTo t _ e = ⊥
 
 -- in this call it has seen, or stored, a mark of o that is validly biased to itself, by the prototype of its class that it saw
-abbrev pub SawOwnBias : Shape → Known → ℕ → Type 0
+abbrev pub SawOwnBias : Shape → ThreadView → ℕ → Type 0
 SawOwnBias s k o =
     (v p c : ℕ) × (last_seen (Mark o) k.seen ≡ Some v) × SawClass s k.seen o c × (last_seen (Prototype c) k.seen ≡ Some p)
     × IsBiasTo k.thread (read_mark v) (epoch_in p)
 
 -- in this call it has seen, or stored, a mark of o with the bias pattern. Where it has the lock of o, that bias is valid and its own
-abbrev pub SawBiased : Known → ℕ → Type 0
+abbrev pub SawBiased : ThreadView → ℕ → Type 0
 SawBiased k o = (v : ℕ) × (last_seen (Mark o) k.seen ≡ Some v) × (is_biased v ≡ true)
 
 -- a dump is that of the last shot that the thread keeps, which has its number, and which no entry of its log stands for yet
-abbrev pub IsOfLastShot : Known → Entry → Type 0
+abbrev pub IsOfLastShot : ThreadView → Entry → Type 0
 IsOfLastShot k (entry.Dump number) = (number ≡ length k.shots) × (length k.shots ≡ length (dumps_from 0 k.log) + 1)
 IsOfLastShot k _ = Unit {0}
 
 -- The entry is its own: of the operation that it has unfinished, if it has one, and a dump of its last shot.
-pub record IsOwnEntry (k : Known) (e : Entry) : Type 0 where
+pub record IsOwnEntry (k : ThreadView) (e : Entry) : Type 0 where
   pub operation : WorksFor k e
   pub shot : IsOfLastShot k e
 
@@ -109,6 +109,6 @@ abbrev pub LogsValid : (World → ℕ → Type 0) → (World → ℕ → StepPla
 LogsValid may plan e = LogsFound may plan (λ n. e)
 
 -- In each valid world in which thread t may, this word is the one that it expects.
-abbrev pub FindsWord : (World → ℕ → Type 0) → Name → (ℕ → ℕ) → Type 0
+abbrev pub FindsWord : (World → ℕ → Type 0) → WordId → (ℕ → ℕ) → Type 0
 FindsWord may at word =
     (w : World) (objects : List PlainObject) (t : ℕ) → may w t → IsValid w objects → w.words at ≡ word t

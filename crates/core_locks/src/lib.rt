@@ -6,55 +6,43 @@
 //! `specs/` says when a thread may make each step, by its own knowledge alone.
 #![tactic(auto)]
 
-mod deflating;
-mod entering;
-mod exiting;
-mod hashing;
-mod holding;
-mod leaving_to_wait;
+pub mod deflation;
+pub mod enter_exit;
+pub mod hash;
 mod looks;
-mod marking;
-mod monitors;
+pub mod monitor;
 mod refused;
-mod safepoint;
-mod shooting;
-mod telling;
-mod waiting;
-mod waking;
+pub mod safepoint;
+pub mod shot;
+pub mod telling;
+pub mod wait;
 
-pub use deflating::{
+pub use deflation::{
     a_claim_gives_a_monitor_of_nobody, clearing_an_idle_monitor_keeps_the_world_valid,
     giving_an_object_its_header_keeps_the_world_valid,
     moving_the_end_of_the_ring_keeps_the_world_valid, storing_into_the_ring_keeps_the_world_valid,
 };
-pub use entering::{
+pub use enter_exit::{
+    clearing_a_hold_word_keeps_the_world_valid, exchanging_a_neutral_mark_keeps_the_world_valid,
+    exiting_by_a_hold_word_keeps_the_world_valid, exiting_by_the_mark_keeps_the_world_valid,
     logging_a_resume_keeps_the_world_valid, logging_an_enter_keeps_the_world_valid,
+    storing_a_displaced_word_keeps_the_world_valid, storing_a_hold_word_keeps_the_world_valid,
     the_stamp_of_a_taking_follows_from_the_logs,
 };
-pub use exiting::{
-    exiting_by_a_hold_word_keeps_the_world_valid, exiting_by_the_mark_keeps_the_world_valid,
-};
-pub use hashing::{
+pub use hash::{
     drawing_a_hash_into_a_mark_keeps_the_world_valid,
     drawing_a_hash_into_a_monitor_keeps_the_world_valid, each_hash_is_drawn_once,
     finding_a_hash_in_a_mark_keeps_the_world_valid,
     finding_a_hash_in_a_monitor_keeps_the_world_valid,
     finding_a_hash_in_an_own_record_keeps_the_world_valid,
 };
-pub use holding::{
-    clearing_a_hold_word_keeps_the_world_valid, storing_a_hold_word_keeps_the_world_valid,
-};
-pub use leaving_to_wait::logging_a_wait_keeps_the_world_valid;
 pub use looks::{
     a_load_by_a_requester_keeps_the_world_valid, a_load_of_a_displaced_word_keeps_the_world_valid,
     a_load_of_a_mark_keeps_the_world_valid,
     a_load_of_a_waiting_word_or_length_keeps_the_world_valid,
     a_load_of_the_safepoint_word_keeps_the_world_valid,
 };
-pub use marking::{
-    exchanging_a_neutral_mark_keeps_the_world_valid, storing_a_displaced_word_keeps_the_world_valid,
-};
-pub use monitors::{
+pub use monitor::{
     claiming_a_monitor_keeps_the_world_valid, exchanging_a_free_owner_keeps_the_world_valid,
     exchanging_a_locked_mark_keeps_the_world_valid, freeing_a_monitor_keeps_the_world_valid,
     letting_go_in_a_wait_keeps_the_world_valid, loading_a_word_of_a_monitor_keeps_the_world_valid,
@@ -80,7 +68,7 @@ pub use safepoint::{
     requesting_keeps_the_world_valid, resuming_keeps_the_world_valid,
     stopping_keeps_the_world_valid,
 };
-pub use shooting::{
+pub use shot::{
     each_shot_is_right, keeping_a_shot_keeps_the_world_valid,
     no_shot_of_an_owner_without_its_enter, no_shot_that_differs_from_its_cut,
     no_shot_that_leaves_out_an_earlier_entry, the_looks_of_a_dump_see_all,
@@ -89,11 +77,9 @@ pub use telling::{
     logging_a_get_keeps_the_world_valid, logging_a_put_keeps_the_world_valid,
     publishing_a_length_keeps_the_world_valid, publishing_the_whole_log_keeps_the_world_valid,
 };
-pub use waiting::{
-    raising_a_stamp_keeps_the_world_valid, storing_ended_keeps_the_world_valid,
-    storing_entering_keeps_the_world_valid, storing_ready_keeps_the_world_valid,
-};
-pub use waking::{
+pub use wait::{
     logging_a_notify_all_keeps_the_world_valid, logging_a_notify_keeps_the_world_valid,
-    telling_one_of_several_keeps_the_world_valid,
+    logging_a_wait_keeps_the_world_valid, raising_a_stamp_keeps_the_world_valid,
+    storing_ended_keeps_the_world_valid, storing_entering_keeps_the_world_valid,
+    storing_ready_keeps_the_world_valid, telling_one_of_several_keeps_the_world_valid,
 };

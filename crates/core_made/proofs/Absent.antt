@@ -1,14 +1,15 @@
 -- What a step that spares what isn't there leaves of it: the mark of an object that isn't there, each class word, and that no thread has a hold word
 -- for such an object. No stamp word falls.
-use Rattle.std.proofs.Common.{◌≡◌, ◌⊎◌, ℕ, zero, suc, ◌+◌, ◌<◌, ◌≤◌, eq-eqb, ne_eqb, Bool, true, false, cond, List, [], ◌∷◌, slice_set, slice_index, refl, sym, ap, ◌∙◌, arith, inl, inr}
+use Rattle.std.proofs.Common.{◌≡◌, ◌⊎◌, ℕ, zero, suc, ◌+◌, ◌<◌, ◌≤◌, eq-eqb, ne_eqb, Bool, true, false, cond}
+use Rattle.std.proofs.Common.{List, [], ◌∷◌, slice_set, slice_index, refl, sym, ap, ◌∙◌, arith, inl, inr}
 use Rattle.core_world.specs.declared.act.Act.{Act}
 use Rattle.core_world.specs.declared.act.Act.TheVariants.{Store}
-use Rattle.core_world.specs.declared.name.Name.{Name}
-use Rattle.core_world.specs.declared.name.Name.TheVariants.{Mark, Hold, Stamp, Class}
+use Rattle.core_world.specs.declared.word_id.WordId.{WordId}
+use Rattle.core_world.specs.declared.word_id.WordId.TheVariants.{Mark, Hold, Stamp, Class}
 use Rattle.core_world.specs.Locks.{count_where, hold_count}
 use Rattle.core_world.specs.RevocationRules.{words_from}
 use Rattle.core_world.specs.Steps.{holds_after}
-use Rattle.core_world.specs.Threads.Known.{Known}
+use Rattle.core_world.specs.Threads.ThreadView.{ThreadView}
 use Rattle.core_world.specs.Threads.References.{making_in}
 use Rattle.core_world.specs.Threads.Stages.{one_if}
 use Rattle.core_world.specs.Words.Acts.{word_after}
@@ -31,14 +32,14 @@ is_unnamed : (b there : Bool) → (b ≡ true → there ≡ true) → there ≡ 
 is_unnamed true there f none = absurd (cc (f refl, none))
 is_unnamed false there f none = refl
 
-pub unheld_after : (there : ℕ → Bool) (at : Name) (act : Act) (found : ℕ) (k : Known) (o : ℕ) → SparesAbsent there at found (word_after act found)
+pub unheld_after : (there : ℕ → Bool) (at : WordId) (act : Act) (found : ℕ) (k : ThreadView) (o : ℕ) → SparesAbsent there at found (word_after act found)
     → there o ≡ false → hold_count o k.holds ≡ 0 → hold_count o (holds_after at act k) ≡ 0
 unheld_after there (Hold t p) (Store word) found k o spares none unheld =
     none_named o p word 0 k.holds (is_unnamed (names o word) (there o) (spares o) none) unheld
 unheld_after there at act found k o spares none unheld = unheld
 
 -- WORDS OF OBJECTS, where the word at a name becomes v
-pub mark_stays : (there : ℕ → Bool) (at : Name) (v : ℕ) (f : Name → ℕ) (o : ℕ) → SparesAbsent there at (f at) v → there o ≡ false
+pub mark_stays : (there : ℕ → Bool) (at : WordId) (v : ℕ) (f : WordId → ℕ) (o : ℕ) → SparesAbsent there at (f at) v → there o ≡ false
     → with_word at v f (Mark o) ≡ f (Mark o)
 mark_stays there (Mark i) v f o spares none =
     by_equal o i
@@ -49,14 +50,14 @@ mark_stays there (Mark i) v f o spares none =
     (λ d. ap (λ (b : Bool). cond b v (f (Mark o))) (ne_eqb o i d))
 mark_stays there at v f o spares none = refl
 
-pub class_stays : (there : ℕ → Bool) (at : Name) (v : ℕ) (f : Name → ℕ) (o : ℕ) → SparesAbsent there at (f at) v → with_word at v f (Class o) ≡ f (Class o)
+pub class_stays : (there : ℕ → Bool) (at : WordId) (v : ℕ) (f : WordId → ℕ) (o : ℕ) → SparesAbsent there at (f at) v → with_word at v f (Class o) ≡ f (Class o)
 class_stays there (Class i) v f o spares =
     by_equal o i
     (λ e. ap (λ (b : Bool). cond b v (f (Class o))) (eq-eqb o i e) ∙ spares ∙ ap (λ j. f (Class j)) (sym e))
     (λ d. ap (λ (b : Bool). cond b v (f (Class o))) (ne_eqb o i d))
 class_stays there at v f o spares = refl
 
-pub stamp_rises : (there : ℕ → Bool) (at : Name) (v : ℕ) (f : Name → ℕ) (o : ℕ) → SparesAbsent there at (f at) v → f (Stamp o) ≤ with_word at v f (Stamp o)
+pub stamp_rises : (there : ℕ → Bool) (at : WordId) (v : ℕ) (f : WordId → ℕ) (o : ℕ) → SparesAbsent there at (f at) v → f (Stamp o) ≤ with_word at v f (Stamp o)
 stamp_rises there (Stamp i) v f o spares =
     by_equal o i
     (λ e.
@@ -67,12 +68,12 @@ stamp_rises there (Stamp i) v f o spares =
 stamp_rises there at v f o spares = omega arith
 
 -- WHAT THREADS ARE MAKING they still make, where thread t then knows l, and makes what it made
-pub making_stays : (t : ℕ) (l : Known) (known : ℕ → Known) (u : ℕ) → making_in l.unfinished ≡ making_in (known t).unfinished
+pub making_stays : (t : ℕ) (l : ThreadView) (known : ℕ → ThreadView) (u : ℕ) → making_in l.unfinished ≡ making_in (known t).unfinished
     → making_in (with_known t l known u).unfinished ≡ making_in (known u).unfinished
 making_stays t l known u makes = each_with_known (λ x k. making_in k.unfinished ≡ making_in (known x).unfinished) t l known u makes (λ d. refl)
 
 -- AN OBJECT THAT ISN'T THERE stays so, where thread t then knows l, with the hold words that it had or that the act leaves
-pub absent_stays : (there : ℕ → Bool) (at : Name) (act : Act) (t : ℕ) (l : Known) (f : Name → ℕ) (known : ℕ → Known) (o : ℕ)
+pub absent_stays : (there : ℕ → Bool) (at : WordId) (act : Act) (t : ℕ) (l : ThreadView) (f : WordId → ℕ) (known : ℕ → ThreadView) (o : ℕ)
     → SparesAbsent there at (f at) (word_after act (f at)) → there o ≡ false → (l.holds ≡ holds_after at act (known t)) ⊎ (l.holds ≡ (known t).holds)
     → making_in l.unfinished ≡ making_in (known t).unfinished
     → IsAbsent (λ u. (known u).unfinished) o (f (Class o)) (f (Mark o)) (λ u. (known u).holds)

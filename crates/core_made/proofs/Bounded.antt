@@ -1,5 +1,6 @@
 -- An entry that a thread logs is above the bound of the object that it is bound to: its thread owns the object or takes it from nobody.
-use Rattle.std.proofs.Common.{◌≡◌, ◌⊎◌, ℕ, ◌+◌, ◌<◌, ◌==◌, ◌&&◌, max, Bool, true, false, cond, List, slice_get, Option, Some, None, refl, sym, ap, ◌∙◌, arith, inl, inr}
+use Rattle.std.proofs.Common.{◌≡◌, ◌⊎◌, ℕ, ◌+◌, ◌<◌, ◌==◌, ◌&&◌, max, Bool, true, false, cond, List}
+use Rattle.std.proofs.Common.{slice_get, Option, Some, None, refl, sym, ap, ◌∙◌, arith, inl, inr}
 use Rattle.std.proofs.lemmas.Option.{cond_some, same_Some, get_or_from_slice_get}
 use Rattle.std.specs.Option.{is_none}
 use Rattle.plain_monitor.specs.declared.entry.Entry.{Entry}
@@ -12,9 +13,9 @@ use Rattle.plain_history.proofs.Owners.{nobody_resumes}
 use Rattle.plain_history.proofs.SoundHistories.{monitor_kept}
 use Rattle.plain_history.proofs.Swaps.{taken_at, bound_is_named}
 use Rattle.core_world.specs.Steps.{is_taking, stamp_by}
-use Rattle.core_world.proofs.ObjectHolds.{thread_is, same_number}
+use Rattle.core_world.proofs.enter_exit.ObjectHolds.{thread_is, same_number}
 use Rattle.core_locks.specs.OwnersEntries.{is_by_owner}
-use Rattle.core_locks.proofs.RefutedOwning.{taken_by_owner}
+use Rattle.core_locks.proofs.enter_exit.RefutedOwning.{taken_by_owner}
 
 -- STAMPS. An entry's is above its thread's last one, and that of an entry which takes an object above the word found.
 higher : (b : Bool) (found last : ℕ) → last < cond b (max found last + 1) (last + 1)

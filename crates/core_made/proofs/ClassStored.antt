@@ -1,5 +1,6 @@
 -- The law of what is there after the store of a class word: the object still isn't there, and its thread is making it.
-use Rattle.std.proofs.Common.{◌≡◌, ◌≢◌, ℕ, ◌+◌, ◌<◌, eq-eqb, ne_eqb, Bool, true, false, cond, ◌&&◌, ◌==◌, List, length, Option, Some, None, refl, sym, ap, ◌∙◌, subst, arith, inl, inr}
+use Rattle.std.proofs.Common.{◌≡◌, ◌≢◌, ℕ, ◌+◌, ◌<◌, eq-eqb, ne_eqb, Bool, true, false, cond, ◌&&◌, ◌==◌, List}
+use Rattle.std.proofs.Common.{length, Option, Some, None, refl, sym, ap, ◌∙◌, subst, arith, inl, inr}
 use Rattle.std.proofs.lemmas.Option.{same_Some}
 use Rattle.plain_monitor.specs.declared.entry.Logged.{Logged}
 use Rattle.plain_monitor.specs.Objects.{PlainObject}
@@ -8,15 +9,15 @@ use Rattle.plain_monitor.specs.Made.{Numbering, made_number, is_there, made_by, 
 use Rattle.plain_history.specs.Known.{news}
 use Rattle.plain_history.proofs.MadeSteps.{MayCreate, creating, may_be_created}
 use Rattle.plain_history.proofs.SlotsKnown.{made_by_log}
-use Rattle.core_world.specs.declared.name.Name.TheVariants.{Mark, Class}
-use Rattle.core_world.specs.declared.task.Op.{Op}
-use Rattle.core_world.specs.declared.task.Op.TheVariants as op
-use Rattle.core_world.specs.declared.task.Unfinished.{Unfinished}
+use Rattle.core_world.specs.declared.word_id.WordId.TheVariants.{Mark, Class}
+use Rattle.core_world.specs.declared.heap_call.Operation.{Operation}
+use Rattle.core_world.specs.declared.heap_call.Operation.TheVariants as op
+use Rattle.core_world.specs.declared.heap_call.Unfinished.{Unfinished}
 use Rattle.core_world.specs.Locks.{marks}
 use Rattle.core_world.specs.Steps.{known_hit, world_after}
-use Rattle.core_world.specs.Threads.Known.{Known, DumpShot, StepMade, last_seen}
+use Rattle.core_world.specs.Threads.ThreadView.{ThreadView, DumpShot, StepMade, last_seen}
 use Rattle.core_world.specs.Trees.CreateSteps.{class_plan}
-use Rattle.core_world.specs.Trees.Plans.{Purpose}
+use Rattle.core_world.specs.Trees.Plans.{CallContext}
 use Rattle.core_world.specs.Valid.{Fits}
 use Rattle.core_world.specs.World.{World, logs}
 use Rattle.core_world.proofs.ActsLook.{seen_is_part}
@@ -30,7 +31,7 @@ use Rattle.core_made.proofs.NextNumbers.{rows_are, next_is_made, next_is_absent,
 use Rattle.core_made.proofs.Numbers.{first_is_declared}
 
 -- the making of an object is an operation on none that is there
-not_on_op : (op : Op) (o made i : ℕ) → made_by_op op o ≡ Some made → (has_object op && (o == i)) ≡ false
+not_on_op : (op : Operation) (o made i : ℕ) → made_by_op op o ≡ Some made → (has_object op && (o == i)) ≡ false
 not_on_op op.Create o made i h = refl
 not_on_op op.Enter o made i h = absurd (cc h)
 not_on_op op.Exit o made i h = absurd (cc h)
@@ -108,7 +109,7 @@ module _ {n : Numbering} {shape : List (ℕ × ℕ)} {logs : List (List Logged)}
   }
 
 -- IN A WORLD
-module _ (e : Purpose) (o c : ℕ) (w : World) (P : List PlainObject) (t : ℕ) (within : t < w.shape.threads)
+module _ (e : CallContext) (o c : ℕ) (w : World) (P : List PlainObject) (t : ℕ) (within : t < w.shape.threads)
     (none : making_in (w.known t).unfinished ≡ None) (next : IsNext (numbering w.shape) (w.known t).log t o c) (v : Fits w P) (law : MadeLawHolds w) where
   abbrev n : Numbering
   n = numbering w.shape
@@ -131,7 +132,7 @@ module _ (e : Purpose) (o c : ℕ) (w : World) (P : List PlainObject) (t : ℕ) 
       let past = next_is_made n law.made t (o, c) may_create_it in
       record { undeclared = omega (arith, first, past); word = no_class law t o c none may_create_it }
 
-  abbrev l : Known
+  abbrev l : ThreadView
   l = known_hit w.shape w.start (class_plan e o c) (w.words (Class o)) (w.known t)
 
   abbrev x : World
@@ -161,11 +162,11 @@ module _ (e : Purpose) (o c : ℕ) (w : World) (P : List PlainObject) (t : ℕ) 
       (sym (logs_stay 0 w.shape.threads t l w.known refl)) (part_moves (λ k. k.holds) t l w.known refl) (part_moves (λ k. k.log) t l w.known refl)
       (part_moves (λ k. k.shots) t l w.known refl) (part_moves (λ k. k.reached) t l w.known refl)
       (class_stored law t o c none may_create_it (λ i. x.words (Class i)) (λ u. (x.known u).unfinished) (λ u. (x.known u).seen) class_here class_else
-      (ap (λ (k : Known). making_in k.unfinished) (with_known_here t l w.known) ∙ mine)
-      (λ u d. ap (λ (k : Known). making_in k.unfinished) (with_known_else t l w.known u d)) (begins mine) sees)
+      (ap (λ (k : ThreadView). making_in k.unfinished) (with_known_here t l w.known) ∙ mine)
+      (λ u d. ap (λ (k : ThreadView). making_in k.unfinished) (with_known_else t l w.known u d)) (begins mine) sees)
 
 -- THE LAW OF THE STEP
-pub class_keeps_law : (e : Purpose) (o c : ℕ) (w : World) (P : List PlainObject) (t : ℕ) → t < w.shape.threads
+pub class_keeps_law : (e : CallContext) (o c : ℕ) (w : World) (P : List PlainObject) (t : ℕ) → t < w.shape.threads
     → MayStoreClass (w.known t) e → making_in (w.known t).unfinished ≡ None → making_in e.unfinished ≡ Some o
     → IsNext (numbering w.shape) (w.known t).log t o c → Fits w P → MadeLawHolds w
     → Fits (world_after (class_plan e o c) t w) P × MadeLawHolds (world_after (class_plan e o c) t w)

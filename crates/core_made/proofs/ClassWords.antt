@@ -1,7 +1,13 @@
 -- A thread stores the class word of an object that it makes: every clause stays. Of an object whose mark has the bias pattern, or had it when a
 -- thread saw it, the class word is stored already; and of all others no clause reads the class.
-use Rattle.core_locks.proofs.Prelude.{◌≡◌, ◌≢◌, ◌⊎◌, ℕ, ◌+◌, ◌-◌, ◌<◌, ◌≤◌, ◌==◌, ◌||◌, not, nat_lt, ne_eqb, Bool, true, false, cond, List, Option, Some, refl, sym, ap, ◌∙◌, subst, arith, nat_tests, inl, inr, MarkForm, read_mark, Biased, PlainObject, Name, Mark, Class, Prototype, Waiting, Object, Hold, Safepoint, StepPlan, Stage, is_biased, is_biased_form, Inflation, Known, World, with_word_and_known, marks, lock, lock_form, owner_words, inflations, prototype_of, owner_at, waits_at, Fits, SeenFit, IsValidBias, Stays, StaysWhileRunning, StaysWhileAsking, Purpose, with_stage, world_after, known_hit, seen_before, has_class, last_seen, by_equal, seen_is_part, stays_back, Back, Spares, Counts, seen_moves, WordsHaveForms}
-use Rattle.core_world.specs.Words.Shape.{class_of}
+use Rattle.core_locks.proofs.Prelude.{◌≡◌, ◌≢◌, ◌⊎◌, ℕ, ◌+◌, ◌-◌, ◌<◌, ◌≤◌, ◌==◌, ◌||◌, not, nat_lt, ne_eqb, Bool, true, false, cond, List}
+use Rattle.core_locks.proofs.Prelude.{Option, Some, refl, sym, ap, ◌∙◌, subst, arith, nat_tests, inl, inr, MarkForm, read_mark, Biased}
+use Rattle.core_locks.proofs.Prelude.{PlainObject, WordId, Mark, Class, Prototype, Waiting, Object, Hold, Safepoint, StepPlan, Stage, is_biased}
+use Rattle.core_locks.proofs.Prelude.{is_biased_form, Inflation, ThreadView, World, with_word_and_known, marks, lock, lock_form, owner_words}
+use Rattle.core_locks.proofs.Prelude.{inflations, prototype_of, owner_at, waits_at, Fits, SeenFit, IsValidBias, Stays, StaysWhileRunning}
+use Rattle.core_locks.proofs.Prelude.{StaysWhileAsking, CallContext, with_stage, world_after, known_hit, seen_before, has_class, last_seen}
+use Rattle.core_locks.proofs.Prelude.{by_equal, seen_is_part, stays_back, Back, Spares, Counts, seen_moves, WordsHaveForms}
+use Rattle.core_world.specs.Words.Shape.{class_in_shape}
 use Rattle.core_locks.proofs.Clauses.{turned_parts, parts_turn, seen, forms, AllHold}
 use Rattle.core_locks.proofs.MarkMeanings.{each_set}
 use Rattle.core_locks.proofs.Steps.{none_reached, quietly, IsStep, next, step_fits, seen_next, quiet_step}
@@ -26,10 +32,10 @@ has_no_class w o less =
     ap (λ b. b || not (w.words (Class o) == 0)) below ∙ ap (λ n. not (n == 0)) less.word
 
 -- a thread that runs or has a request goes by what it saw
-abbrev GoesBy : Known → Type 0
+abbrev GoesBy : ThreadView → Type 0
 GoesBy k = (k.running ≡ true) ⊎ (k.requesting ≡ true)
 
-module _ (w : World) (P : List PlainObject) (t : ℕ) (e : Purpose) (o c : ℕ) (within : t < w.shape.threads) (may : MayStoreClass (w.known t) e)
+module _ (w : World) (P : List PlainObject) (t : ℕ) (e : CallContext) (o c : ℕ) (within : t < w.shape.threads) (may : MayStoreClass (w.known t) e)
     (less : IsClassless w o) (few : c < w.shape.classes) (v : Fits w P) where
   unclassed : has_class w.shape w.words o ≡ false
   unclassed = has_no_class w o less
@@ -49,7 +55,7 @@ module _ (w : World) (P : List PlainObject) (t : ℕ) (e : Purpose) (o c : ℕ) 
   abbrev plan : StepPlan
   plan = with_stage (w.known t).stage (class_plan e o c)
 
-  abbrev l : Known
+  abbrev l : ThreadView
   l = known_hit w.shape w.start plan (w.words (Class o)) (w.known t)
 
   abbrev x : World
@@ -64,7 +70,7 @@ module _ (w : World) (P : List PlainObject) (t : ℕ) (e : Purpose) (o c : ℕ) 
   -- PROTOTYPES AND LOCKS
   prototype_else : (i : ℕ) → i ≢ o → prototype_of x i ≡ prototype_of w i
   prototype_else i d =
-      let class : Bool → ℕ = λ b. cond (nat_lt i w.shape.declared) (class_of w.shape i) (cond b (c + 1) (w.words (Class i)) - 1) in
+      let class : Bool → ℕ = λ b. cond (nat_lt i w.shape.declared) (class_in_shape w.shape i) (cond b (c + 1) (w.words (Class i)) - 1) in
       ap (λ b. w.words (Prototype (class b))) (ne_eqb i o d)
 
   lock_at : (i : ℕ) → lock z i ≡ lock w i
@@ -84,17 +90,17 @@ module _ (w : World) (P : List PlainObject) (t : ℕ) (e : Purpose) (o c : ℕ) 
       (λ a. absurd (none (ap Mark a) (biased_by (read_mark s) (prototype_of x i) h)))
       (λ d. subst (IsValidBias (read_mark s)) (prototype_else i d) h)
 
-  running_back : (k : Known) (owner : ℕ → ℕ → Bool) (u : ℕ) (n : Name) (s : ℕ) → (n ≡ Mark o → is_biased s ≡ true → ⊥)
+  running_back : (k : ThreadView) (owner : ℕ → ℕ → Bool) (u : ℕ) (n : WordId) (s : ℕ) → (n ≡ Mark o → is_biased s ≡ true → ⊥)
       → StaysWhileRunning x k owner u n s → StaysWhileRunning w k owner u n s
   running_back k owner u (Mark i) s none (inl h) = inl (bias_back i s none h)
   running_back k owner u (Mark i) s none (inr h) = inr h
   running_back k owner u _ s none h = h
 
-  asking_back : (n : Name) (s : ℕ) → (n ≡ Mark o → is_biased s ≡ true → ⊥) → StaysWhileAsking x n s → StaysWhileAsking w n s
+  asking_back : (n : WordId) (s : ℕ) → (n ≡ Mark o → is_biased s ≡ true → ⊥) → StaysWhileAsking x n s → StaysWhileAsking w n s
   asking_back (Mark i) s none h = bias_back i s none h
   asking_back _ s none h = h
 
-  back : (k : Known) (u : ℕ) (n : Name) (s : ℕ) → (n ≡ Mark o → GoesBy k → is_biased s ≡ true → ⊥)
+  back : (k : ThreadView) (u : ℕ) (n : WordId) (s : ℕ) → (n ≡ Mark o → GoesBy k → is_biased s ≡ true → ⊥)
       → Stays x k (owner_at P) u n s → Stays w k (owner_at P) u n s
   back k u n s none h = elim h [
     | inl a ↦ inl (a.0, running_back k (owner_at P) u n s (λ m. none m (inl a.0)) a.1)
@@ -102,7 +108,7 @@ module _ (w : World) (P : List PlainObject) (t : ℕ) (e : Purpose) (o c : ℕ) 
   ]
 
   -- what was seen at a mark of this name was seen at the object's mark
-  at_mark : (u : ℕ) (n : Name) (s : ℕ) → last_seen n (w.known u).seen ≡ Some s → n ≡ Mark o → GoesBy (w.known u) → is_biased s ≡ true → ⊥
+  at_mark : (u : ℕ) (n : WordId) (s : ℕ) → last_seen n (w.known u).seen ≡ Some s → n ≡ Mark o → GoesBy (w.known u) → is_biased s ≡ true → ⊥
   at_mark u n s saw is asks = saw_plain u s (ap (λ m. last_seen m (w.known u).seen) (sym is) ∙ saw) asks
 
   -- nobody counts on a class word that is 0
@@ -189,6 +195,6 @@ module _ (w : World) (P : List PlainObject) (t : ℕ) (e : Purpose) (o c : ℕ) 
       (step_fits step x.words P (turned_parts w z P (lock w)) parts all_after)
 
 -- THE LAW
-pub class_valid : (e : Purpose) (o c : ℕ) (w : World) (P : List PlainObject) (t : ℕ) → t < w.shape.threads → MayStoreClass (w.known t) e
+pub class_valid : (e : CallContext) (o c : ℕ) (w : World) (P : List PlainObject) (t : ℕ) → t < w.shape.threads → MayStoreClass (w.known t) e
     → IsClassless w o → c < w.shape.classes → Fits w P → Fits (world_after (class_plan e o c) t w) P
 class_valid e o c w P t within may less few v = class_fits w P t e o c within may less few v

@@ -1,5 +1,6 @@
 -- A step that logs an entry which makes no object keeps the law of what is there.
-use Rattle.std.proofs.Common.{◌≡◌, ℕ, zero, suc, ◌+◌, ◌<◌, ◌≤◌, Bool, true, false, cond, List, [], ◌∷◌, ◌++◌, length, take, slice_get, slice_set, slice_index, Option, Some, None, refl, sym, ap, ◌∙◌, subst, arith, inl, inr}
+use Rattle.std.proofs.Common.{◌≡◌, ℕ, zero, suc, ◌+◌, ◌<◌, ◌≤◌, Bool, true, false, cond, List, [], ◌∷◌, ◌++◌, length, take}
+use Rattle.std.proofs.Common.{slice_get, slice_set, slice_index, Option, Some, None, refl, sym, ap, ◌∙◌, subst, arith, inl, inr}
 use Rattle.std.proofs.lemmas.Bool.{cases_lt}
 use Rattle.std.proofs.lemmas.List.{get_or_past, take-append-le}
 use Rattle.std.proofs.lemmas.Option.{same_Some, slice_get_within, get_or_from_slice_get}
@@ -17,19 +18,19 @@ use Rattle.plain_history.specs.Tied.{bound_to}
 use Rattle.plain_history.proofs.Bounds.{last_grows}
 use Rattle.plain_history.proofs.MadeHistories.{made_with, known_may_follow, known_stays}
 use Rattle.plain_history.proofs.SlotsKnown.{slots_stay_known, owner_knows}
-use Rattle.core_world.specs.declared.name.Name.TheVariants.{Mark, Stamp, Class}
+use Rattle.core_world.specs.declared.word_id.WordId.TheVariants.{Mark, Stamp, Class}
 use Rattle.core_world.specs.declared.plan.StepPlan.{StepPlan}
 use Rattle.core_world.specs.Clauses.Stamps.{bound_stamp}
 use Rattle.core_world.specs.Clauses.Waits.{last_entry}
 use Rattle.core_world.specs.Locks.{marks}
 use Rattle.core_world.specs.Steps.{known_hit, known_miss, world_after, is_taking}
-use Rattle.core_world.specs.Threads.Known.{Known, DumpShot, last_seen}
+use Rattle.core_world.specs.Threads.ThreadView.{ThreadView, DumpShot, last_seen}
 use Rattle.core_world.specs.Valid.{Fits}
 use Rattle.core_world.specs.Words.Acts.{word_after}
 use Rattle.core_world.specs.World.{World, with_word_and_known, logs}
 use Rattle.core_world.proofs.KnowledgeParts.{with_known_here, each_with_known, logs_grow, logs_length, log_at}
 use Rattle.core_locks.proofs.KnownMore.{knows_more}
-use Rattle.core_locks.proofs.LeavesStamps.{last_bounded}
+use Rattle.core_locks.proofs.wait.LeavesStamps.{last_bounded}
 use Rattle.core_locks.proofs.Logging.{last_entry_more}
 use Rattle.core_world.specs.Threads.References.{numbering, is_told, knows_by_log, is_on, making_in}
 use Rattle.core_law.specs.MadeLaw.{there_after, IsAbsent, IsMaking, MadeLaw, stamp_words, MadeLawHolds}
@@ -39,7 +40,7 @@ use Rattle.core_made.proofs.KnownByLog.{by_log_known, all_are_there, told_more, 
 use Rattle.core_made.proofs.MarksSeen.{hit_marks}
 use Rattle.core_made.proofs.Bounded.{above_last, above_found, taker_finds, teller_owns}
 
--- fronts stay as they are where a log grows behind them
+-- fronts stay as they are where a log grows past them
 pub cut_grown : (cut : List ℕ) (all : List (List Logged)) (t : ℕ) (xs : List Logged) → length cut ≡ length all → slice_index cut t ≤ length (log_of all t)
     → cut_logs cut (slice_set all t (log_of all t ++ xs)) ≡ cut_logs cut all
 cut_grown [] [] t xs e h = refl
@@ -54,7 +55,7 @@ log_known x Q u fits = elim (cases_lt u x.shape.threads) [
   | inl within ↦ log_at 0 x.shape.threads u u x.known (omega arith) within
   | inr far ↦
       let many = logs_length 0 x.shape.threads x.known in
-      get_or_past (logs x) u [] (omega (arith, many, far)) ∙ ap (λ (k : Known). k.log) (sym (fits.absent u far))
+      get_or_past (logs x) u [] (omega (arith, many, far)) ∙ ap (λ (k : ThreadView). k.log) (sym (fits.absent u far))
 ]
 
 -- the stamp word of an object that is there
@@ -74,7 +75,7 @@ module _ (w : World) (P Q : List PlainObject) (t : ℕ) (p : StepPlan) (y : Logg
   abbrev left : ℕ
   left = word_after p.act (w.words p.at)
 
-  abbrev l : Known
+  abbrev l : ThreadView
   l = known_hit w.shape w.start p (w.words p.at) (w.known t)
 
   abbrev x : World
@@ -217,7 +218,7 @@ module _ (w : World) (P Q : List PlainObject) (t : ℕ) (p : StepPlan) (y : Logg
     bound_is o z (Some u) at = ap last_stamp (sym (log_known x Q u after) ∙ ap (λ all. log_of all u) logs_are)
 
     last_is : last_entry (x.known t).log ≡ Some y
-    last_is = ap (λ (k : Known). last_entry k.log) (with_known_here t l w.known) ∙ ap last_entry a.grows ∙ last_entry_more (w.known t).log y
+    last_is = ap (λ (k : ThreadView). last_entry k.log) (with_known_here t l w.known) ∙ ap last_entry a.grows ∙ last_entry_more (w.known t).log y
 
     rise : BoundsRise Q (logs w) (stamp_words w) (stamp_words x) t y
     rise = record {

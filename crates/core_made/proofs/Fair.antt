@@ -3,7 +3,7 @@ use Rattle.std.proofs.Common.{◌≡◌, ◌≢◌, ℕ, Bool, true, false, refl
 use Rattle.mark_word.specs.Mark.{mark_of}
 use Rattle.mark_word.specs.declared.mark.MarkForm.TheVariants.{Neutral}
 use Rattle.plain_monitor.specs.Made.{Numbering, is_there}
-use Rattle.core_world.specs.declared.name.Name.TheVariants.{Class}
+use Rattle.core_world.specs.declared.word_id.WordId.TheVariants.{Class}
 use Rattle.core_world.specs.Locks.{marks, hold_count}
 use Rattle.core_world.specs.Threads.References.{numbering}
 use Rattle.core_world.specs.World.{World, logs}

@@ -1,10 +1,19 @@
 -- A thread stores the first mark of an object that it makes, and logs its New.
-use Rattle.core_locks.proofs.Prelude.{◌≡◌, ◌≢◌, ℕ, ◌<◌, ◌||◌, eq-eqb, ne_eqb, Bool, true, false, cond, List, [], Option, Some, None, refl, sym, ap, ◌∙◌, subst, arith, inl, inr, same_Some, read_mark, Neutral, read_mark-mark_of, PlainObject, Logged, last_stamp, New, Mark, StepPlan, Stage, is_biased, is_neutral, monitor_in, hash_in, is_biased_form, monitor_form, hash_form, is_neutral_form, Known, World, with_word_and_known, with_known, logs_from, marks, lock, lock_form, header, header_form, Open, displaced_words, headers, owner_words, inflations, prototype_of, inflated_to, hash_at, waits_at, notified_at, owner_at, Fits, SeenFit, IsValidBias, Purpose, with_stage, world_after, known_hit, seen_before, BiasedAreFree, HashesFit, BiasedTo, hold_count, last_seen, eqb-true, ◌+◌, ClassesFit, DrawsFit, IsMark, by_equal, seen_is_part, stays_back, Stays, mark_zero, unwaited_fits, Logs, bulk_rebiases, bulk_revokes, Prototype, Revocations, LastBulk, has_class, nat_lt, not, or-true, Class, Spares, seen_moves, counts_more}
+use Rattle.core_locks.proofs.Prelude.{◌≡◌, ◌≢◌, ℕ, ◌<◌, ◌||◌, eq-eqb, ne_eqb, Bool, true, false, cond, List, [], Option, Some, None, refl, sym, ap}
+use Rattle.core_locks.proofs.Prelude.{◌∙◌, subst, arith, inl, inr, same_Some, read_mark, Neutral, read_mark-mark_of, PlainObject, Logged, last_stamp}
+use Rattle.core_locks.proofs.Prelude.{New, Mark, StepPlan, Stage, is_biased, is_neutral, monitor_in, hash_in, is_biased_form, monitor_form, hash_form}
+use Rattle.core_locks.proofs.Prelude.{is_neutral_form, ThreadView, World, with_word_and_known, with_known, logs_from, marks, lock, lock_form, header}
+use Rattle.core_locks.proofs.Prelude.{header_form, Open, displaced_words, headers, owner_words, inflations, prototype_of, inflated_to, hash_at}
+use Rattle.core_locks.proofs.Prelude.{waits_at, notified_at, owner_at, Fits, SeenFit, IsValidBias, CallContext, with_stage, world_after, known_hit}
+use Rattle.core_locks.proofs.Prelude.{seen_before, BiasedAreFree, HashesFit, BiasedTo, hold_count, last_seen, eqb-true, ◌+◌, ClassesFit, DrawsFit}
+use Rattle.core_locks.proofs.Prelude.{IsMark, by_equal, seen_is_part, stays_back, Stays, mark_zero, unwaited_fits, Logs, bulk_rebiases, bulk_revokes}
+use Rattle.core_locks.proofs.Prelude.{Prototype, Revocations, LastBulk, has_class, nat_lt, not, or-true, Class, Spares, seen_moves, counts_more}
 use Rattle.core_locks.proofs.Clauses.{Parts, parts_of, seen, forms, biases, inflating, recursions, hashes, classes, AllHold}
-use Rattle.core_locks.proofs.TellTaken.{IsFreeToTell, IsTaken, unbound_taken}
-use Rattle.core_locks.proofs.Tells.{IsTelling, tells_so, still_parts, still_are, told_step}
-use Rattle.core_locks.proofs.Drawing.{draws_counted, draws_still}
-use Rattle.core_locks.proofs.MarkMeanings.{forms_marked, each_set, IsBare, bare_unnamed, bare_unbiased, neutral_bare, neutral_some, neutral_lock, neutral_header}
+use Rattle.core_locks.proofs.telling.TellTaken.{IsFreeToTell, IsTaken, unbound_taken}
+use Rattle.core_locks.proofs.telling.Tells.{IsTelling, tells_so, still_parts, still_are, told_step}
+use Rattle.core_locks.proofs.hash.Drawing.{draws_counted, draws_still}
+use Rattle.core_locks.proofs.MarkMeanings.{forms_marked, each_set, IsBare, bare_unnamed, bare_unbiased}
+use Rattle.core_locks.proofs.MarkMeanings.{neutral_bare, neutral_some, neutral_lock, neutral_header}
 use Rattle.core_locks.proofs.MarkChanges.{names_same, zero_back, zero_forth, mark_back, recursions_by_marks, inflating_by_marks}
 use Rattle.core_locks.proofs.Steps.{none_reached, telling, IsStep, next, step_fits, seen_next}
 use Rattle.core_world.specs.Trees.CreateSteps.{make_plan}
@@ -37,7 +46,7 @@ module _ (w : World) (m : ℕ) where
   first_plain (inl e) off = ap is_biased_form e
   first_plain (inr e) off = let on = e.0 in absurd (cc (on, off))
 
-module _ (w : World) (P : List PlainObject) (t : ℕ) (e : Purpose) (o c m : ℕ) (within : t < w.shape.threads) (may : MayMake (w.known t) o c)
+module _ (w : World) (P : List PlainObject) (t : ℕ) (e : CallContext) (o c m : ℕ) (within : t < w.shape.threads) (may : MayMake (w.known t) o c)
     (fresh : IsFresh w P o) (classed : w.words (Class o) ≡ c + 1) (first : IsFirstMark w m) (v : Fits w P) where
   was_read : read_mark (marks w o) ≡ Some (Neutral 0 0)
   was_read = ap read_mark fresh.mark ∙ read_mark-mark_of (Neutral 0 0) (omega arith, omega arith)
@@ -69,7 +78,7 @@ module _ (w : World) (P : List PlainObject) (t : ℕ) (e : Purpose) (o c m : ℕ
   abbrev y : Logged
   y = record { stamp = last_stamp (w.known t).log + 1; entry = New o c }
 
-  abbrev l : Known
+  abbrev l : ThreadView
   l = known_hit w.shape w.start plan (w.words (Mark o)) (w.known t)
 
   abbrev x : World
@@ -210,7 +219,7 @@ module _ (w : World) (P : List PlainObject) (t : ℕ) (e : Purpose) (o c m : ℕ
       subst (λ (stage : Stage). Fits (world_after (with_stage stage (make_plan e o c m)) t w) P) may.calm (step_fits step x.words P made_parts parts all_after)
 
 -- THE LAW
-pub makes_valid : (e : Purpose) (o c m : ℕ) (w : World) (P : List PlainObject) (t : ℕ) → t < w.shape.threads → MayMake (w.known t) o c
+pub makes_valid : (e : CallContext) (o c m : ℕ) (w : World) (P : List PlainObject) (t : ℕ) → t < w.shape.threads → MayMake (w.known t) o c
     → IsFresh w P o → w.words (Class o) ≡ c + 1 → IsFirstMark w m → Fits w P → Logs w P t (make_plan e o c m) (New o c)
 makes_valid e o c m w P t within may fresh classed first v =
     record { now = P; taken = refl; valid = inl (made_fits w P t e o c m within may fresh classed first v) }

@@ -1,5 +1,6 @@
 -- What a thread knows by its log it knows by its last stamp, and it knows what an entry tells it.
-use Rattle.std.proofs.Common.{◌≡◌, ◌⊎◌, ℕ, ◌≤◌, ◌||◌, nat_lt, eqb-true, Bool, true, false, List, [], ◌∷◌, ◌++◌, length, slice_get, Option, Some, None, refl, sym, ap, ◌∙◌, inl, inr}
+use Rattle.std.proofs.Common.{◌≡◌, ◌⊎◌, ℕ, ◌≤◌, ◌||◌, nat_lt, eqb-true, Bool, true, false, List, [], ◌∷◌}
+use Rattle.std.proofs.Common.{◌++◌, length, slice_get, Option, Some, None, refl, sym, ap, ◌∙◌, inl, inr}
 use Rattle.std.proofs.Math.Bool.{or-true}
 use Rattle.std.proofs.lemmas.List.Folds.{list_any-append}
 use Rattle.std.proofs.lemmas.Option.{cond_some}
@@ -20,7 +21,7 @@ use Rattle.plain_history.proofs.MadeHistories.{made_new}
 use Rattle.plain_history.proofs.MadeSteps.{all_there, both_hold, neither_holds}
 use Rattle.plain_history.proofs.Passing.{first_run}
 use Rattle.plain_history.proofs.Swaps.{taken_at}
-use Rattle.core_world.proofs.ObjectHolds.{thread_is}
+use Rattle.core_world.proofs.enter_exit.ObjectHolds.{thread_is}
 use Rattle.core_world.specs.Threads.References.{tells_of, is_told, knows_by_log}
 
 -- DECLARED OBJECTS. No entry makes one: so each is known at any stamp.

@@ -1,5 +1,6 @@
 -- The law of what is there after the store of a first mark, which logs the object's New: the object is there, and its thread knows it.
-use Rattle.std.proofs.Common.{◌≡◌, ◌≢◌, ◌⊎◌, ℕ, zero, suc, ◌+◌, ◌<◌, ◌==◌, eqb-true, ne_eqb, Bool, true, false, cond, List, [], ◌∷◌, length, slice_get, Option, Some, None, unwrap_or, refl, sym, ap, ◌∙◌, subst, arith, inl, inr}
+use Rattle.std.proofs.Common.{◌≡◌, ◌≢◌, ◌⊎◌, ℕ, zero, suc, ◌+◌, ◌<◌, ◌==◌, eqb-true, ne_eqb, Bool, true, false, cond, List, [], ◌∷◌}
+use Rattle.std.proofs.Common.{length, slice_get, Option, Some, None, unwrap_or, refl, sym, ap, ◌∙◌, subst, arith, inl, inr}
 use Rattle.std.proofs.lemmas.Option.{same_Some, unwrap_or-slice_get}
 use Rattle.std.specs.List.{AllByRecursion}
 use Rattle.plain_monitor.specs.declared.entry.Entry.TheVariants.{New}
@@ -15,13 +16,13 @@ use Rattle.plain_history.proofs.MadeHistories.{made_with, known_may_follow, made
 use Rattle.plain_history.proofs.MadeSteps.{grown, there_more, MayCreate, creating, may_be_created}
 use Rattle.plain_history.proofs.NotThere.{not_there_is_new}
 use Rattle.plain_history.proofs.SlotsKnown.{slots_stay_known}
-use Rattle.core_world.specs.declared.name.Name.TheVariants.{Mark, Class}
-use Rattle.core_world.specs.declared.task.Unfinished.{Unfinished}
+use Rattle.core_world.specs.declared.word_id.WordId.TheVariants.{Mark, Class}
+use Rattle.core_world.specs.declared.heap_call.Unfinished.{Unfinished}
 use Rattle.core_world.specs.Locks.{marks, monitor_of, object_of}
 use Rattle.core_world.specs.Steps.{known_hit, seen_before, world_after}
-use Rattle.core_world.specs.Threads.Known.{Known, DumpShot, StepMade, last_seen}
+use Rattle.core_world.specs.Threads.ThreadView.{ThreadView, DumpShot, StepMade, last_seen}
 use Rattle.core_world.specs.Trees.CreateSteps.{make_plan}
-use Rattle.core_world.specs.Trees.Plans.{Purpose}
+use Rattle.core_world.specs.Trees.Plans.{CallContext}
 use Rattle.core_world.specs.Valid.{Fits}
 use Rattle.core_world.specs.World.{World, logs}
 use Rattle.core_world.proofs.ActsLook.{seen_is_part}
@@ -162,7 +163,7 @@ module _ {n : Numbering} {shape : List (ℕ × ℕ)} {logs : List (List Logged)}
   }
 
 -- IN A WORLD
-module _ (e : Purpose) (o c m : ℕ) (w : World) (P : List PlainObject) (t : ℕ) (within : t < w.shape.threads)
+module _ (e : CallContext) (o c m : ℕ) (w : World) (P : List PlainObject) (t : ℕ) (within : t < w.shape.threads)
     (stands : StandsBeforeMark (w.known t) o c) (first : IsFirstMark w m) (v : Fits w P) (law : MadeLawHolds w) where
   abbrev n : Numbering
   n = numbering w.shape
@@ -170,7 +171,7 @@ module _ (e : Purpose) (o c m : ℕ) (w : World) (P : List PlainObject) (t : ℕ
   abbrev told : Logged
   told = record { stamp = last_stamp (w.known t).log + 1; entry = New o c }
 
-  abbrev l : Known
+  abbrev l : ThreadView
   l = known_hit w.shape w.start (make_plan e o c m) (w.words (Mark o)) (w.known t)
 
   abbrev x : World
@@ -260,14 +261,14 @@ module _ (e : Purpose) (o c m : ℕ) (w : World) (P : List PlainObject) (t : ℕ
       (part_moves (λ k. k.reached) t l w.known refl)
       (mark_stored law t o c (last_stamp (w.known t).log + 1) stands.making classed v.legal.rises many up (marks x) (λ u. (x.known u).log)
       (λ u. (x.known u).unfinished) (λ u. (x.known u).seen) mark_else tells_new
-      (ap (λ (k : Known). making_in k.unfinished) (with_known_here t l w.known))
-      (λ u d. ap (λ (k : Known). making_in k.unfinished) (with_known_else t l w.known u d))
+      (ap (λ (k : ThreadView). making_in k.unfinished) (with_known_here t l w.known))
+      (λ u d. ap (λ (k : ThreadView). making_in k.unfinished) (with_known_else t l w.known u d))
       (λ u i. each_with_known (λ z k. is_on k.unfinished i ≡ true → knows_by_log n k.log i ≡ true) t l w.known u
       (λ h. absurd (cc h)) (λ d. law.unfinished u i))
       sees cuts objects_stay)
 
 -- THE LAW OF THE STEP
-pub mark_keeps_law : (e : Purpose) (o c m : ℕ) (w : World) (P : List PlainObject) (t : ℕ) → t < w.shape.threads
+pub mark_keeps_law : (e : CallContext) (o c m : ℕ) (w : World) (P : List PlainObject) (t : ℕ) → t < w.shape.threads
     → StandsBeforeMark (w.known t) o c → IsFirstMark w m → Fits w P → MadeLawHolds w
     → Logs w P t (make_plan e o c m) (New o c) × MadeLawHolds (world_after (make_plan e o c m) t w)
 mark_keeps_law e o c m w P t within stands first v law =

@@ -1,14 +1,14 @@
 -- Which marks a thread has seen after a step: while its safepoint isn't reached they are of objects that the thread knows by its log.
 use Rattle.std.proofs.Common.{◌≡◌, ◌⊎◌, ℕ, ◌&&◌, ◌||◌, not, Bool, true, false, cond, List, [], Some, refl, sym, ap, ◌∙◌, inl, inr}
 use Rattle.core_world.specs.declared.act.Act.{Act}
-use Rattle.core_world.specs.declared.act.Act.TheVariants.{Load, Swap}
-use Rattle.core_world.specs.declared.name.Name.{Name}
-use Rattle.core_world.specs.declared.name.Name.TheVariants.{Safepoint, Mark}
-use Rattle.core_world.specs.declared.plan.Note.{Note}
-use Rattle.core_world.specs.declared.plan.Note.TheVariants.{Log}
+use Rattle.core_world.specs.declared.act.Act.TheVariants.{Load, CompareExchange}
+use Rattle.core_world.specs.declared.word_id.WordId.{WordId}
+use Rattle.core_world.specs.declared.word_id.WordId.TheVariants.{Safepoint, Mark}
+use Rattle.core_world.specs.declared.plan.LogEffect.{LogEffect}
+use Rattle.core_world.specs.declared.plan.LogEffect.TheVariants.{Log}
 use Rattle.core_world.specs.declared.plan.StepPlan.{StepPlan}
 use Rattle.core_world.specs.Steps.{known_hit, known_miss, seen_before, kept_by_note, kept_by_act, only_headers, reached_after, is_taking}
-use Rattle.core_world.specs.Threads.Known.{Known, StepMade, last_seen}
+use Rattle.core_world.specs.Threads.ThreadView.{ThreadView, StepMade, last_seen}
 use Rattle.core_world.specs.Threads.References.{is_on}
 use Rattle.core_world.specs.Words.Acts.{word_after}
 use Rattle.core_world.specs.Words.Forms.{asks_in, is_still}
@@ -21,7 +21,7 @@ use Rattle.core_law.specs.MadeLaw.{MadeLawHolds}
 use Rattle.core_made.specs.Steps.{EndsByExchange, knows_in}
 
 -- an entry that is logged leaves some of what was seen
-noted_is_part : (note : Note) (seen : List StepMade) → IsPart (kept_by_note note seen) seen
+noted_is_part : (note : LogEffect) (seen : List StepMade) → IsPart (kept_by_note note seen) seen
 noted_is_part (Log e) seen n v h = by_taking (is_taking e) h
   where
     by_taking : (b : Bool) → last_seen n (cond b [] seen) ≡ Some v → last_seen n seen ≡ Some v
@@ -35,11 +35,11 @@ unless_first false b h = refl
 
 -- WHAT THE ACT KEEPS of the marks that were seen, where the safepoint isn't reached afterwards: that of the unfinished operation's object, or what was
 -- seen before, and the safepoint wasn't reached then either
-kept_marks : (at : Name) (act : Act) (left : ℕ) (k : Known) (seen : List StepMade) (o v : ℕ) → EndsByExchange at act k.reached
+kept_marks : (at : WordId) (act : Act) (left : ℕ) (k : ThreadView) (seen : List StepMade) (o v : ℕ) → EndsByExchange at act k.reached
     → reached_after at act left k ≡ false → last_seen (Mark o) (kept_by_act at act left k seen) ≡ Some v
     → (is_on k.unfinished o ≡ true) ⊎ ((k.reached ≡ false) × (last_seen (Mark o) seen ≡ Some v))
 kept_marks Safepoint Load left k seen o v ends free h = inr (unless_first k.reached (k.requesting && is_still left) free, h)
-kept_marks Safepoint (Swap expected word) left k seen o v ends free h = by_release k.reached refl (asks_in left k.thread) free h
+kept_marks Safepoint (CompareExchange expected word) left k seen o v ends free h = by_release k.reached refl (asks_in left k.thread) free h
   where
     by_running : (b : Bool) → last_seen (Mark o) (cond b seen []) ≡ Some v → last_seen (Mark o) seen ≡ Some v
     by_running true g = g
@@ -57,16 +57,16 @@ kept_marks at act left k seen o v ends free h = inr (free, h)
 -- THE STEP of a plan, in a world in which the law holds
 module _ (w : World) (law : MadeLawHolds w) (t : ℕ) (p : StepPlan)
     (looks : (o : ℕ) → p.at ≡ Mark o → (w.known t).reached ≡ false → knows_in w t o ≡ true) where
-  abbrev k : Known
+  abbrev k : ThreadView
   k = w.known t
 
   abbrev left : ℕ
   left = word_after p.act (w.words p.at)
 
-  abbrev hit : Known
+  abbrev hit : ThreadView
   hit = known_hit w.shape w.start p (w.words p.at) (w.known t)
 
-  abbrev miss : Known
+  abbrev miss : ThreadView
   miss = known_miss w.shape w.start p (w.words p.at) (w.known t)
 
   -- the newest step was on the mark, or an older one

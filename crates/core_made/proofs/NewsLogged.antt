@@ -1,5 +1,6 @@
 -- Which objects are there, by all logs: those that are declared, and those whose New some log has. And no entry is on an object that isn't there.
-use Rattle.std.proofs.Common.{◌≡◌, ◌≢◌, ℕ, ◌+◌, ◌==◌, ◌||◌, nat_lt, eqb-true, Bool, true, false, cond, List, [], ◌∷◌, map, length, option_map, Option, Some, None, refl, sym, ap, ◌∙◌, arith}
+use Rattle.std.proofs.Common.{◌≡◌, ◌≢◌, ℕ, ◌+◌, ◌==◌, ◌||◌, nat_lt, eqb-true, Bool, true, false, cond, List, []}
+use Rattle.std.proofs.Common.{◌∷◌, map, length, option_map, Option, Some, None, refl, sym, ap, ◌∙◌, arith}
 use Rattle.std.proofs.Math.Bool.{or-true, or-false}
 use Rattle.std.proofs.lemmas.Bool.Decides.{nat_tests}
 use Rattle.std.proofs.lemmas.List.Folds.{list_any-append}
@@ -8,7 +9,8 @@ use Rattle.std.specs.List.{list_any}
 use Rattle.plain_monitor.specs.declared.entry.Entry.{Entry}
 use Rattle.plain_monitor.specs.declared.entry.Logged.{Logged}
 use Rattle.plain_monitor.specs.History.{run_all}
-use Rattle.plain_monitor.specs.Made.{Numbering, first_made, maker_of, place_of, is_there, creates, needs, made_number, made_by, may_create, take_created, take_made, nothing_made}
+use Rattle.plain_monitor.specs.Made.{Numbering, first_made, maker_of, place_of, is_there, creates, needs}
+use Rattle.plain_monitor.specs.Made.{made_number, made_by, may_create, take_created, take_made, nothing_made}
 use Rattle.plain_monitor.specs.Order.{is_before, insert_ordered, ordered, with_threads, order}
 use Rattle.plain_history.specs.EnterPaths.{entries_on}
 use Rattle.plain_history.specs.Known.{makes, is_one_of}

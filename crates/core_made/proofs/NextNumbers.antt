@@ -1,5 +1,6 @@
 -- The number that a thread's next object has: no other thread's next object has it, it isn't there yet, and with it just this object more is there.
-use Rattle.std.proofs.Common.{◌≡◌, ◌≢◌, ◌⊎◌, ℕ, zero, suc, ◌<◌, ◌≤◌, nat_lt, Bool, true, false, cond, List, [], ◌∷◌, ◌++◌, length, slice_get, Option, Some, None, is_some, refl, sym, ap, ◌∙◌, subst, arith, inl, inr, length-set, get_or-set_same}
+use Rattle.std.proofs.Common.{◌≡◌, ◌≢◌, ◌⊎◌, ℕ, zero, suc, ◌<◌, ◌≤◌, nat_lt, Bool, true, false, cond, List, [], ◌∷◌, ◌++◌, length, slice_get}
+use Rattle.std.proofs.Common.{Option, Some, None, is_some, refl, sym, ap, ◌∙◌, subst, arith, inl, inr, length-set, get_or-set_same}
 use Rattle.std.proofs.lemmas.Bool.Decides.{nat_tests}
 use Rattle.std.proofs.lemmas.List.{length-replicate}
 use Rattle.std.proofs.lemmas.Option.{cond_some, same_Some}
@@ -8,7 +9,8 @@ use Rattle.plain_monitor.specs.declared.entry.Entry.{Entry}
 use Rattle.plain_monitor.specs.declared.entry.Logged.{Logged}
 use Rattle.plain_monitor.specs.Order.{order}
 use Rattle.plain_monitor.specs.History.{run_all}
-use Rattle.plain_monitor.specs.Made.{Numbering, first_made, maker_of, place_of, made_by, class_of, is_there, creates, needs, made_number, may_create, take_created, take_made, nothing_made, made_after}
+use Rattle.plain_monitor.specs.Made.{Numbering, first_made, maker_of, place_of, made_by, class_if_there, is_there, creates}
+use Rattle.plain_monitor.specs.Made.{needs, made_number, may_create, take_created, take_made, nothing_made, made_after}
 use Rattle.plain_history.proofs.MadeSteps.{grown, row_other, all_there, MayCreate, maker_of_new, number_of}
 use Rattle.plain_history.proofs.MadeHistories.{new_wasnt}
 use Rattle.plain_history.proofs.Passing.{first_run}
@@ -49,7 +51,7 @@ one_maker n made t u o c d m k =
     sym its.0 ∙ mine.0
 
 -- what has a class is there
-pub class_is_there : (n : Numbering) (made : List (List ℕ)) (o c : ℕ) → class_of n made o ≡ Some c → is_there n made o ≡ true
+pub class_is_there : (n : Numbering) (made : List (List ℕ)) (o c : ℕ) → class_if_there n made o ≡ Some c → is_there n made o ≡ true
 class_is_there n made o c h = sym (there_has_class n made o) ∙ ap is_some h
 
 -- ONE OBJECT MORE, which thread t makes. The next objects of other threads are as they were.
@@ -72,8 +74,8 @@ in_more (x ∷ row) c zero d h = inl h
 in_more (x ∷ row) c (suc k) d h = elim (in_more row c k d h) [ inl a ↦ inl a | inr a ↦ inr (ap suc a.0, a.1) ]
 
 -- an object that has a class afterwards is the new one, of the new class, or had it before
-pub class_less : (n : Numbering) (made : List (List ℕ)) (t o c i d : ℕ) → MayCreate n made t (o, c) → class_of n (grown made t c) i ≡ Some d
-    → ((i ≡ o) × (d ≡ c)) ⊎ (class_of n made i ≡ Some d)
+pub class_less : (n : Numbering) (made : List (List ℕ)) (t o c i d : ℕ) → MayCreate n made t (o, c) → class_if_there n (grown made t c) i ≡ Some d
+    → ((i ≡ o) × (d ≡ c)) ⊎ (class_if_there n made i ≡ Some d)
 class_less n made t o c i d m h = by_test (nat_lt i (first_made n)) refl h
   where
     row_here : made_by (grown made t c) t ≡ made_by made t ++ c ∷ []

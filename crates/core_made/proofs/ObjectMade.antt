@@ -2,9 +2,9 @@
 use Rattle.std.proofs.Common.{◌≡◌, ℕ, ◌+◌, ◌<◌, eq-eqb, Bool, true, cond, List, Some, None, refl, sym, ap, subst, inr}
 use Rattle.plain_monitor.specs.declared.entry.Entry.TheVariants.{New}
 use Rattle.plain_monitor.specs.Objects.{PlainObject}
-use Rattle.core_world.specs.declared.name.Name.TheVariants.{Class}
+use Rattle.core_world.specs.declared.word_id.WordId.TheVariants.{Class}
 use Rattle.core_world.specs.Steps.{known_hit, seen_before, world_after}
-use Rattle.core_world.specs.Threads.Known.{Known, last_seen}
+use Rattle.core_world.specs.Threads.ThreadView.{ThreadView, last_seen}
 use Rattle.core_world.specs.Threads.References.{numbering, making_in}
 use Rattle.core_world.specs.Trees.CreateSteps.{class_plan, make_plan, creating}
 use Rattle.core_world.specs.Valid.{Fits}
@@ -24,7 +24,7 @@ module _ (o c m : ℕ) (w : World) (P : List PlainObject) (t : ℕ) (within : t 
   storing : MayStoreClass (w.known t) (creating o c)
   storing = record { runs = may.runs; calm = may.calm; goes_on = inr nothing }
 
-  abbrev l : Known
+  abbrev l : ThreadView
   l = known_hit w.shape w.start (class_plan (creating o c) o c) (w.words (Class o)) (w.known t)
 
   abbrev x : World
@@ -36,7 +36,7 @@ module _ (o c m : ℕ) (w : World) (P : List PlainObject) (t : ℕ) (within : t 
   -- THE SECOND. The thread may make the object still, and has seen the class word that it stored.
   stands : StandsBeforeMark (x.known t) o c
   stands =
-      subst (λ (k : Known). StandsBeforeMark k o c) (sym (with_known_here t l w.known))
+      subst (λ (k : ThreadView). StandsBeforeMark k o c) (sym (with_known_here t l w.known))
       (record {
         may = record { runs = may.runs; calm = refl; ready = may.ready; room = may.room; own = record { operation = inr refl; shot = tt } };
         making = refl;

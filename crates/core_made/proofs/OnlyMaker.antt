@@ -1,5 +1,6 @@
 -- Each object that isn't declared is made by one entry alone, of the thread that has the object's number.
-use Rattle.std.proofs.Common.{◌≡◌, ℕ, ◌≤◌, ◌==◌, ◌||◌, eq-eqb, eqb-true, Bool, true, false, cond, List, [], ◌∷◌, length, option_map, Option, Some, None, refl, sym, ap, ◌∙◌}
+use Rattle.std.proofs.Common.{◌≡◌, ℕ, ◌≤◌, ◌==◌, ◌||◌, eq-eqb, eqb-true, Bool, true, false, cond, List}
+use Rattle.std.proofs.Common.{[], ◌∷◌, length, option_map, Option, Some, None, refl, sym, ap, ◌∙◌}
 use Rattle.std.proofs.Math.Bool.{or-false}
 use Rattle.std.proofs.lemmas.Option.{cond_some, same_Some}
 use Rattle.std.specs.List.{list_any}

@@ -1,7 +1,8 @@
 -- The law of what is there holds of the opening world.
-use Rattle.std.proofs.Common.{◌≡◌, ℕ, zero, suc, ◌+◌, Bool, true, false, cond, None, List, [], replicate, slice_get, refl, sym, ap, arith, inl, ◌&&◌, nat_lt, ◌∙◌}
+use Rattle.std.proofs.Common.{◌≡◌, ℕ, zero, suc, ◌+◌, Bool, true, false, cond, None, List, []}
+use Rattle.std.proofs.Common.{replicate, slice_get, refl, sym, ap, arith, inl, ◌&&◌, nat_lt, ◌∙◌}
 use Rattle.std.proofs.lemmas.Bool.Decides.{nat_tests}
-use Rattle.plain_monitor.specs.Made.{Numbering, first_made, class_of, maker_of, place_of, made_by, take_made, nothing_made}
+use Rattle.plain_monitor.specs.Made.{Numbering, first_made, class_if_there, maker_of, place_of, made_by, take_made, nothing_made}
 use Rattle.plain_monitor.specs.History.{run_all, take_all}
 use Rattle.plain_monitor.specs.Objects.{new_objects}
 use Rattle.plain_monitor.specs.Order.{order, ordered, with_threads}
@@ -28,7 +29,7 @@ none_by zero t = refl
 none_by (suc n) zero = refl
 none_by (suc n) (suc t) = none_by n t
 
-none_has_class : (n : Numbering) (o : ℕ) → nat_lt o (first_made n) ≡ false → class_of n (nothing_made n) o ≡ None
+none_has_class : (n : Numbering) (o : ℕ) → nat_lt o (first_made n) ≡ false → class_if_there n (nothing_made n) o ≡ None
 none_has_class n o e =
     ap (λ (b : Bool). cond b (slice_get n.declared o) (slice_get (made_by (nothing_made n) (maker_of n o)) (place_of n o))) e
     ∙ ap (λ (r : List ℕ). slice_get r (place_of n o)) (none_by n.threads (maker_of n o))

@@ -1,5 +1,7 @@
 -- Each class's prototype is a mark that a new object may have.
-use Rattle.core_locks.proofs.Prelude.{◌≡◌, ℕ, ◌+◌, ◌*◌, ◌%◌, ◌<◌, ◌==◌, Bool, true, false, cond, List, Some, refl, ap, ◌∙◌, subst, arith, inl, inr, read_mark, mark_of, Anonymous, read_mark-mark_of, PlainObject, Prototype, World, Fits, last_seen, bulk_rebiases, bulk_revokes}
+use Rattle.core_locks.proofs.Prelude.{◌≡◌, ℕ, ◌+◌, ◌*◌, ◌%◌, ◌<◌, ◌==◌, Bool, true, false, cond, List, Some, refl, ap}
+use Rattle.core_locks.proofs.Prelude.{◌∙◌, subst, arith, inl, inr, read_mark, mark_of, Anonymous, read_mark-mark_of}
+use Rattle.core_locks.proofs.Prelude.{PlainObject, Prototype, World, Fits, last_seen, bulk_rebiases, bulk_revokes}
 use Rattle.core_world.proofs.Readings.{mark_one}
 use Rattle.core_made.specs.Making.{IsFirstMark}
 

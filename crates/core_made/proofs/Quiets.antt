@@ -1,5 +1,6 @@
 -- The law of what is there after a step that logs nothing.
-use Rattle.std.proofs.Common.{◌≡◌, ℕ, ◌≤◌, Bool, true, false, cond, List, length, slice_index, slice_get, Option, Some, None, refl, sym, ap, ◌∙◌, arith, inl, inr}
+use Rattle.std.proofs.Common.{◌≡◌, ℕ, ◌≤◌, Bool, true, false, cond, List, length, slice_index}
+use Rattle.std.proofs.Common.{slice_get, Option, Some, None, refl, sym, ap, ◌∙◌, arith, inl, inr}
 use Rattle.plain_monitor.specs.declared.entry.Logged.{Logged}
 use Rattle.plain_monitor.specs.Objects.{PlainObject}
 use Rattle.plain_monitor.specs.Made.{Numbering, is_there, IsMadeInTime}
@@ -8,15 +9,15 @@ use Rattle.plain_history.specs.Known.{makes, IsKnownAt, SlotsAreKnown}
 use Rattle.plain_history.specs.Stamps.{bound_of}
 use Rattle.plain_monitor.specs.Order.{order}
 use Rattle.plain_monitor.proofs.Lists.{all_weaker}
-use Rattle.core_world.specs.declared.task.Unfinished.{Unfinished}
-use Rattle.core_world.specs.Threads.Known.{DumpShot, StepMade, last_seen}
+use Rattle.core_world.specs.declared.heap_call.Unfinished.{Unfinished}
+use Rattle.core_world.specs.Threads.ThreadView.{DumpShot, StepMade, last_seen}
 use Rattle.core_world.specs.Locks.{hold_count}
-use Rattle.core_world.specs.declared.name.Name.{Name}
-use Rattle.core_world.specs.declared.name.Name.TheVariants.{Mark, Stamp, Class}
+use Rattle.core_world.specs.declared.word_id.WordId.{WordId}
+use Rattle.core_world.specs.declared.word_id.WordId.TheVariants.{Mark, Stamp, Class}
 use Rattle.core_world.specs.declared.plan.StepPlan.{StepPlan}
 use Rattle.core_world.specs.Locks.{marks}
 use Rattle.core_world.specs.Steps.{known_hit, known_miss, world_after}
-use Rattle.core_world.specs.Threads.Known.{Known}
+use Rattle.core_world.specs.Threads.ThreadView.{ThreadView}
 use Rattle.core_world.specs.Words.Acts.{word_after, hits}
 use Rattle.core_world.specs.World.{World, with_word_and_known, logs}
 use Rattle.core_world.proofs.Frames.{frame2}
@@ -80,7 +81,7 @@ module _ {n : Numbering} {shape : List (ℕ × ℕ)} {logs : List (List Logged)}
   }
 
 -- IN A WORLD whose word at a name becomes v, and whose thread t then knows l
-module _ (w : World) (at : Name) (v t : ℕ) (l : Known) (law : MadeLawHolds w)
+module _ (w : World) (at : WordId) (v t : ℕ) (l : ThreadView) (law : MadeLawHolds w)
     (same_log : l.log ≡ (w.known t).log) (spares : SparesAbsent (is_there_in w) at (w.words at) v)
     (held : (o : ℕ) → is_there_in w o ≡ false → hold_count o (w.known t).holds ≡ 0 → hold_count o l.holds ≡ 0)
     (still_makes : making_in l.unfinished ≡ making_in (w.known t).unfinished)
@@ -121,10 +122,10 @@ module _ (w : World) (at : Name) (v t : ℕ) (l : Known) (law : MadeLawHolds w)
 
 -- THE STEP OF A PLAN
 module _ (w : World) (t : ℕ) (p : StepPlan) (law : MadeLawHolds w) where
-  abbrev hit : Known
+  abbrev hit : ThreadView
   hit = known_hit w.shape w.start p (w.words p.at) (w.known t)
 
-  abbrev miss : Known
+  abbrev miss : ThreadView
   miss = known_miss w.shape w.start p (w.words p.at) (w.known t)
 
   abbrev with : Bool → World

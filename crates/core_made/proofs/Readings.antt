@@ -1,11 +1,12 @@
 -- What the law of what is there says of single objects.
-use Rattle.std.proofs.Common.{◌≡◌, ℕ, zero, suc, ◌-◌, ◌≤◌, ◌==◌, ◌||◌, nat_lt, not, Bool, true, false, cond, List, [], ◌∷◌, take, map, length, eq-eqb, ne_eqb, slice_get, slice_index_or, Some, refl, sym, ap, ◌∙◌, arith, inl, inr}
+use Rattle.std.proofs.Common.{◌≡◌, ℕ, zero, suc, ◌-◌, ◌≤◌, ◌==◌, ◌||◌, nat_lt, not, Bool, true, false, cond, List, [], ◌∷◌, take}
+use Rattle.std.proofs.Common.{map, length, eq-eqb, ne_eqb, slice_get, slice_index_or, Some, refl, sym, ap, ◌∙◌, arith, inl, inr}
 use Rattle.std.proofs.lemmas.Bool.Decides.{nat_tests}
 use Rattle.std.proofs.lemmas.Option.{same_Some}
 use Rattle.mark_word.specs.Mark.{read_mark}
-use Rattle.core_world.specs.declared.name.Name.TheVariants.{Class}
+use Rattle.core_world.specs.declared.word_id.WordId.TheVariants.{Class}
 use Rattle.plain_monitor.specs.Objects.{PlainObject}
-use Rattle.plain_monitor.specs.Made.{Numbering, first_made, class_of, is_there, made_by, maker_of, place_of, nothing_made}
+use Rattle.plain_monitor.specs.Made.{Numbering, first_made, class_if_there, is_there, made_by, maker_of, place_of, nothing_made}
 use Rattle.plain_monitor.specs.Order.{order}
 use Rattle.plain_history.proofs.NotThere.{not_there_is_new}
 use Rattle.core_world.specs.Locks.{lock_form, prototype_of, owner_words, inflations}
@@ -13,12 +14,12 @@ use Rattle.core_world.specs.Valid.{Fits}
 use Rattle.core_world.specs.Words.Forms.{is_biased, is_biased_form}
 use Rattle.core_world.specs.Words.Names.{class_by, has_class}
 use Rattle.core_world.specs.Words.Shape.{IsInLimits}
-use Rattle.core_world.specs.Words.Shape.{class_of as shape_class}
+use Rattle.core_world.specs.Words.Shape.{class_in_shape as shape_class}
 use Rattle.core_world.specs.World.{World, logs}
 use Rattle.core_world.proofs.Readings.{mark_one}
 use Rattle.core_world.specs.Threads.References.{numbering}
 use Rattle.core_law.specs.MadeLaw.{MadeLawHolds, IsFree, IsUnmade, there_after}
-use Rattle.core_counts.specs.Making.{IsUntouched}
+use Rattle.bias_law.specs.Making.{IsUntouched}
 use Rattle.core_made.specs.Steps.{is_there_in}
 use Rattle.core_made.proofs.NewsLogged.{logged_are_there, unentered}
 use Rattle.core_made.proofs.Numbers.{first_is_declared}
@@ -62,7 +63,7 @@ module _ (w : World) (limits : IsInLimits w.shape) (law : MadeLawHolds w) (o : �
   declared_are : nat_lt o (first_made n) ≡ nat_lt o w.shape.declared
   declared_are = ap (nat_lt o) (first_is_declared w.shape limits)
 
-  pub class_told : (c : ℕ) → class_of n law.made o ≡ Some c → class_by w.shape w.words o ≡ c
+  pub class_told : (c : ℕ) → class_if_there n law.made o ≡ Some c → class_by w.shape w.words o ≡ c
   class_told c e = by_test (nat_lt o w.shape.declared) refl
     where
       by_test : (b : Bool) → nat_lt o w.shape.declared ≡ b → cond b (shape_class w.shape o) (w.words (Class o) - 1) ≡ c

@@ -1,14 +1,15 @@
 -- The law of what is there while a bias is being revoked: it held before the first store, and the stores are of marks that had the bias pattern.
-use Rattle.std.proofs.Common.{◌≡◌, ◌⊎◌, ℕ, ◌<◌, Bool, true, false, cond, List, [], ◌∷◌, ◌++◌, length, slice_get, Some, refl, sym, ap, ◌∙◌, subst, arith, inl, inr}
+use Rattle.std.proofs.Common.{◌≡◌, ◌⊎◌, ℕ, ◌<◌, Bool, true, false, cond, List, [], ◌∷◌, ◌++◌, length}
+use Rattle.std.proofs.Common.{slice_get, Some, refl, sym, ap, ◌∙◌, subst, arith, inl, inr}
 use Rattle.std.proofs.lemmas.Bool.{cases_lt}
 use Rattle.plain_monitor.specs.declared.entry.Logged.{Logged}
 use Rattle.plain_monitor.specs.Objects.{PlainObject}
 use Rattle.plain_monitor.specs.Made.{is_there}
-use Rattle.core_world.specs.declared.name.Name.{Name}
-use Rattle.core_world.specs.declared.name.Name.TheVariants.{Mark, Stamp, Class}
+use Rattle.core_world.specs.declared.word_id.WordId.{WordId}
+use Rattle.core_world.specs.declared.word_id.WordId.TheVariants.{Mark, Stamp, Class}
 use Rattle.core_world.specs.Locks.{marks, hold_count}
 use Rattle.core_world.specs.RevocationRules.{Write, words_after, words_from, writes_in}
-use Rattle.core_world.specs.Threads.Known.{Known, last_seen}
+use Rattle.core_world.specs.Threads.ThreadView.{ThreadView, last_seen}
 use Rattle.core_world.specs.Valid.{IsRevoking, requester_known}
 use Rattle.core_world.specs.Words.Forms.{is_biased, is_biased_form}
 use Rattle.core_world.specs.Words.Names.{same_name, with_word}
@@ -20,19 +21,19 @@ use Rattle.core_world.proofs.Naming.{same_named}
 use Rattle.core_world.proofs.Readings.{mark_one}
 use Rattle.core_bias.proofs.GoodWrites.{is_revocation_word, IsGood, GoodMark, AreGood, good_writes}
 use Rattle.core_bias.proofs.Stores.{first_below}
-use Rattle.core_counts.proofs.RevocationEnds.{logs_same}
+use Rattle.bias_law.proofs.bias.RevocationEnds.{logs_same}
 use Rattle.core_world.specs.Threads.References.{knows_by_log, numbering, is_on, making_in}
 use Rattle.core_law.specs.MadeLaw.{MadeLaw, MadeLawHolds}
 use Rattle.core_made.proofs.Absent.{words_rise}
 use Rattle.core_made.proofs.Quiets.{law_stays}
 
 -- WHAT THE STORES LEAVE: words that no revocation stores, and marks that had no bias pattern
-module _ (s : Shape) (f : Name → ℕ) where
-  abbrev IsLeft : Name → Type 0
+module _ (s : Shape) (f : WordId → ℕ) where
+  abbrev IsLeft : WordId → Type 0
   IsLeft n = (is_revocation_word n ≡ false) ⊎ ((o : ℕ) × (n ≡ Mark o) × (is_biased (f (Mark o)) ≡ false))
 
   -- a good store is of another word
-  other : (x : Write) (n : Name) → IsGood s f x → IsLeft n → (b : Bool) → same_name n x.at ≡ b → b ≡ false
+  other : (x : Write) (n : WordId) → IsGood s f x → IsLeft n → (b : Bool) → same_name n x.at ≡ b → b ≡ false
   other x n good left false e = refl
   other x n good left true e =
       let same : n ≡ x.at = same_named n x.at e in
@@ -41,7 +42,7 @@ module _ (s : Shape) (f : Name → ℕ) where
         | inr a ↦ absurd (let had = (subst (λ m. GoodMark s f m x.word) (sym same ∙ a.1) good.1).2 in let has_none = a.2 in cc (had, has_none))
       ]
 
-  pub left_words : (xs : List Write) (g : Name → ℕ) (n : Name) → AreGood s f xs → IsLeft n → words_after xs g n ≡ g n
+  pub left_words : (xs : List Write) (g : WordId → ℕ) (n : WordId) → AreGood s f xs → IsLeft n → words_after xs g n ≡ g n
   left_words [] g n good left = refl
   left_words (x ∷ xs) g n good left =
       left_words xs (with_word x.at x.word g) n good.1 left ∙ ap (λ (b : Bool). cond b x.word (g n)) (other x n good.0 left (same_name n x.at) refl)
@@ -60,7 +61,7 @@ module _ (w : World) (P : List PlainObject) (s : IsRevoking w P) (law : MadeLawH
   within : t < b.shape.threads
   within = elim (cases_lt t b.shape.threads) [
     | inl h ↦ h
-    | inr h ↦ absurd (let a = ap (λ (k : Known). k.reached) (s.fits.absent t h) in cc (a, s.reached))
+    | inr h ↦ absurd (let a = ap (λ (k : ThreadView). k.reached) (s.fits.absent t h) in cc (a, s.reached))
   ]
 
   good : AreGood b.shape b.words (writes_in (w.known t).seen_at_safepoint)
@@ -68,11 +69,11 @@ module _ (w : World) (P : List PlainObject) (s : IsRevoking w P) (law : MadeLawH
       (subst (AreGood b.shape b.words) (sym s.writes)
       (good_writes b.shape b.words s.fits.limits.threads (first_below b P s.fits) t s.revocation within s.fits.forms.marks))
 
-  left : (n : Name) → IsLeft b.shape b.words n → w.words n ≡ b.words n
-  left n is = ap (λ (g : Name → ℕ). g n) s.words ∙ left_words b.shape b.words (writes_in (w.known t).seen_at_safepoint) b.words n good is
+  left : (n : WordId) → IsLeft b.shape b.words n → w.words n ≡ b.words n
+  left n is = ap (λ (g : WordId → ℕ). g n) s.words ∙ left_words b.shape b.words (writes_in (w.known t).seen_at_safepoint) b.words n good is
 
   -- a part of the knowledge that the requester doesn't change meanwhile, and nobody else does
-  part_now : {A : Type 0} (part : Known → A) → part (requester_known b t s.revocation (w.known t)) ≡ part (b.known t) → (u : ℕ)
+  part_now : {A : Type 0} (part : ThreadView → A) → part (requester_known b t s.revocation (w.known t)) ≡ part (b.known t) → (u : ℕ)
       → part (w.known u) ≡ part (b.known u)
   part_now part same u = by_equal u t
       (λ e. ap (λ v. part (w.known v)) e ∙ ap part s.knows ∙ same ∙ ap (λ v. part (b.known v)) (sym e))
@@ -95,7 +96,8 @@ module _ (w : World) (P : List PlainObject) (s : IsRevoking w P) (law : MadeLawH
       → knows_by_log (numbering b.shape) (b.known u).log o ≡ true
   saw u o v free h = by_equal u t
       (λ e. let stays = part_now (λ k. k.reached) refl u in let its = ap (λ i. (b.known i).reached) e ∙ s.reached in absurd (cc (free, stays, its)))
-      (λ d. law.saw u o v (ap (λ (k : Known). k.reached) (sym (s.others u d)) ∙ free) (ap (λ (k : Known). last_seen (Mark o) k.seen) (sym (s.others u d)) ∙ h))
+      (λ d. law.saw u o v (ap (λ (k : ThreadView). k.reached) (sym (s.others u d)) ∙ free)
+      (ap (λ (k : ThreadView). last_seen (Mark o) k.seen) (sym (s.others u d)) ∙ h))
 
   -- the law of what the words are now, in a heap of this shape, with these logs
   abbrev Law : Shape → List (List Logged) → (ℕ → List Logged) → Type 0

@@ -1,20 +1,21 @@
 -- The law of what is there after the step that keeps a shot of a dump.
-use Rattle.std.proofs.Common.{◌≡◌, ℕ, ◌<◌, List, [], ◌∷◌, ◌++◌, ◌⊎◌, zero, suc, length, map, slice_get, Some, IsSome, refl, sym, ap, ◌∙◌, subst, inl, inr, arith}
+use Rattle.std.proofs.Common.{◌≡◌, ℕ, ◌<◌, List, [], ◌∷◌, ◌++◌, ◌⊎◌, zero, suc, length, map}
+use Rattle.std.proofs.Common.{slice_get, Some, IsSome, refl, sym, ap, ◌∙◌, subst, inl, inr, arith}
 use Rattle.std.proofs.lemmas.Option.{same_Some}
 use Rattle.std.proofs.lemmas.List.{take_all}
 use Rattle.plain_monitor.specs.declared.entry.Logged.{Logged}
 use Rattle.plain_monitor.specs.Objects.{PlainObject}
 use Rattle.plain_monitor.specs.Made.{IsMadeInTime}
 use Rattle.plain_history.specs.Cuts.{cut_logs}
-use Rattle.core_world.specs.Threads.Known.{DumpShot}
+use Rattle.core_world.specs.Threads.ThreadView.{DumpShot}
 use Rattle.core_world.specs.Trees.LookSteps.{keep_shot_plan}
-use Rattle.core_world.specs.Trees.Plans.{Purpose}
+use Rattle.core_world.specs.Trees.Plans.{CallContext}
 use Rattle.core_world.specs.Steps.{known_hit, shot_of, world_after}
 use Rattle.core_world.specs.Valid.{Fits}
-use Rattle.core_world.specs.declared.name.Name.TheVariants.{Safepoint}
+use Rattle.core_world.specs.declared.word_id.WordId.TheVariants.{Safepoint}
 use Rattle.core_world.specs.World.{World, logs}
 use Rattle.core_locks.specs.ShotLaws.{MayKeepShot}
-use Rattle.core_locks.proofs.Shoots.{shot_shows}
+use Rattle.core_locks.proofs.shot.Shoots.{shot_shows}
 use Rattle.core_world.specs.Threads.References.{numbering, is_on, making_in}
 use Rattle.core_law.specs.MadeLaw.{MadeLawHolds}
 use Rattle.core_made.proofs.MarksSeen.{hit_marks}
@@ -33,7 +34,7 @@ one_of_more [] x s (suc i) h = absurd (cc h)
 one_of_more (y ∷ shots) x s zero h = inl h
 one_of_more (y ∷ shots) x s (suc i) h = one_of_more shots x s i h
 
-module _ (w : World) (P : List PlainObject) (t : ℕ) (e : Purpose) (within : t < w.shape.threads) (may : MayKeepShot w.shape (w.known t) e)
+module _ (w : World) (P : List PlainObject) (t : ℕ) (e : CallContext) (within : t < w.shape.threads) (may : MayKeepShot w.shape (w.known t) e)
     (makes : making_in e.unfinished ≡ making_in (w.known t).unfinished) (v : Fits w P) (law : MadeLawHolds w) where
   -- so what the new shot leaves of the logs is made in time, as they are
   shot_in_time : IsMadeInTime (numbering w.shape) (cut_logs (shot_of w.shape (w.known t)).cut (logs w))

@@ -8,14 +8,14 @@ use Rattle.plain_monitor.specs.Limits.{most_made}
 use Rattle.plain_monitor.specs.Made.{Numbering, made_number}
 use Rattle.plain_monitor.specs.Objects.{PlainObject}
 use Rattle.plain_history.specs.Known.{news}
-use Rattle.core_world.specs.declared.name.Name.TheVariants.{Mark, Class}
-use Rattle.core_world.specs.declared.stage.Stage.TheVariants.{Calm}
-use Rattle.core_world.specs.Threads.Known.{Known, last_seen}
+use Rattle.core_world.specs.declared.word_id.WordId.TheVariants.{Mark, Class}
+use Rattle.core_world.specs.declared.stage.Stage.TheVariants.{Settled}
+use Rattle.core_world.specs.Threads.ThreadView.{ThreadView, last_seen}
 use Rattle.core_world.specs.Threads.References.{making_in}
 use Rattle.core_world.specs.World.{World}
 use Rattle.core_world.specs.Locks.{marks, hold_count, waits_at, notified_at}
 use Rattle.core_world.specs.Clauses.Lengths.{log_limit}
-use Rattle.core_world.specs.Trees.Plans.{Purpose}
+use Rattle.core_world.specs.Trees.Plans.{CallContext}
 use Rattle.core_locks.specs.Knowing.{GoesOn, IsOwnEntry}
 
 -- THE FIRST MARK. No thread goes by what it saw at this mark: a call sees only marks of objects that its thread knows, but at its reached safepoint.
@@ -37,15 +37,15 @@ IsFirstMark w m =
     (read_mark m ≡ Some (Neutral 0 0)) ⊎ ((w.biasing ≡ true) × ((epoch : ℕ) × (read_mark m ≡ Some (Anonymous epoch 0))))
 
 -- the thread is in the middle of nothing, its log has room, and it may log that it has made the object
-pub record MayMake (k : Known) (o c : ℕ) : Type 0 where
+pub record MayMake (k : ThreadView) (o c : ℕ) : Type 0 where
   pub runs : k.running ≡ true
-  pub calm : k.stage ≡ Calm
+  pub calm : k.stage ≡ Settled
   pub ready : k.wait ≡ 0
   pub room : length k.log < log_limit
   pub own : IsOwnEntry k (New o c)
 
 -- and it has stored the object's class word in this call, after which it makes no other step
-pub record StandsBeforeMark (k : Known) (o c : ℕ) : Type 0 where
+pub record StandsBeforeMark (k : ThreadView) (o c : ℕ) : Type 0 where
   pub may : MayMake k o c
   pub making : making_in k.unfinished ≡ Some o
   pub saw : last_seen (Class o) k.seen ≡ Some (c + 1)
@@ -56,9 +56,9 @@ pub record IsClassless (w : World) (o : ℕ) : Type 0 where
   pub word : w.words (Class o) ≡ 0
 
 -- the thread is in the middle of nothing
-pub record MayStoreClass (k : Known) (e : Purpose) : Type 0 where
+pub record MayStoreClass (k : ThreadView) (e : CallContext) : Type 0 where
   pub runs : k.running ≡ true
-  pub calm : k.stage ≡ Calm
+  pub calm : k.stage ≡ Settled
   pub goes_on : GoesOn k e
 
 -- by its own log this is the next object that thread t makes, of a class that there is, and the thread may make one more

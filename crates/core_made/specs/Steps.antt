@@ -6,9 +6,9 @@ use Rattle.plain_monitor.specs.History.{last_stamp}
 use Rattle.plain_monitor.specs.Made.{creates, needs}
 use Rattle.plain_history.specs.Tied.{bound_to}
 use Rattle.core_world.specs.declared.act.Act.{Act}
-use Rattle.core_world.specs.declared.act.Act.TheVariants.{Load, Swap}
-use Rattle.core_world.specs.declared.name.Name.{Name}
-use Rattle.core_world.specs.declared.name.Name.TheVariants.{Safepoint, Mark, Hold, Stamp, Class}
+use Rattle.core_world.specs.declared.act.Act.TheVariants.{Load, CompareExchange}
+use Rattle.core_world.specs.declared.word_id.WordId.{WordId}
+use Rattle.core_world.specs.declared.word_id.WordId.TheVariants.{Safepoint, Mark, Hold, Stamp, Class}
 use Rattle.core_world.specs.declared.plan.StepPlan.{StepPlan}
 use Rattle.core_world.specs.Words.Acts.{word_after, hits}
 use Rattle.core_world.specs.Words.Forms.{names}
@@ -19,7 +19,7 @@ use Rattle.core_law.specs.MadeLaw.{is_there_by}
 
 -- What a step finds in its word and leaves there: the mark of an object that isn't there stays, and so does each class word; a new hold word names
 -- only objects that are there; and no stamp word falls.
-abbrev pub SparesAbsent : (ℕ → Bool) → Name → ℕ → ℕ → Type 0
+abbrev pub SparesAbsent : (ℕ → Bool) → WordId → ℕ → ℕ → Type 0
 SparesAbsent there (Mark o) found left = (there o ≡ true) ⊎ (left ≡ found)
 SparesAbsent there (Hold t p) found left = (o : ℕ) → names o left ≡ true → there o ≡ true
 SparesAbsent there (Stamp o) found left = found ≤ left
@@ -35,9 +35,9 @@ abbrev pub knows_in : World → ℕ → ℕ → Bool
 knows_in w t o = knows_by_log (numbering w.shape) (w.known t).log o
 
 -- the thread whose safepoint is reached only loads or exchanges the safepoint word
-abbrev pub EndsByExchange : Name → Act → Bool → Type 0
+abbrev pub EndsByExchange : WordId → Act → Bool → Type 0
 EndsByExchange Safepoint Load reached = Unit {0}
-EndsByExchange Safepoint (Swap expected word) reached = Unit {0}
+EndsByExchange Safepoint (CompareExchange expected word) reached = Unit {0}
 EndsByExchange Safepoint act reached = reached ≡ false
 EndsByExchange _ act reached = Unit {0}
 

@@ -1,13 +1,13 @@
 //! The law of what is there, in the opening world and after a step that makes no object.
 
 ghost use Rattle.std.specs.Prelude.{◌≡◌, ℕ, ◌<◌, Bool, false, List, Some};
-ghost use Rattle.plain_monitor.specs.Made.{class_of};
+ghost use Rattle.plain_monitor.specs.Made.{class_if_there};
 ghost use Rattle.plain_monitor.specs.Objects.{PlainObject};
 ghost use Rattle.core_world.specs.declared.plan.StepPlan.{StepPlan};
 ghost use Rattle.core_world.specs.Opening.{opening};
 ghost use Rattle.core_world.specs.Steps.{world_after};
 ghost use Rattle.core_world.specs.Trees.LookSteps.{keep_shot_plan};
-ghost use Rattle.core_world.specs.Trees.Plans.{Purpose};
+ghost use Rattle.core_world.specs.Trees.Plans.{CallContext};
 ghost use Rattle.core_world.specs.Valid.{Fits, IsRevoking};
 ghost use Rattle.core_world.specs.Words.Names.{class_by, has_class};
 ghost use Rattle.core_world.specs.Words.Shape.{Shape, IsInLimits};
@@ -16,7 +16,7 @@ ghost use Rattle.core_locks.specs.ShotLaws.{MayKeepShot};
 ghost use Rattle.core_world.specs.Threads.References.{numbering, making_in};
 ghost use Rattle.core_law.specs.BiasLaw.{is_logged};
 ghost use Rattle.core_law.specs.MadeLaw.{MadeLawHolds, IsFree, IsUnmade};
-ghost use Rattle.core_counts.specs.Making.{IsUntouched};
+ghost use Rattle.bias_law.specs.Making.{IsUntouched};
 ghost use Rattle.core_made.specs.Steps.{IsFairQuietly, is_there_in};
 
 /// In the opening world the declared objects are there, and the words of all others are those of objects that aren't.
@@ -33,7 +33,7 @@ pub fn a_quiet_step_keeps_what_is_there()
 
 /// The step that keeps a shot of a dump keeps the law: the shot cuts each log at its end.
 pub fn keeping_a_shot_keeps_what_is_there()
-    ensures { (w : World) (objects : List PlainObject) (t : ℕ) (e : Purpose) → t < w.shape.threads
+    ensures { (w : World) (objects : List PlainObject) (t : ℕ) (e : CallContext) → t < w.shape.threads
         → MayKeepShot w.shape (w.known t) e → making_in e.unfinished ≡ making_in (w.known t).unfinished
         → Fits w objects → MadeLawHolds w → MadeLawHolds (world_after (keep_shot_plan e) t w) }
 {}
@@ -66,5 +66,5 @@ pub fn class_words_tell_what_is_there()
     ensures there { (w : World) (o : ℕ) → IsInLimits w.shape → MadeLawHolds w → IsUnmade w o
         → has_class w.shape w.words o ≡ is_there_in w o }
     ensures class { (w : World) (law : MadeLawHolds w) (o c : ℕ) → IsInLimits w.shape
-        → class_of (numbering w.shape) law.made o ≡ Some c → class_by w.shape w.words o ≡ c }
+        → class_if_there (numbering w.shape) law.made o ≡ Some c → class_by w.shape w.words o ≡ c }
 {}

@@ -7,11 +7,11 @@ ghost use Rattle.plain_monitor.specs.declared.entry.Entry.TheVariants.{New};
 ghost use Rattle.plain_monitor.specs.Made.{made_number};
 ghost use Rattle.plain_monitor.specs.Objects.{PlainObject};
 ghost use Rattle.plain_history.specs.Known.{news};
-ghost use Rattle.core_world.specs.declared.name.Name.TheVariants.{Prototype, Mark, Class};
+ghost use Rattle.core_world.specs.declared.word_id.WordId.TheVariants.{Prototype, Mark, Class};
 ghost use Rattle.core_world.specs.Words.Forms.{is_biased};
-ghost use Rattle.core_world.specs.Threads.Known.{last_seen};
+ghost use Rattle.core_world.specs.Threads.ThreadView.{last_seen};
 ghost use Rattle.core_world.specs.Trees.CreateSteps.{class_plan, make_plan, creating};
-ghost use Rattle.core_world.specs.Trees.Plans.{Purpose};
+ghost use Rattle.core_world.specs.Trees.Plans.{CallContext};
 ghost use Rattle.core_world.specs.Steps.{world_after};
 ghost use Rattle.core_world.specs.Valid.{Fits};
 ghost use Rattle.core_world.specs.World.{World};
@@ -26,7 +26,7 @@ ghost use Rattle.core_made.specs.Making.{IsClassless, MayStoreClass, IsNext};
 /// isn't declared and has none yet: every clause holds afterwards, with the same plain objects. That the word is 0, the law of
 /// what is there gives, for an object that isn't there and that no thread is making. The rest the thread knows itself.
 pub fn storing_a_class_word_keeps_the_world_valid()
-    ensures { (e : Purpose) (o c : ℕ) (w : World) (objects : List PlainObject) (t : ℕ) → t < w.shape.threads
+    ensures { (e : CallContext) (o c : ℕ) (w : World) (objects : List PlainObject) (t : ℕ) → t < w.shape.threads
         → MayStoreClass (w.known t) e → IsClassless w o → c < w.shape.classes → Fits w objects
         → Fits (world_after (class_plan e o c) t w) objects }
 {}
@@ -35,7 +35,7 @@ pub fn storing_a_class_word_keeps_the_world_valid()
 /// afterwards, and so does the law, by which the thread is now making that object. Which object is its next the thread's own
 /// log says.
 pub fn storing_a_class_word_keeps_what_is_there()
-    ensures { (e : Purpose) (o c : ℕ) (w : World) (objects : List PlainObject) (t : ℕ) → t < w.shape.threads
+    ensures { (e : CallContext) (o c : ℕ) (w : World) (objects : List PlainObject) (t : ℕ) → t < w.shape.threads
         → MayStoreClass (w.known t) e → making_in (w.known t).unfinished ≡ None → making_in e.unfinished ≡ Some o
         → IsNext (numbering w.shape) (w.known t).log t o c → Fits w objects → MadeLawHolds w
         → Fits (world_after (class_plan e o c) t w) objects × MadeLawHolds (world_after (class_plan e o c) t w) }
@@ -46,7 +46,7 @@ pub fn storing_a_class_word_keeps_what_is_there()
 /// fresh and its class word is stored, the law of what is there gives; that the mark is a first mark, the class's prototype,
 /// which the thread has loaded. The rest it knows itself.
 pub fn storing_a_first_mark_keeps_the_world_valid()
-    ensures { (e : Purpose) (o c m : ℕ) (w : World) (objects : List PlainObject) (t : ℕ) → t < w.shape.threads
+    ensures { (e : CallContext) (o c m : ℕ) (w : World) (objects : List PlainObject) (t : ℕ) → t < w.shape.threads
         → MayMake (w.known t) o c → IsFresh w objects o → w.words (Class o) ≡ c + 1 → IsFirstMark w m
         → Fits w objects → Logs w objects t (make_plan e o c m) (New o c) }
 {}
@@ -56,7 +56,7 @@ pub fn storing_a_first_mark_keeps_the_world_valid()
 /// the object isn't there and its class word is stored, the law gives, and that no thread goes by what it saw at the mark: who
 /// has seen a mark knows the object by its log, or its safepoint is reached, and then nobody runs.
 pub fn storing_a_first_mark_keeps_what_is_there()
-    ensures { (e : Purpose) (o c m : ℕ) (w : World) (objects : List PlainObject) (t : ℕ) → t < w.shape.threads
+    ensures { (e : CallContext) (o c m : ℕ) (w : World) (objects : List PlainObject) (t : ℕ) → t < w.shape.threads
         → StandsBeforeMark (w.known t) o c → IsFirstMark w m → Fits w objects → MadeLawHolds w
         → Logs w objects t (make_plan e o c m) (New o c) × MadeLawHolds (world_after (make_plan e o c m) t w) }
 {}
@@ -86,7 +86,7 @@ pub fn a_prototype_is_a_first_mark()
 /// mark without the bias pattern, and the first mark has it. By the law of what is there no such thread has seen the mark of an
 /// object that isn't there.
 pub fn no_first_mark_that_a_thread_has_seen()
-    ensures { (e : Purpose) (o c m epoch : ℕ) (w : World) (objects : List PlainObject) (t u seen : ℕ) → u ≢ t
+    ensures { (e : CallContext) (o c m epoch : ℕ) (w : World) (objects : List PlainObject) (t u seen : ℕ) → u ≢ t
         → last_seen (Mark o) (w.known u).seen ≡ Some seen → is_biased seen ≡ false
         → ((w.known u).running ≡ true) ⊎ ((w.known u).requesting ≡ true)
         → read_mark m ≡ Some (Anonymous epoch 0)
@@ -96,16 +96,16 @@ pub fn no_first_mark_that_a_thread_has_seen()
 /// Nor does one where the first mark has the bias pattern and the object has no class word yet: who finds the mark biased
 /// goes by the prototype of the object's class.
 pub fn no_biased_first_mark_before_the_class_word()
-    ensures { (e : Purpose) (o c m epoch : ℕ) (w : World) (objects : List PlainObject) (t : ℕ) → IsClassless w o
+    ensures { (e : CallContext) (o c m epoch : ℕ) (w : World) (objects : List PlainObject) (t : ℕ) → IsClassless w o
         → read_mark m ≡ Some (Anonymous epoch 0) → Fits (world_after (make_plan e o c m) t w) objects → ⊥ }
 {}
 
 /// No store of a class word leads to a valid world where there is no such class, or where a running thread has seen another
 /// class there, by which it goes on.
 pub fn no_wrong_class_word()
-    ensures class { (e : Purpose) (o c : ℕ) (w : World) (objects : List PlainObject) (t : ℕ) → w.shape.classes ≤ c
+    ensures class { (e : CallContext) (o c : ℕ) (w : World) (objects : List PlainObject) (t : ℕ) → w.shape.classes ≤ c
         → Fits (world_after (class_plan e o c) t w) objects → ⊥ }
-    ensures seen { (e : Purpose) (o c : ℕ) (w : World) (objects : List PlainObject) (t u seen : ℕ) → u ≢ t
+    ensures seen { (e : CallContext) (o c : ℕ) (w : World) (objects : List PlainObject) (t u seen : ℕ) → u ≢ t
         → last_seen (Class o) (w.known u).seen ≡ Some seen → (w.known u).running ≡ true → seen ≢ 0 → seen ≢ c + 1
         → Fits (world_after (class_plan e o c) t w) objects → ⊥ }
 {}
@@ -113,7 +113,7 @@ pub fn no_wrong_class_word()
 /// The law of what is there refuses a thread that stands before the store of the first mark of an object that isn't its next
 /// one: one of another thread's numbers, or one that is there already.
 pub fn no_class_word_out_of_turn()
-    ensures { (e : Purpose) (o c : ℕ) (w : World) (objects : List PlainObject) (t : ℕ) → t < w.shape.threads
+    ensures { (e : CallContext) (o c : ℕ) (w : World) (objects : List PlainObject) (t : ℕ) → t < w.shape.threads
         → making_in e.unfinished ≡ Some o
         → o ≢ made_number (numbering w.shape) t (length (news (w.known t).log))
         → Fits (world_after (class_plan e o c) t w) objects
@@ -123,7 +123,7 @@ pub fn no_class_word_out_of_turn()
 /// The law of what is there refuses the store of a first mark by a thread that isn't making that object: one that is making
 /// another or none, or has made this one already.
 pub fn no_first_mark_out_of_turn()
-    ensures { (e : Purpose) (o c m : ℕ) (w : World) (objects : List PlainObject) (t : ℕ) → t < w.shape.threads
+    ensures { (e : CallContext) (o c m : ℕ) (w : World) (objects : List PlainObject) (t : ℕ) → t < w.shape.threads
         → making_in (w.known t).unfinished ≢ Some o → Fits w objects → MadeLawHolds w
         → MadeLawHolds (world_after (make_plan e o c m) t w) → ⊥ }
 {}

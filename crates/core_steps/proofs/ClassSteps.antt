@@ -2,14 +2,14 @@
 use Rattle.std.proofs.Common.{◌≡◌, ℕ, ◌+◌, ◌-◌, ◌<◌, ◌≤◌, nat_lt, Bool, true, false, List, length, Some, refl, sym, ◌∙◌, arith}
 use Rattle.std.proofs.lemmas.Bool.Decides.{nat_tests}
 use Rattle.std.proofs.lemmas.Option.{same_Some}
-use Rattle.core_world.specs.declared.name.Name.TheVariants.{Class}
+use Rattle.core_world.specs.declared.word_id.WordId.TheVariants.{Class}
 use Rattle.core_world.specs.declared.stage.Stage.{Stage}
 use Rattle.core_world.specs.Threads.AtRest.{SawClass, SawClassIf}
-use Rattle.core_world.specs.Threads.Known.{Known, StepMade, last_seen}
-use Rattle.core_world.specs.Trees.Plans.{Purpose, load_plan, class_steps}
-use Rattle.core_world.specs.Trees.Todo.{Todo, done, step, ◌>>=◌}
+use Rattle.core_world.specs.Threads.ThreadView.{ThreadView, StepMade, last_seen}
+use Rattle.core_world.specs.Trees.Plans.{CallContext, load_plan, class_steps}
+use Rattle.core_world.specs.Trees.StepTree.{StepTree, done, step, ◌>>=◌}
 use Rattle.core_world.specs.There.{IsIn}
-use Rattle.core_world.specs.Words.Shape.{Shape, IsInLimits, class_of}
+use Rattle.core_world.specs.Words.Shape.{Shape, IsInLimits, class_in_shape}
 use Rattle.core_world.specs.Steps.{is_idle, known_hit}
 use Rattle.core_world.proofs.There.{class_there}
 use Rattle.core_law.specs.Logic.{Heap, Keeps, Was, Does}
@@ -38,17 +38,17 @@ class_once s seen o c d = by_test (nat_lt o s.declared)
     by_test false h g = let same = same_Some (c + 1) (d + 1) (sym h ∙ g) in omega (arith, same)
 
 -- what tells the class: the object is declared, or its class word was loaded
-pub class_declared : (s : Shape) (seen : List StepMade) (o : ℕ) → nat_lt o s.declared ≡ true → SawClass s seen o (class_of s o)
+pub class_declared : (s : Shape) (seen : List StepMade) (o : ℕ) → nat_lt o s.declared ≡ true → SawClass s seen o (class_in_shape s o)
 class_declared s seen o e = rw e refl
 
 pub class_made : (s : Shape) (seen : List StepMade) (o c : ℕ) → nat_lt o s.declared ≡ false → last_seen (Class o) seen ≡ Some (c + 1) → SawClass s seen o c
 class_made s seen o c e saw = rw e saw
 
 -- so a class that was seen is the shape's, or was loaded
-pub declared_class : (s : Shape) (seen : List StepMade) (o c : ℕ) → nat_lt o s.declared ≡ true → SawClass s seen o c → c ≡ class_of s o
+pub declared_class : (s : Shape) (seen : List StepMade) (o c : ℕ) → nat_lt o s.declared ≡ true → SawClass s seen o c → c ≡ class_in_shape s o
 declared_class s seen o c e = by_test (nat_lt o s.declared) e
   where
-    by_test : (b : Bool) → b ≡ true → SawClassIf b s seen o c → c ≡ class_of s o
+    by_test : (b : Bool) → b ≡ true → SawClassIf b s seen o c → c ≡ class_in_shape s o
     by_test true e h = h
     by_test false e h = absurd (cc e)
 
@@ -68,12 +68,13 @@ pub made_there : (s : Shape) (o : ℕ) → o < length s.objects → nat_lt o s.d
 made_there s o object e = (object, grind (arith, nat_tests, e))
 
 -- THE STEPS, where it is known which they are
-pub class_does : {A : Type 0} (heap : Heap) (e : Purpose) (stage : Stage) (o : ℕ) (f : ℕ → Todo A) (k : Known) (Q : Bool → A → Known → Type 0)
-    → (nat_lt o heap.shape.declared ≡ true → Does heap false (f (class_of heap.shape o)) k Q)
+pub class_does : {A : Type 0} (heap : Heap) (e : CallContext) (stage : Stage) (o : ℕ) (f : ℕ → StepTree A) (k : ThreadView) (Q : Bool → A → ThreadView → Type 0)
+    → (nat_lt o heap.shape.declared ≡ true → Does heap false (f (class_in_shape heap.shape o)) k Q)
     → (nat_lt o heap.shape.declared ≡ false → is_idle heap.shape k ≡ false → Keeps heap (load_plan e stage (Class o)) k)
     → (nat_lt o heap.shape.declared ≡ false → (word : ℕ) → is_idle heap.shape k ≡ false → Was heap (load_plan e stage (Class o)) k word
     → Does heap false (f (word - 1)) (known_hit heap.shape heap.start (load_plan e stage (Class o)) word k) Q)
     → Does heap false (class_steps e stage heap.shape o >>= f) k Q
 class_does heap e stage o f k Q declared keeps made =
-    chooses_then heap false (nat_lt o heap.shape.declared) (done (class_of heap.shape o)) (step (load_plan e stage (Class o)) (λ word. done (word - 1))) f k Q
+    chooses_then heap false (nat_lt o heap.shape.declared) (done (class_in_shape heap.shape o))
+    (step (load_plan e stage (Class o)) (λ word. done (word - 1))) f k Q
     declared (λ no. hitting heap false (load_plan e stage (Class o)) (λ word. f (word - 1)) k Q (λ n. refl) (keeps no) (made no))

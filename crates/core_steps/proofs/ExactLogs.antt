@@ -13,7 +13,7 @@ use Rattle.core_world.specs.Steps.{stamp_by}
 use Rattle.core_world.proofs.KnowledgeParts.{by_equal}
 use Rattle.plain_history.specs.ExactStamps.{IsTakingStamp, IsExactStamp, StampsAreExact}
 use Rattle.core_law.specs.Takings.{StampsTaking}
-use Rattle.core_counts.proofs.LastEntry.{last_or_before}
+use Rattle.bias_law.proofs.LastEntry.{last_or_before}
 use Rattle.core_steps.proofs.LetGoes.{last_let_go, let_go_stays, let_go_was}
 
 -- no entry on o, but a hash, is above this stamp
@@ -90,12 +90,14 @@ module _ (all : List (List Logged)) (t : ℕ) (y : Logged) (within : t < length 
   stays (Resume o) last s low a = taking_stays o last s (low o refl) a
   stays _ last s low a = a
 
-  new : (e : Entry) (found : ℕ) → StampsTaking all found (last_stamp own) e → y.stamp ≡ stamp_by e found (last_stamp own) → IsExactStamp now (last_stamp own) e y.stamp
+  new : (e : Entry) (found : ℕ) → StampsTaking all found (last_stamp own) e
+      → y.stamp ≡ stamp_by e found (last_stamp own) → IsExactStamp now (last_stamp own) e y.stamp
   new (Enter o path) found exact is = taking_new o (λ s last. is ∙ exact s last)
   new (Resume o) found exact is = taking_new o (λ s last. is ∙ exact s last)
   new _ found exact is = is
 
-  module _ (found : ℕ) (is : y.stamp ≡ stamp_by y.entry found (last_stamp own)) (up : last_stamp own < y.stamp) (exact : StampsTaking all found (last_stamp own) y.entry)
+  module _ (found : ℕ) (is : y.stamp ≡ stamp_by y.entry found (last_stamp own))
+      (up : last_stamp own < y.stamp) (exact : StampsTaking all found (last_stamp own) y.entry)
       (above : (o : ℕ) → LetsGoOf (held_by nothing_held own) y.entry o → NoneAbove all o (last_stamp own)) where
     low : (u : ℕ) (before : List Logged) (l : Logged) (later : List Logged) → log_of all u ≡ before ++ l ∷ later
         → (o : ℕ) → bound_to l.entry ≡ Some o → LetsGoOf (held_by nothing_held own) y.entry o → l.stamp < y.stamp

@@ -1,5 +1,6 @@
 -- The stamps in the logs are exact in each world that a heap comes to.
-use Rattle.std.proofs.Common.{◌≡◌, ℕ, zero, suc, ◌+◌, ◌<◌, ◌≤◌, ◌==◌, max, Bool, true, false, cond, List, [], length, Option, Some, None, refl, sym, ap, ◌∙◌, subst, arith, inl, inr}
+use Rattle.std.proofs.Common.{◌≡◌, ℕ, zero, suc, ◌+◌, ◌<◌, ◌≤◌, ◌==◌, max, Bool, true, false, cond, List, []}
+use Rattle.std.proofs.Common.{length, Option, Some, None, refl, sym, ap, ◌∙◌, subst, arith, inl, inr}
 use Rattle.std.specs.List.{AllByRecursion}
 use Rattle.plain_monitor.specs.declared.entry.Entry.{Entry}
 use Rattle.plain_monitor.specs.declared.entry.Entry.TheVariants as entry
@@ -9,16 +10,16 @@ use Rattle.plain_monitor.specs.History.{LegalObjects, objects_after, last_stamp,
 use Rattle.plain_monitor.specs.ValueWords.{read_value}
 use Rattle.plain_history.specs.Tied.{bound_to}
 use Rattle.plain_history.specs.HeldByLog.{held_by, nothing_held, LetsGoOf}
-use Rattle.core_world.specs.declared.name.Name.TheVariants.{Stamp}
-use Rattle.core_world.specs.declared.plan.Note.{Note}
-use Rattle.core_world.specs.declared.plan.Note.TheVariants.{Quiet, Log, LogGet, LogHash}
+use Rattle.core_world.specs.declared.word_id.WordId.TheVariants.{Stamp}
+use Rattle.core_world.specs.declared.plan.LogEffect.{LogEffect}
+use Rattle.core_world.specs.declared.plan.LogEffect.TheVariants.{Quiet, Log, LogGet, LogHash}
 use Rattle.core_world.specs.declared.plan.StepPlan.{StepPlan}
 use Rattle.core_world.specs.Clauses.Stamps.{bound_stamp}
 use Rattle.core_world.specs.Due.{IsNext}
 use Rattle.core_world.specs.Locks.{monitor_of, owner_at}
 use Rattle.core_world.specs.Opening.{opening, first_known}
 use Rattle.core_world.specs.Steps.{is_taking, stamp_by, with_entry, log_after, known_hit, known_miss, known_after, world_after}
-use Rattle.core_world.specs.Threads.Known.{Known}
+use Rattle.core_world.specs.Threads.ThreadView.{ThreadView}
 use Rattle.core_world.specs.Trees.Operations.{value_found}
 use Rattle.core_world.specs.Valid.{Fits, IsValid}
 use Rattle.core_world.specs.Words.Acts.{hits}
@@ -26,20 +27,20 @@ use Rattle.core_world.specs.Words.Forms.{hash_in}
 use Rattle.core_world.specs.Words.Shape.{Shape, IsInLimits}
 use Rattle.core_world.specs.World.{World, logs, logs_from}
 use Rattle.core_world.proofs.KnowledgeParts.{log_at, logs_grow, logs_length, logs_stay}
-use Rattle.core_world.proofs.LookWhileRevoking.{forgotten}
-use Rattle.core_world.proofs.ObjectHolds.{thread_is}
+use Rattle.core_world.proofs.bias.LookWhileRevoking.{forgotten}
+use Rattle.core_world.proofs.enter_exit.ObjectHolds.{thread_is}
 use Rattle.core_world.proofs.RefusedWorlds.{revoking_logs}
 use Rattle.core_locks.specs.OwnersEntries.{is_by_owner}
-use Rattle.core_locks.proofs.LeavesStamps.{all_of_log}
+use Rattle.core_locks.proofs.wait.LeavesStamps.{all_of_log}
 use Rattle.core_locks.proofs.Prelude.{same_number}
-use Rattle.core_locks.proofs.RefutedOwning.{owned_where_legal}
+use Rattle.core_locks.proofs.enter_exit.RefutedOwning.{owned_where_legal}
 use Rattle.core_law.specs.WholeLaw.{LawsHold}
 use Rattle.plain_history.specs.ExactStamps.{StampsAreExact}
 use Rattle.core_law.specs.Takings.{StampsTaking, StampsNote, TakesExactly}
 use Rattle.core_law.specs.Logic.{Heap, heap_of}
-use Rattle.core_law.specs.Reached.{Comes, opens, moves}
+use Rattle.core_law.specs.Reached.{IsReachable, opens, moves}
 use Rattle.core_law.specs.Sound.{Sound}
-use Rattle.core_counts.proofs.LastEntry.{no_entries}
+use Rattle.bias_law.proofs.LastEntry.{no_entries}
 use Rattle.core_steps.proofs.ExactLogs.{NoneAbove, exact_appended}
 use Rattle.core_steps.proofs.ReachedWorlds.{next_step_sound, next_step_exact, reached_worlds_sound}
 
@@ -89,7 +90,8 @@ stamp_above e found last = cases (is_taking e)
     cases false = omega arith
 
 -- A STEP from a valid world to a valid one, which stamps a taking as the logs ask for
-module _ (w : World) (t : ℕ) (p : StepPlan) (P Q : List PlainObject) (within : t < w.shape.threads) (valid : IsValid w P) (after : IsValid (world_after p t w) Q)
+module _ (w : World) (t : ℕ) (p : StepPlan) (P Q : List PlainObject)
+    (within : t < w.shape.threads) (valid : IsValid w P) (after : IsValid (world_after p t w) Q)
     (exact : TakesExactly w t p) (was : StampsAreExact (logs w)) where
   abbrev n : ℕ
   n = w.words p.at
@@ -97,7 +99,7 @@ module _ (w : World) (t : ℕ) (p : StepPlan) (P Q : List PlainObject) (within :
   abbrev own : List Logged
   own = (w.known t).log
 
-  abbrev l : Known
+  abbrev l : ThreadView
   l = known_after w.shape w.start p n (w.known t)
 
   many : t < length (logs w)
@@ -114,7 +116,8 @@ module _ (w : World) (t : ℕ) (p : StepPlan) (P Q : List PlainObject) (within :
   one_more : (e : Entry) → StampsTaking (logs w) n (last_stamp own) e → l.log ≡ with_entry e n own → StampsAreExact (logs (world_after p t w))
   one_more e stamps grows =
       subst StampsAreExact (sym all) (exact_appended (logs w) t y many n at_log up (subst (λ log. StampsTaking (logs w) n (last_stamp log) e) own_log stamps)
-      (λ o lets. bounded w P t o within valid (thread_is (monitor_of P o).owner t (owner o (by_owner (held_by nothing_held (log_of (logs w) t)) e o lets)))) was)
+      (λ o lets. bounded w P t o within valid
+      (thread_is (monitor_of P o).owner t (owner o (by_owner (held_by nothing_held (log_of (logs w) t)) e o lets)))) was)
     where
       y : Logged
       y = record { stamp = stamp_by e n (last_stamp own); entry = e }
@@ -134,7 +137,7 @@ module _ (w : World) (t : ℕ) (p : StepPlan) (P Q : List PlainObject) (within :
           owned_where_legal w.shape.objects (logs w) t o y P Q before.legal.rises many up by before.taken
           (ap (objects_after w.shape.objects) (sym all) ∙ (legal_logs (world_after p t w) Q after).taken)
 
-  by_note : (note : Note) → StampsNote (logs w) n (last_stamp own) note → l.log ≡ log_after note n own → StampsAreExact (logs (world_after p t w))
+  by_note : (note : LogEffect) → StampsNote (logs w) n (last_stamp own) note → l.log ≡ log_after note n own → StampsAreExact (logs (world_after p t w))
   by_note Quiet stamps log = same_logs log
   by_note (Log e) stamps log = one_more e stamps log
   by_note (LogGet o slot) stamps log = one_more (entry.Get o slot (value_found (read_value n))) tt log
@@ -163,13 +166,14 @@ next_step_keeps_exact w t p within sound next was =
     (forgotten LawsHold (world_after p t w) after.valid.objects after.valid.is) (next_step_exact w t p within sound next) was
 
 -- and by what the thread knows
-pub known_step_keeps_exact : (heap : Heap) (k : Known) (p : StepPlan) → IsNext heap.shape heap.start heap.biasing k p → (w : World) → heap_of w ≡ heap
+pub known_step_keeps_exact : (heap : Heap) (k : ThreadView) (p : StepPlan) → IsNext heap.shape heap.start heap.biasing k p → (w : World) → heap_of w ≡ heap
     → w.known k.thread ≡ k → k.thread < heap.shape.threads → Sound w → StampsAreExact (logs w) → StampsAreExact (logs (world_after p k.thread w))
 known_step_keeps_exact heap k p next w is_of knows within sound =
     next_step_keeps_exact w k.thread p
     (subst (λ (z : Heap). k.thread < z.shape.threads) (sym is_of) within)
     sound
-    (subst (λ (z : Heap). IsNext z.shape z.start z.biasing (w.known k.thread) p) (sym is_of) (subst (λ y. IsNext heap.shape heap.start heap.biasing y p) (sym knows) next))
+    (subst (λ (z : Heap). IsNext z.shape z.start z.biasing (w.known k.thread) p) (sym is_of)
+    (subst (λ y. IsNext heap.shape heap.start heap.biasing y p) (sym knows) next))
 
 -- REACHED WORLDS. The logs are empty at the opening.
 pub empty_logs : (u n t : ℕ) → log_of (logs_from u n first_known) t ≡ []
@@ -180,7 +184,7 @@ empty_logs u (suc n) (suc t) = empty_logs (u + 1) n t
 pub opening_exact : (heap : Heap) → StampsAreExact (logs (opening heap.shape heap.start heap.biasing))
 opening_exact heap t before l later is = absurd (no_entries before later l (sym (empty_logs 0 heap.shape.threads t) ∙ is))
 
-pub reached_worlds_exact : (heap : Heap) (w : World) → IsInLimits heap.shape → Comes heap w → StampsAreExact (logs w)
+pub reached_worlds_exact : (heap : Heap) (w : World) → IsInLimits heap.shape → IsReachable heap w → StampsAreExact (logs w)
 reached_worlds_exact heap w limits opens = opening_exact heap
 reached_worlds_exact heap w limits (moves v t p before within next) =
     next_step_keeps_exact v t p within (reached_worlds_sound heap v limits before) next (reached_worlds_exact heap v limits before)

@@ -8,12 +8,12 @@ use Rattle.mark_word.proofs.ReadingWaits.{read_wait-wait_of, read_wait-spells}
 use Rattle.plain_monitor.specs.Limits.{most_holds}
 use Rattle.plain_monitor.specs.Objects.{PlainObject}
 use Rattle.plain_monitor.specs.declared.entry.Logged.{Logged}
-use Rattle.core_world.specs.declared.name.Name.TheVariants.{Waiting}
-use Rattle.core_world.specs.declared.stage.Stage.TheVariants.{Calm}
-use Rattle.core_world.specs.declared.task.Op.TheVariants as op
+use Rattle.core_world.specs.declared.word_id.WordId.TheVariants.{Waiting}
+use Rattle.core_world.specs.declared.stage.Stage.TheVariants.{Settled}
+use Rattle.core_world.specs.declared.heap_call.Operation.TheVariants as op
 use Rattle.core_world.specs.Words.Forms.{waits_on, waits_form, says_notified, notified_form, enters_on, enters_form, is_entering, entering_form, ended_form}
 use Rattle.core_world.specs.Words.Shape.{IsInLimits}
-use Rattle.core_world.specs.Threads.Known.{Known}
+use Rattle.core_world.specs.Threads.ThreadView.{ThreadView}
 use Rattle.core_world.specs.Threads.References.{numbering, knows_by_log}
 use Rattle.core_world.specs.Clauses.Safepoints.{IsUnfinished, ends}
 use Rattle.core_world.specs.Threads.Stages.{revocation_in}
@@ -25,8 +25,8 @@ use Rattle.core_locks.specs.Knowing.{IsOut}
 use Rattle.core_locks.specs.LockLaws.{IsFree}
 use Rattle.core_world.specs.Trees.Plans.{free_place}
 use Rattle.core_locks.proofs.WaitOut.{fails, out_word, out_waits, out_told}
-use Rattle.core_counts.specs.Steps.{SawUnbiased}
-use Rattle.core_law.specs.Logic.{Heap, Stands}
+use Rattle.bias_law.specs.Steps.{SawUnbiased}
+use Rattle.core_law.specs.Logic.{Heap, SoundWorldWith}
 use Rattle.core_law.proofs.Places.{empty_here}
 use Rattle.core_law.proofs.Standing.{home, away, fits_here, valid_here}
 
@@ -57,7 +57,7 @@ enters_is n i h = cases (read_wait n) h
     cases (Some wait.Ended) h = absurd (cc h)
 
 -- the object's mark has no bias pattern: the heap has no biases, or the thread saw so in this call
-abbrev pub Unbiased : Heap → Bool → Known → ℕ → Type 0
+abbrev pub Unbiased : Heap → Bool → ThreadView → ℕ → Type 0
 Unbiased heap fresh k o = (heap.biasing ≡ false) ⊎ ((fresh ≡ false) × SawUnbiased k o)
 
 -- a thread with this log knows the object by it
@@ -65,13 +65,13 @@ abbrev pub Knows : Heap → List Logged → ℕ → Type 0
 Knows heap log o = knows_by_log (numbering heap.shape) log o ≡ true
 
 -- no wait is unfinished
-abbrev pub Unwaiting : Known → Type 0
+abbrev pub Unwaiting : ThreadView → Type 0
 Unwaiting k = (o : ℕ) → IsUnfinished k.unfinished op.Wait o → ⊥
 
-abbrev pub Unentering : Known → Type 0
+abbrev pub Unentering : ThreadView → Type 0
 Unentering k = (o : ℕ) → IsUnfinished k.unfinished op.Enter o → ⊥
 
-abbrev pub Untold : Known → Type 0
+abbrev pub Untold : ThreadView → Type 0
 Untold k = (o : ℕ) → says_notified k.wait o ≡ false
 
 module _ (w : World) (P : List PlainObject) (t : ℕ) (v : Fits w P) where
@@ -109,7 +109,8 @@ module _ (w : World) (P : List PlainObject) (t : ℕ) (v : Fits w P) where
       cases (Some wait.Ended) e h =
           let ended = v.waits.done t (ap ended_form e) in absurd (cc (ended, live))
 
-  ready_is : Unwaiting (w.known t) → ((i : ℕ) → enters_on (w.words (Waiting t)) i ≡ true → ⊥) → Untold (w.known t) → ends (w.known t).log ≡ false → (w.known t).wait ≡ 0
+  ready_is : Unwaiting (w.known t) → ((i : ℕ) → enters_on (w.words (Waiting t)) i ≡ true → ⊥)
+      → Untold (w.known t) → ends (w.known t).log ≡ false → (w.known t).wait ≡ 0
   ready_is none nor untold = ready_if_out (out_is none untold) nor
 
   pub ready_outside : IsOut (w.known t) → Unentering (w.known t) → ends (w.known t).log ≡ false → (w.known t).wait ≡ 0
@@ -124,26 +125,29 @@ module _ (w : World) (P : List PlainObject) (t : ℕ) (v : Fits w P) where
       let yes = enters_is (w.known t).wait i here in absurd (cc (yes, quiet))) untold live
 
 -- every clause holds where a thread runs, and where one asks for a safepoint in the middle of nothing
-pub fits_asking : (heap : Heap) (k : Known) (v : Stands heap k) → k.requesting ≡ true → k.stage ≡ Calm → Fits v.world v.objects
+pub fits_asking : (heap : Heap) (k : ThreadView) (v : SoundWorldWith heap k) → k.requesting ≡ true → k.stage ≡ Settled → Fits v.world v.objects
 fits_asking heap k v asks calm = elim (valid_here heap k v) [
   | inl a ↦ a
   | inr s ↦
-      let reached = ap (λ (y : Known). y.reached) s.knows ∙ s.reached in
-      let same = one_requester v.world v.objects s.safe k.thread s.requester (away heap k v (λ z y. y.requesting ≡ true) asks) (s.safe.safepoint s.requester reached).0 in
+      let reached = ap (λ (y : ThreadView). y.reached) s.knows ∙ s.reached in
+      let same = one_requester v.world v.objects s.safe k.thread s.requester
+      (away heap k v (λ z y. y.requesting ≡ true) asks) (s.safe.safepoint s.requester reached).0 in
       let none = ap (λ u. revocation_in (v.world.known u).stage) (sym same) ∙ away heap k v (λ z y. revocation_in y.stage ≡ None) (ap revocation_in calm) in
       let some = s.its_revocation in
       absurd (cc (none, some))
 ]
 
-module _ (heap : Heap) (k : Known) (v : Stands heap k) (runs : k.running ≡ true) where
+module _ (heap : Heap) (k : ThreadView) (v : SoundWorldWith heap k) (runs : k.running ≡ true) where
   pub out_here : Unwaiting k → Untold k → IsOut k
   out_here = home heap k v (λ z y. Unwaiting y → Untold y → IsOut y) (out_is v.world v.objects k.thread (fits_here heap k v runs))
 
   pub ready_here : Unwaiting k → Unentering k → Untold k → ends k.log ≡ false → k.wait ≡ 0
-  ready_here = home heap k v (λ z y. Unwaiting y → Unentering y → Untold y → ends y.log ≡ false → y.wait ≡ 0) (ready_unentering v.world v.objects k.thread (fits_here heap k v runs))
+  ready_here = home heap k v (λ z y. Unwaiting y → Unentering y → Untold y → ends y.log ≡ false → y.wait ≡ 0)
+      (ready_unentering v.world v.objects k.thread (fits_here heap k v runs))
 
   pub ready_entered : Unwaiting k → is_entering k.wait ≡ false → Untold k → ends k.log ≡ false → k.wait ≡ 0
-  ready_entered = home heap k v (λ z y. Unwaiting y → is_entering y.wait ≡ false → Untold y → ends y.log ≡ false → y.wait ≡ 0) (ready_quiet v.world v.objects k.thread (fits_here heap k v runs))
+  ready_entered = home heap k v (λ z y. Unwaiting y → is_entering y.wait ≡ false → Untold y → ends y.log ≡ false → y.wait ≡ 0)
+      (ready_quiet v.world v.objects k.thread (fits_here heap k v runs))
 
   -- the lowest free place is free
   pub free_here : free_place k.holds < most_holds → IsFree k (free_place k.holds)

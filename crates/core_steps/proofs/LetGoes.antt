@@ -7,7 +7,7 @@ use Rattle.plain_monitor.specs.declared.entry.Logged.{Logged}
 use Rattle.plain_monitor.specs.History.{log_of}
 use Rattle.plain_history.specs.HeldByLog.{held_after, held_by, nothing_held, LetsGoOf, HasLetGo, IsLastLetGo}
 use Rattle.core_world.proofs.KnowledgeParts.{by_equal}
-use Rattle.core_counts.proofs.LastEntry.{no_entries, last_or_before}
+use Rattle.bias_law.proofs.LastEntry.{no_entries, last_or_before}
 
 -- ONE ENTRY lets go of an object, or it doesn't.
 lets_or_not : (held : ℕ → ℕ) (e : Entry) (o : ℕ) → LetsGoOf held e o ⊎ (LetsGoOf held e o → ⊥)
@@ -47,8 +47,8 @@ at_head held l log o s h = by_before h.before h.log_is h.lets_go
           lets_go = subst (λ (z : Logged). LetsGoOf (held_by (held_after z.entry held) before) h.entry o) (sym same) lets;
         })
 
-behind_head : (held : ℕ → ℕ) (l : Logged) (log : List Logged) (o s : ℕ) → LetsGoFrom (held_after l.entry held) log o s → LetsGoFrom held (l ∷ log) o s
-behind_head held l log o s h = record { before = l ∷ h.before; entry = h.entry; later = h.later; log_is = ap (λ xs. l ∷ xs) h.log_is; lets_go = h.lets_go }
+after_head : (held : ℕ → ℕ) (l : Logged) (log : List Logged) (o s : ℕ) → LetsGoFrom (held_after l.entry held) log o s → LetsGoFrom held (l ∷ log) o s
+after_head held l log o s h = record { before = l ∷ h.before; entry = h.entry; later = h.later; log_is = ap (λ xs. l ∷ xs) h.log_is; lets_go = h.lets_go }
 
 -- the last stamp with which it lets go of o; 0 where it doesn't
 record LastFrom (held : ℕ → ℕ) (log : List Logged) (o : ℕ) : Type 0 where
@@ -63,7 +63,7 @@ last_from held (l ∷ log) o = by_head (last_from (held_after l.entry held) log 
     rest_is_last : (rest : LastFrom (held_after l.entry held) log o) → (LetsGoOf held l.entry o → l.stamp ≤ rest.stamp) → LastFrom held (l ∷ log) o
     rest_is_last rest low = record {
       stamp = rest.stamp;
-      logged = elim rest.logged [ inl none ↦ inl none | inr h ↦ inr (behind_head held l log o rest.stamp h) ];
+      logged = elim rest.logged [ inl none ↦ inl none | inr h ↦ inr (after_head held l log o rest.stamp h) ];
       last = λ s h. elim (at_head held l log o s h) [ inl here ↦ let a = low here.1 in let b = here.0 in omega (arith, a, b) | inr there ↦ rest.last s there ];
     }
 
@@ -71,7 +71,10 @@ last_from held (l ∷ log) o = by_head (last_from (held_after l.entry held) log 
     head_is_last rest lets high = record {
       stamp = l.stamp;
       logged = inr (record { before = []; entry = l.entry; later = log; log_is = refl; lets_go = lets });
-      last = λ s h. elim (at_head held l log o s h) [ inl here ↦ let b = here.0 in omega (arith, b) | inr there ↦ let a = rest.last s there in omega (arith, a, high) ];
+      last = λ s h. elim (at_head held l log o s h) [
+        | inl here ↦ let b = here.0 in omega (arith, b)
+        | inr there ↦ let a = rest.last s there in omega (arith, a, high)
+      ];
     }
 
     by_head : (rest : LastFrom (held_after l.entry held) log o) → LetsGoOf held l.entry o ⊎ (LetsGoOf held l.entry o → ⊥) → LastFrom held (l ∷ log) o
@@ -131,6 +134,7 @@ let_go_was log y o stamp h = elim (last_or_before log y h.before (record { stamp
       let same : y ≡ record { stamp = stamp; entry = h.entry } = new.1 in
       inr (
         ap (λ (z : Logged). z.stamp) same,
-        subst (λ (z : Logged). LetsGoOf (held_by nothing_held log) z.entry o) (sym same) (subst (λ ls. LetsGoOf (held_by nothing_held ls) h.entry o) (sym new.0) h.lets_go),
+        subst (λ (z : Logged). LetsGoOf (held_by nothing_held log) z.entry o) (sym same)
+            (subst (λ ls. LetsGoOf (held_by nothing_held ls) h.entry o) (sym new.0) h.lets_go),
       )
 ]

@@ -1,22 +1,24 @@
 -- Every call begins well: a line for each.
-use Rattle.core_world.specs.declared.task.Task.{Task}
-use Rattle.core_world.specs.declared.task.Task.TheVariants.{Get, Put, Print, Finish, Poll, Stop, Resume, Request, Reached, Release, StackEnter, StackExit, Check, Dump, Create, Exit, Enter, Wait, Notify, NotifyAll, Hash}
+use Rattle.core_world.specs.declared.heap_call.HeapCall.{HeapCall}
+use Rattle.core_world.specs.declared.heap_call.HeapCall.TheVariants.{Get, Put, Print, Finish, Poll, Stop, Resume, Request}
+use Rattle.core_world.specs.declared.heap_call.HeapCall.TheVariants.{Reached, Release, StackEnter, StackExit, Check, Dump}
+use Rattle.core_world.specs.declared.heap_call.HeapCall.TheVariants.{Create, Exit, Enter, Wait, Notify, NotifyAll, Hash}
 use Rattle.core_law.specs.Logic.{Heap}
 use Rattle.core_law.specs.Begins.{BeginsWell}
-use Rattle.core_steps.proofs.SafeCalls.{stop_begins, resume_begins, poll_begins, request_begins, reached_begins, release_begins}
+use Rattle.core_steps.proofs.safepoint.SafeCalls.{stop_begins, resume_begins, poll_begins, request_begins, reached_begins, release_begins}
 use Rattle.core_steps.proofs.JournalCalls.{get_begins, put_begins, print_begins, finish_begins}
-use Rattle.core_steps.proofs.StackEnters.{stack_enter_begins}
-use Rattle.core_steps.proofs.StackExits.{stack_exit_begins}
-use Rattle.core_steps.proofs.CheckCall.{check_begins}
-use Rattle.core_steps.proofs.DumpCall.{dump_begins}
-use Rattle.core_steps.proofs.CreateCall.{create_begins}
-use Rattle.core_steps.proofs.ExitCalls.{exit_begins}
-use Rattle.core_steps.proofs.EnterCalls.{enter_begins}
-use Rattle.core_steps.proofs.WaitCalls.{wait_begins}
-use Rattle.core_steps.proofs.NotifyCalls.{notify_begins, notify_all_begins}
-use Rattle.core_steps.proofs.HashCalls.{hash_begins}
+use Rattle.core_steps.proofs.enter_exit.StackEnters.{stack_enter_begins}
+use Rattle.core_steps.proofs.enter_exit.StackExits.{stack_exit_begins}
+use Rattle.core_steps.proofs.safepoint.CheckCall.{check_begins}
+use Rattle.core_steps.proofs.shot.DumpCall.{dump_begins}
+use Rattle.core_steps.proofs.made.CreateCall.{create_begins}
+use Rattle.core_steps.proofs.enter_exit.ExitCalls.{exit_begins}
+use Rattle.core_steps.proofs.enter_exit.EnterCalls.{enter_begins}
+use Rattle.core_steps.proofs.wait.WaitCalls.{wait_begins}
+use Rattle.core_steps.proofs.wait.NotifyCalls.{notify_begins, notify_all_begins}
+use Rattle.core_steps.proofs.hash.HashCalls.{hash_begins}
 
-pub calls_begin : (heap : Heap) (task : Task) → BeginsWell heap task
+pub calls_begin : (heap : Heap) (task : HeapCall) → BeginsWell heap task
 calls_begin heap Stop = stop_begins heap
 calls_begin heap Resume = resume_begins heap
 calls_begin heap Poll = poll_begins heap

@@ -5,16 +5,16 @@ use Rattle.mark_word.specs.Owner.{owner_of}
 use Rattle.mark_word.specs.declared.mark.MarkForm.TheVariants.{Neutral, Locked}
 use Rattle.mark_word.specs.declared.owner.OwnerForm.TheVariants.{ByRecord}
 use Rattle.plain_monitor.specs.declared.entry.Path.TheVariants.{StackFirst}
-use Rattle.core_world.specs.declared.name.Name.TheVariants.{Safepoint, Mark, Displaced, Owner, Recursions, Header, Object}
+use Rattle.core_world.specs.declared.word_id.WordId.TheVariants.{Safepoint, Mark, Displaced, Owner, Recursions, Header, Object}
 use Rattle.core_world.specs.declared.stage.Stage.{Stage}
-use Rattle.core_world.specs.declared.stage.Stage.TheVariants.{Calm, Inflates}
-use Rattle.core_world.specs.declared.task.Op.TheVariants as op
-use Rattle.core_world.specs.declared.task.Task.TheVariants.{Resume, StackEnter, Hash, Request, Reached}
-use Rattle.core_world.specs.Trees.Calls.{side_purpose}
-use Rattle.core_world.specs.Threads.Known.{Known, start_of, draw_of}
+use Rattle.core_world.specs.declared.stage.Stage.TheVariants.{Settled, Inflates}
+use Rattle.core_world.specs.declared.heap_call.Operation.TheVariants as op
+use Rattle.core_world.specs.declared.heap_call.HeapCall.TheVariants.{Resume, StackEnter, Hash, Request, Reached}
+use Rattle.core_world.specs.Trees.Calls.{side_context}
+use Rattle.core_world.specs.Threads.ThreadView.{ThreadView, start_of, draw_of}
 use Rattle.core_world.specs.Opening.{opening, first_known}
-use Rattle.core_world.specs.Trees.Operations.{lone_purpose}
-use Rattle.core_world.specs.Trees.Plans.{Purpose, purpose, load, load_plan}
+use Rattle.core_world.specs.Trees.Operations.{lone_context}
+use Rattle.core_world.specs.Trees.Plans.{CallContext, call_context, load, load_plan}
 use Rattle.core_world.specs.Trees.HashSteps.{NextDraw, find_hash_plan, draw_plan}
 use Rattle.core_world.specs.Trees.MonitorSteps.{claim_plan, fetch_plan, inflate_plan, prepare_plan, name_plan}
 use Rattle.core_world.specs.Trees.SafepointSteps.{resume_plan, request_plan, released_word}
@@ -27,8 +27,8 @@ abbrev pub small : Heap
 small = record { shape = record { threads = 1; classes = 1; declared = 1; objects = (0, 0) ∷ [] }; start = 0; biasing = false }
 
 -- the thread has loaded the safepoint word, to resume; and it runs
-abbrev pub resuming : Purpose
-resuming = side_purpose Resume (start_of small.start (first_known 0))
+abbrev pub resuming : CallContext
+resuming = side_context Resume (start_of small.start (first_known 0))
 
 abbrev pub looked : World
 looked = world_after (load resuming Safepoint) 0 (opening small.shape small.start small.biasing)
@@ -40,11 +40,11 @@ running = world_after (resume_plan resuming 0 0) 0 looked
 abbrev pub neutral : ℕ
 neutral = mark_of (Neutral 0 0)
 
-abbrev pub entering : Purpose
-entering = lone_purpose (StackEnter 0 neutral)
+abbrev pub entering : CallContext
+entering = lone_context (StackEnter 0 neutral)
 
 abbrev pub displaced : World
-displaced = world_after (displace_plan entering Calm 0 0 neutral) 0 running
+displaced = world_after (displace_plan entering Settled 0 0 neutral) 0 running
 
 abbrev pub seized : World
 seized = world_after (seize_plan entering 0 0 neutral 0) 0 displaced
@@ -57,8 +57,8 @@ entered = world_after (log_enter_plan entering 0 StackFirst) 0 held
 
 -- It goes on to draw the object's hash, for which it inflates the lock with the monitor 0: it has looked at the mark and at the displaced word, loaded
 -- the mark to inflate it, claimed a position, and loaded its place; exchanged the mark for 0, and loaded the displaced word.
-abbrev pub hashing : Purpose
-hashing = purpose (Hash 0 0) op.Hash 0
+abbrev pub hashing : CallContext
+hashing = call_context (Hash 0 0) op.Hash 0
 
 abbrev pub unbiased : World
 unbiased = world_after (load hashing (Mark 0)) 0 entered
@@ -105,11 +105,11 @@ drawn = world_after (draw_plan hashing drawing (Header 0) 0 neutral) 0 (world_af
 
 -- And it asks for a safepoint: it has requested it, and seen that nobody runs.
 abbrev pub requested : World
-requested = world_after (request_plan (lone_purpose Request) 0 (released_word 0)) 0 (world_after (load (lone_purpose Request) Safepoint) 0 drawn)
+requested = world_after (request_plan (lone_context Request) 0 (released_word 0)) 0 (world_after (load (lone_context Request) Safepoint) 0 drawn)
 
 abbrev pub reached : World
-reached = world_after (load (lone_purpose Reached) Safepoint) 0 requested
+reached = world_after (load (lone_context Reached) Safepoint) 0 requested
 
 -- what the thread knows in such a world
-abbrev pub known_in : World → Known
+abbrev pub known_in : World → ThreadView
 known_in w = w.known 0

@@ -1,5 +1,6 @@
 -- How many words of an empty list of holds pass a test, and how many threads or objects have no monitor.
-use Rattle.std.proofs.Common.{◌≡◌, ◌≢◌, ℕ, zero, suc, ◌+◌, ◌==◌, ◌&&◌, nat_lt, ne_eqb, Bool, false, slice_index, replicate, Option, None, refl, sym, ap, ◌∙◌, arith}
+use Rattle.std.proofs.Common.{◌≡◌, ◌≢◌, ℕ, zero, suc, ◌+◌, ◌==◌, ◌&&◌, nat_lt, ne_eqb, Bool, false}
+use Rattle.std.proofs.Common.{slice_index, replicate, Option, None, refl, sym, ap, ◌∙◌, arith}
 use Rattle.std.proofs.lemmas.Bool.Decides.{nat_tests}
 use Rattle.core_world.specs.Words.Forms.{names, is_deeper, hold_word}
 use Rattle.core_world.specs.Threads.Stages.{one_if}

@@ -4,12 +4,12 @@ use Rattle.std.proofs.Common.{◌≡◌, ◌⊎◌, ℕ, ◌<◌, ◌≤◌, tru
 use Rattle.plain_monitor.specs.Monitor.{is_listed}
 use Rattle.plain_monitor.specs.Objects.{PlainObject}
 use Rattle.plain_monitor.specs.History.{LegalObjects, objects_after}
-use Rattle.core_world.specs.declared.task.Op.TheVariants as op
-use Rattle.core_world.specs.declared.task.Unfinished.{Unfinished}
-use Rattle.core_world.specs.declared.name.Name.TheVariants.{Stamp, Waiting}
+use Rattle.core_world.specs.declared.heap_call.Operation.TheVariants as op
+use Rattle.core_world.specs.declared.heap_call.Unfinished.{Unfinished}
+use Rattle.core_world.specs.declared.word_id.WordId.TheVariants.{Stamp, Waiting}
 use Rattle.core_world.specs.Words.Forms.{enters_on, monitor_in}
 use Rattle.core_world.specs.Threads.Stages.{hold_words_ahead, inflation_in}
-use Rattle.core_world.specs.Threads.Known.{Known}
+use Rattle.core_world.specs.Threads.ThreadView.{ThreadView}
 use Rattle.core_world.specs.World.{World, logs}
 use Rattle.core_world.specs.Locks.{lock, header, marks, inflations, monitor_of, waits_at, notified_at}
 use Rattle.core_world.specs.Opening.{first_known}
@@ -33,10 +33,10 @@ use Rattle.core_world.proofs.Frames.{frame2, frame3, frame4, frame5, frame6, fra
 use Rattle.core_world.proofs.StampWords.{stamp_goes_on}
 use Rattle.core_world.proofs.KnowledgeParts.{each_with_known, part_moves, logs_stay}
 use Rattle.core_world.proofs.Naming.{with_knowledge}
-use Rattle.core_world.proofs.LockFrames.{lock_stays, header_stays, inflations_stay, who_stays}
+use Rattle.core_world.proofs.enter_exit.LockFrames.{lock_stays, header_stays, inflations_stay, who_stays}
 
 -- what the clauses read of a thread's knowledge is the same; but where the thread had nothing unfinished, it may have begun an operation
-pub record SameBut (k l : Known) : Type 0 where
+pub record SameBut (k l : ThreadView) : Type 0 where
   pub thread : k.thread ≡ l.thread
   pub log : k.log ≡ l.log
   pub running : k.running ≡ l.running
@@ -53,20 +53,23 @@ pub record SameBut (k l : Known) : Type 0 where
   pub unfinished : (k.unfinished ≡ l.unfinished) ⊎ (k.unfinished ≡ None)
 
 -- a fact of what a thread has unfinished that doesn't hold where that is nothing
-pub unfinished_forth : (P : Option Unfinished → Type 0) (k l : Known) → (k.unfinished ≡ l.unfinished) ⊎ (k.unfinished ≡ None) → (P None → ⊥) → P k.unfinished → P l.unfinished
+pub unfinished_forth : (P : Option Unfinished → Type 0) (k l : ThreadView)
+    → (k.unfinished ≡ l.unfinished) ⊎ (k.unfinished ≡ None) → (P None → ⊥) → P k.unfinished → P l.unfinished
 unfinished_forth P k l (inl e) none h = subst P e h
 unfinished_forth P k l (inr e) none h = absurd (none (subst P e h))
 
 -- an operation that lets no object go let none go before
-pub lets_go_back : (o : ℕ) (k l : Known) → (k.unfinished ≡ l.unfinished) ⊎ (k.unfinished ≡ None) → lets_go l.unfinished o ≡ false → lets_go k.unfinished o ≡ false
+pub lets_go_back : (o : ℕ) (k l : ThreadView) → (k.unfinished ≡ l.unfinished) ⊎ (k.unfinished ≡ None)
+    → lets_go l.unfinished o ≡ false → lets_go k.unfinished o ≡ false
 lets_go_back o k l (inl e) h = ap (λ u. lets_go u o) e ∙ h
 lets_go_back o k l (inr e) h = ap (λ u. lets_go u o) e
 
-module _ (w : World) (P : List PlainObject) (t : ℕ) (l : Known) (within : t < w.shape.threads) (b : SameBut (w.known t) l) where
+module _ (w : World) (P : List PlainObject) (t : ℕ) (l : ThreadView) (within : t < w.shape.threads) (b : SameBut (w.known t) l) where
   abbrev x : World
   x = with_knowledge t l w
 
-  waits_law : Fits w P → WaitsFit (λ o. monitor_in (marks x o)) (λ u. x.words (Waiting u)) (λ u. (w.known u).wait) (λ u. (w.known u).log) (λ u. (w.known u).stage) (λ u. (x.known u).unfinished) (λ u. (w.known u).running) (waits_at P) (notified_at P)
+  waits_law : Fits w P → WaitsFit (λ o. monitor_in (marks x o)) (λ u. x.words (Waiting u)) (λ u. (w.known u).wait)
+      (λ u. (w.known u).log) (λ u. (w.known u).stage) (λ u. (x.known u).unfinished) (λ u. (w.known u).running) (waits_at P) (notified_at P)
   waits_law v = record {
     waiting = v.waits.waiting;
     waiter = v.waits.waiter;
@@ -75,11 +78,17 @@ module _ (w : World) (P : List PlainObject) (t : ℕ) (l : Known) (within : t < 
     telling = v.waits.telling;
     resuming = v.waits.resuming;
     leaving = v.waits.leaving;
-    unfinished = λ u o h. each_with_known (λ u y. (is_listed (waits_at P o) u ≡ true) ⊎ (is_listed (notified_at P o) u ≡ true) → IsUnfinished y.unfinished op.Wait o) t l w.known u
-        (λ g. unfinished_forth (λ z. IsUnfinished z op.Wait o) (w.known t) l b.unfinished (λ e. absurd (cc e)) (v.waits.unfinished t o g)) (λ d g. v.waits.unfinished u o g) h;
+    unfinished = λ u o h. each_with_known (λ u y. (is_listed (waits_at P o) u ≡ true) ⊎ (is_listed (notified_at P o) u ≡ true)
+        → IsUnfinished y.unfinished op.Wait o) t l w.known u
+        (λ g. unfinished_forth (λ z. IsUnfinished z op.Wait o) (w.known t) l b.unfinished
+        (λ e. absurd (cc e)) (v.waits.unfinished t o g)) (λ d g. v.waits.unfinished u o g) h;
     stored = v.waits.stored;
-    entering = λ u o h. each_with_known (λ u y. enters_on (w.words (Waiting u)) o ≡ true → IsUnfinished y.unfinished op.Enter o × ((m : ℕ) × (monitor_in (marks w o) ≡ Some m))) t l w.known u
-        (λ g. let a = v.waits.entering t o g in (unfinished_forth (λ z. IsUnfinished z op.Enter o) (w.known t) l b.unfinished (λ e. absurd (cc e)) a.0, a.1)) (λ d g. v.waits.entering u o g) h;
+    entering = λ u o h. each_with_known (λ u y. enters_on (w.words (Waiting u)) o ≡ true
+        → IsUnfinished y.unfinished op.Enter o × ((m : ℕ) × (monitor_in (marks w o) ≡ Some m))) t l w.known u
+        (λ g. let a = v.waits.entering t o g in (
+          unfinished_forth (λ z. IsUnfinished z op.Enter o) (w.known t) l b.unfinished (λ e. absurd (cc e)) a.0,
+          a.1,
+        )) (λ d g. v.waits.entering u o g) h;
     done = v.waits.done;
     stopped = v.waits.stopped;
     stamped = v.waits.stamped;
@@ -97,7 +106,9 @@ module _ (w : World) (P : List PlainObject) (t : ℕ) (l : Known) (within : t < 
     exact = λ o. stamp_goes_on (λ u. (w.known u).log) (monitor_of P o).owner t l w.known o (w.words (Stamp o)) b.unfinished (v.stamps.exact o);
   }
 
-  pub with_knowledge_fits : SeenFit x P → SafepointFits x P → MovesFit (λ u. (x.known u).running) (λ u. (x.known u).reached) (λ u. (x.known u).moving) → StoppedAreQuiet (λ u. (x.known u).running) (λ u. (x.known u).reached) (λ u. (x.known u).stage) → ShotsFit w.shape.objects (logs w) (λ u. (w.known u).log) (λ u. (x.known u).shots) (λ u. (x.known u).unfinished) → Fits w P → Fits x P
+  pub with_knowledge_fits : SeenFit x P → SafepointFits x P → MovesFit (λ u. (x.known u).running) (λ u. (x.known u).reached) (λ u. (x.known u).moving)
+      → StoppedAreQuiet (λ u. (x.known u).running) (λ u. (x.known u).reached) (λ u. (x.known u).stage)
+      → ShotsFit w.shape.objects (logs w) (λ u. (w.known u).log) (λ u. (x.known u).shots) (λ u. (x.known u).unfinished) → Fits w P → Fits x P
   with_knowledge_fits seen safe moves quiet shots v =
       let holds = part_moves (λ y. y.holds) t l w.known b.holds in
       let stage = part_moves (λ y. y.stage) t l w.known b.stage in
@@ -134,8 +145,10 @@ module _ (w : World) (P : List PlainObject) (t : ℕ) (l : Known) (within : t < 
         waits = frame9 WaitsFit refl refl (part_moves (λ y. y.wait) t l w.known b.wait) log stage refl running refl refl (waits_law v);
         stamps = frame5 StampsFit all log refl refl refl (stamps_law v);
         lengths = frame6 LengthsFit refl (part_moves (λ y. y.published) t l w.known b.published) log running requesting refl v.lengths;
-        claims = frame2 (MonitorsAreClaimed w.shape.threads _ _ _ _ _ _ _) (part_moves (λ y. y.kept) t l w.known b.kept) (part_moves (λ y. y.moving) t l w.known b.moving) v.claims;
+        claims = frame2 (MonitorsAreClaimed w.shape.threads _ _ _ _ _ _ _)
+            (part_moves (λ y. y.kept) t l w.known b.kept) (part_moves (λ y. y.moving) t l w.known b.moving) v.claims;
         moves = moves;
         shots = frame4 (ShotsFit w.shape.objects) all log refl refl shots;
-        classes = frame6 (ClassesFit w.biasing) refl refl refl refl (λ i. bulk_rebiases w.shape.threads (counts i)) (λ i. bulk_revokes w.shape.threads (counts i)) v.classes;
+        classes = frame6 (ClassesFit w.biasing) refl refl refl refl
+            (λ i. bulk_rebiases w.shape.threads (counts i)) (λ i. bulk_revokes w.shape.threads (counts i)) v.classes;
       }

@@ -6,10 +6,10 @@ use Rattle.mark_word.specs.declared.safe.SafeForm.{SafeForm}
 use Rattle.mark_word.specs.Safe.{read_safe}
 use Rattle.plain_monitor.specs.Monitor.{is_thread}
 use Rattle.plain_monitor.specs.Objects.{PlainObject}
-use Rattle.core_world.specs.declared.name.Name.TheVariants.{Safepoint}
+use Rattle.core_world.specs.declared.word_id.WordId.TheVariants.{Safepoint}
 use Rattle.core_world.specs.declared.plan.StepPlan.{StepPlan}
 use Rattle.core_world.specs.Words.Forms.{runs_in, runs_form, asks_in, is_halted, is_still, still_form}
-use Rattle.core_world.specs.Threads.Known.{Known, Fetches, Returns}
+use Rattle.core_world.specs.Threads.ThreadView.{ThreadView, Fetches, Returns}
 use Rattle.core_world.specs.World.{World, with_known}
 use Rattle.core_world.specs.Locks.{monitor_of, owner_at, waits_at}
 use Rattle.core_world.specs.Clauses.Safepoints.{IsHeldUp, ends, StoppedAreQuiet, IsQuiet}
@@ -20,7 +20,7 @@ use Rattle.core_world.specs.Valid.{Fits, SeenFit, SafepointFits}
 use Rattle.core_world.proofs.Frames.{frame4}
 use Rattle.core_world.proofs.KnowledgeParts.{each_with_known, part_moves}
 use Rattle.core_world.proofs.Naming.{with_knowledge}
-use Rattle.core_world.proofs.ShotsStay.{shots_go_on}
+use Rattle.core_world.proofs.shot.ShotsStay.{shots_go_on}
 use Rattle.core_world.proofs.KnowledgeFrames.{SameBut, with_knowledge_fits}
 use Rattle.core_world.proofs.SeenNoted.{Looks, seen_noted}
 
@@ -43,14 +43,14 @@ one_requester w P safe t u e f = same _ (safe.requester t ∙ e) (safe.requester
 
 -- thread t, which knew k, knows l after its step on the word of p: what the clauses read is the same, what it has seen is there, and what it
 -- learnt of the safepoint is so
-pub record Glance (w : World) (P : List PlainObject) (k l : Known) (p : StepPlan) : Type 0 where
+pub record Glance (w : World) (P : List PlainObject) (k l : ThreadView) (p : StepPlan) : Type 0 where
   pub same : SameBut k l
   pub looks : Looks w (waits_at P) k l p (w.words p.at)
   pub reached : l.reached ≡ true → (l.requesting ≡ true) × ((u : ℕ) → (w.known u).running ≡ false)
   pub halted : l.halted ≡ true → is_halted (w.words Safepoint) ≡ true
   pub stands : k.reached ≡ true → l.reached ≡ true
 
-module _ (w : World) (P : List PlainObject) (t : ℕ) (l : Known) (p : StepPlan) (g : Glance w P (w.known t) l p) where
+module _ (w : World) (P : List PlainObject) (t : ℕ) (l : ThreadView) (p : StepPlan) (g : Glance w P (w.known t) l p) where
   -- a thread with nothing unfinished that is held up is so whatever it has unfinished
   held_up_forth : IsHeldUp (monitor_of P) t (w.known t).unfinished → IsHeldUp (monitor_of P) t l.unfinished
   held_up_forth h = elim g.same.unfinished [
@@ -77,8 +77,10 @@ module _ (w : World) (P : List PlainObject) (t : ℕ) (l : Known) (p : StepPlan)
       record {
         bits = λ u. each_with_known (λ u y. runs_in (w.words Safepoint) u ≡ y.running) t l w.known u (safe.bits t ∙ g.same.running) (λ d. safe.bits u);
         few = λ u. each_with_known (λ u y. y.running ≡ true → u < w.shape.threads) t l w.known u (λ e. safe.few t (g.same.running ∙ e)) (λ d. safe.few u);
-        requester = λ u. each_with_known (λ u y. asks_in (w.words Safepoint) u ≡ y.requesting) t l w.known u (safe.requester t ∙ g.same.requesting) (λ d. safe.requester u);
-        safepoint = λ u. each_with_known (λ u y. y.reached ≡ true → (y.requesting ≡ true) × ((z : ℕ) → ((with_knowledge t l w).known z).running ≡ false)) t l w.known u
+        requester = λ u. each_with_known (λ u y. asks_in (w.words Safepoint) u ≡ y.requesting) t l w.known u
+            (safe.requester t ∙ g.same.requesting) (λ d. safe.requester u);
+        safepoint = λ u. each_with_known (λ u y. y.reached ≡ true
+            → (y.requesting ≡ true) × ((z : ℕ) → ((with_knowledge t l w).known z).running ≡ false)) t l w.known u
             (λ e. let a = g.reached e in (a.0, nobody a.1)) (λ d e. let a = safe.safepoint u e in (a.0, nobody a.1));
         stopped = λ u. each_with_known (λ u y. y.halted ≡ true → is_halted (w.words Safepoint) ≡ true) t l w.known u g.halted (λ d. safe.stopped u);
         still = λ e.
@@ -87,7 +89,12 @@ module _ (w : World) (P : List PlainObject) (t : ℕ) (l : Known) (p : StepPlan)
               a.0,
               nobody a.1,
               (
-                (live.0, live.1, each_with_known (λ u y. ends (w.known u).log ≡ false → ends y.log ≡ false) t l w.known live.0 (λ z. ap ends (sym g.same.log) ∙ z) (λ d z. z) live.2),
+                (
+                  live.0,
+                  live.1,
+                  each_with_known (λ u y. ends (w.known u).log ≡ false → ends y.log ≡ false) t l w.known live.0
+                      (λ z. ap ends (sym g.same.log) ∙ z) (λ d z. z) live.2,
+                ),
                 λ u h. each_with_known (λ u y. u < w.shape.threads → ends y.log ≡ false → IsHeldUp (monitor_of P) u y.unfinished) t l w.known u
                     (λ m z. held_up_forth (a.2.1 t m (ap ends g.same.log ∙ z))) (λ d m z. a.2.1 u m z) h,
               ),
@@ -102,13 +109,19 @@ module _ (w : World) (P : List PlainObject) (t : ℕ) (l : Known) (p : StepPlan)
       let shots = frame4 (ShotsFit w.shape.objects) refl refl (part_moves (λ y. y.shots) t l w.known same) refl (shots_go_on goes_on v.shots) in
       let moves : MovesFit (λ u. (with_known t l w.known u).running) (λ u. (with_known t l w.known u).reached) (λ u. (with_known t l w.known u).moving) =
       record {
-        runs = λ u p. each_with_known (λ u y. y.moving ≡ Fetches p → y.running ≡ true) t l w.known u (λ e. sym g.same.running ∙ v.moves.runs t p (g.same.moving ∙ e)) (λ d. v.moves.runs u p);
-        reaches = λ u m. each_with_known (λ u y. y.moving ≡ Returns m → y.reached ≡ true) t l w.known u (λ e. g.stands (v.moves.reaches t m (g.same.moving ∙ e))) (λ d. v.moves.reaches u m);
+        runs = λ u p. each_with_known (λ u y. y.moving ≡ Fetches p → y.running ≡ true) t l w.known u
+            (λ e. sym g.same.running ∙ v.moves.runs t p (g.same.moving ∙ e)) (λ d. v.moves.runs u p);
+        reaches = λ u m. each_with_known (λ u y. y.moving ≡ Returns m → y.reached ≡ true) t l w.known u
+            (λ e. g.stands (v.moves.reaches t m (g.same.moving ∙ e))) (λ d. v.moves.reaches u m);
       } in
       let quiet : StoppedAreQuiet (λ u. (with_known t l w.known u).running) (λ u. (with_known t l w.known u).reached) (λ u. (with_known t l w.known u).stage) =
       record {
         quiet = λ u. each_with_known (λ u y. y.running ≡ false → IsQuiet y.reached y.stage) t l w.known u
-            (λ r. elim (v.quiet.quiet t (g.same.running ∙ r)) [ inl a ↦ inl (sym g.same.stage ∙ a) | inr a ↦ inr (g.stands a.0, (a.1.0, sym g.same.stage ∙ a.1.1)) ]) (λ d. v.quiet.quiet u);
-        none_revokes = λ u. each_with_known (λ u y. revocation_in y.stage ≡ None) t l w.known u (ap revocation_in (sym g.same.stage) ∙ v.quiet.none_revokes t) (λ d. v.quiet.none_revokes u);
+            (λ r. elim (v.quiet.quiet t (g.same.running ∙ r)) [
+              | inl a ↦ inl (sym g.same.stage ∙ a)
+              | inr a ↦ inr (g.stands a.0, (a.1.0, sym g.same.stage ∙ a.1.1))
+            ]) (λ d. v.quiet.quiet u);
+        none_revokes = λ u. each_with_known (λ u y. revocation_in y.stage ≡ None) t l w.known u
+            (ap revocation_in (sym g.same.stage) ∙ v.quiet.none_revokes t) (λ d. v.quiet.none_revokes u);
       } in
       with_knowledge_fits w P t l within g.same (glance_seen v.seen) (glance_safe v.safe) moves quiet shots v

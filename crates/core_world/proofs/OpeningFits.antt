@@ -1,5 +1,6 @@
 -- The opening world is valid.
-use Rattle.std.proofs.Common.{◌≡◌, ℕ, zero, suc, ◌+◌, ◌*◌, ◌%◌, ◌^◌, ◌<◌, ◌==◌, nat_lt, ◌&&◌, ◌||◌, Bool, true, false, if◌then◌else◌, List, [], ◌∷◌, length, slice_get, replicate, Some, None, refl, sym, ap, ◌∙◌, arith, subst, inl, inr, pos}
+use Rattle.std.proofs.Common.{◌≡◌, ℕ, zero, suc, ◌+◌, ◌*◌, ◌%◌, ◌^◌, ◌<◌, ◌==◌, nat_lt, ◌&&◌, ◌||◌, Bool, true, false, if◌then◌else◌, List}
+use Rattle.std.proofs.Common.{[], ◌∷◌, length, slice_get, replicate, Some, None, refl, sym, ap, ◌∙◌, arith, subst, inl, inr, pos}
 use Rattle.std.specs.List.{AllByRecursion}
 use Rattle.std.proofs.lemmas.List.{length-map}
 use Rattle.std.proofs.lemmas.Option.{same_Some}
@@ -11,16 +12,17 @@ use Rattle.plain_monitor.specs.Monitor.{PlainMonitor, free_monitor, owns}
 use Rattle.plain_monitor.specs.Objects.{PlainObject, new_object, new_objects}
 use Rattle.plain_monitor.specs.Order.{order, ordered, with_threads}
 use Rattle.plain_monitor.specs.History.{LegalObjects, RisesAbove, objects_after, take_all}
-use Rattle.core_world.specs.declared.name.Name.TheVariants.{Slot}
+use Rattle.core_world.specs.declared.word_id.WordId.TheVariants.{Slot}
 use Rattle.core_world.specs.declared.stage.Stage.{Stage}
-use Rattle.core_world.specs.declared.stage.Stage.TheVariants.{Calm}
+use Rattle.core_world.specs.declared.stage.Stage.TheVariants.{Settled}
 use Rattle.core_world.specs.Words.Shape.{Shape, IsInLimits, monitor_count, ring_bits}
 use Rattle.core_world.specs.Words.Forms.{hash_in, is_biased, is_halted, monitor_in}
 use Rattle.core_world.specs.World.{World, logs, logs_from}
-use Rattle.core_world.specs.Locks.{Lock, Open, lock, lock_form, header, header_form, marks, inflations, displaced_words, headers, object_of, monitor_of, hold_count, holder, who, holds_by_monitor, owner_at, hash_at, waits_at, notified_at}
+use Rattle.core_world.specs.Locks.{Lock, Open, lock, lock_form, header, header_form, marks, inflations, displaced_words, headers, object_of}
+use Rattle.core_world.specs.Locks.{monitor_of, hold_count, holder, who, holds_by_monitor, owner_at, hash_at, waits_at, notified_at}
 use Rattle.core_world.specs.Opening.{opening, first_known, first_mark}
-use Rattle.core_world.specs.Threads.Known.{Still}
-use Rattle.core_world.proofs.Rings.{ring_enough}
+use Rattle.core_world.specs.Threads.ThreadView.{Still}
+use Rattle.core_world.proofs.deflation.Rings.{ring_enough}
 use Rattle.std.proofs.Math.Nat.{mod-eq_of_lt}
 use Rattle.core_world.specs.Clauses.Holds.{HoldsFitLogs}
 use Rattle.core_world.specs.Clauses.Owners.{LocksArePlain}
@@ -39,7 +41,9 @@ use Rattle.core_world.specs.Clauses.Claims.{MonitorsAreClaimed, MovesFit, InRing
 use Rattle.core_world.specs.Clauses.Classes.{ClassesFit, bulk_rebiases, bulk_revokes}
 use Rattle.core_world.specs.Shots.{ShotsFit}
 use Rattle.core_world.specs.Valid.{Fits, Valid, SeenFit, FormsFit, SafepointFits}
-use Rattle.core_world.proofs.Readings.{mark_one, mark_five, owner_zero, wait_zero, hold_zero, safe_zero, value_zero, no_wait, no_told, no_entering, no_ended, runs_none, asks_none, halts_none, first_nonzero, first_monitor, first_is_mark, first_biased, first_hash, first_slot}
+use Rattle.core_world.proofs.Readings.{mark_one, mark_five, owner_zero, wait_zero, hold_zero, safe_zero, value_zero}
+use Rattle.core_world.proofs.Readings.{no_wait, no_told, no_entering, no_ended, runs_none, asks_none, halts_none}
+use Rattle.core_world.proofs.Readings.{first_nonzero, first_monitor, first_is_mark, first_biased, first_hash, first_slot}
 use Rattle.core_world.proofs.Counting.{named_none, again_none, index_none, no_hold, each_none, with_monitor_none}
 
 -- no log has an entry
@@ -109,7 +113,7 @@ module _ (s : Shape) (start : ℕ) (biasing : Bool) where
   holds t = replicate most_holds 0
 
   abbrev calm : ℕ → Stage
-  calm t = Calm
+  calm t = Settled
 
   -- the mark of o is that of a heap with biasing, where there is biasing and o is declared
   abbrev leans : ℕ → Bool
@@ -201,7 +205,8 @@ module _ (s : Shape) (start : ℕ) (biasing : Bool) where
 
   biases : BiasedAreFree (marks world) (lock world) holds (hash_at objects) (waits_at objects) (notified_at objects)
   biases =
-      subst (λ (ms : ℕ → PlainMonitor). BiasedAreFree (marks world) (lock world) holds (hash_at objects) (λ o. (ms o).waits) (λ o. (ms o).called)) (sym (free_at s.objects))
+      subst (λ (ms : ℕ → PlainMonitor). BiasedAreFree (marks world) (lock world) holds
+      (hash_at objects) (λ o. (ms o).waits) (λ o. (ms o).called)) (sym (free_at s.objects))
       (subst (λ (hash : ℕ → ℕ). BiasedAreFree (marks world) (lock world) holds hash (λ o. []) (λ o. [])) (sym (hash_none s.objects))
       (record { hashless = λ o e. refl; nobody = λ o e. (refl, refl); unheld = λ o t e h. named_none o most_holds }))
 
@@ -266,7 +271,8 @@ module _ (s : Shape) (start : ℕ) (biasing : Bool) where
 
   waits : WaitsFit (λ o. monitor_in (marks world o)) (λ t. 0) (λ t. 0) (λ t. []) calm (λ t. None) (λ t. false) (waits_at objects) (notified_at objects)
   waits =
-      subst (λ (ms : ℕ → PlainMonitor). WaitsFit (λ o. monitor_in (marks world o)) (λ t. 0) (λ t. 0) (λ t. []) calm (λ t. None) (λ t. false) (λ o. (ms o).waits) (λ o. (ms o).called)) (sym (free_at s.objects))
+      subst (λ (ms : ℕ → PlainMonitor). WaitsFit (λ o. monitor_in (marks world o)) (λ t. 0) (λ t. 0)
+      (λ t. []) calm (λ t. None) (λ t. false) (λ o. (ms o).waits) (λ o. (ms o).called)) (sym (free_at s.objects))
       (record {
         waiting = λ t o e. absurd (cc e);
         waiter = λ t o e. absurd (cc (e, no_wait o));
@@ -299,7 +305,8 @@ module _ (s : Shape) (start : ℕ) (biasing : Bool) where
   lengths = record { few = λ t. omega arith; stored = λ t. refl; most = λ t. omega arith; all = λ t e g h. refl }
 
   -- each monitor stands at the position of its number
-  claims : IsInLimits s → MonitorsAreClaimed s.threads (length s.objects) (monitor_count s) (ring_bits s) 0 (monitor_count s) (λ p. p) (λ o. monitor_in (marks world o)) (λ t. None) (λ t. Still)
+  claims : IsInLimits s → MonitorsAreClaimed s.threads (length s.objects) (monitor_count s)
+      (ring_bits s) 0 (monitor_count s) (λ p. p) (λ o. monitor_in (marks world o)) (λ t. None) (λ t. Still)
   claims limits =
       record {
         first = 0;

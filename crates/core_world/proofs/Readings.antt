@@ -16,7 +16,9 @@ use Rattle.plain_monitor.specs.declared.entry.Value.TheVariants.{Int}
 use Rattle.plain_monitor.specs.Monitor.{is_thread}
 use Rattle.plain_monitor.specs.ValueWords.{read_value, word_of}
 use Rattle.core_world.specs.Words.Shape.{Shape}
-use Rattle.core_world.specs.Words.Forms.{is_biased, is_biased_form, monitor_in, monitor_form, hash_in, hash_form, waits_on, waits_form, says_notified, notified_form, enters_on, enters_form, says_ended, ended_form, names, names_form, is_deeper, deeper_form, hold_word, runs_in, runs_form, requester_form, asks_in, is_halted, halted_form}
+use Rattle.core_world.specs.Words.Forms.{is_biased, is_biased_form, monitor_in, monitor_form, hash_in, hash_form, waits_on, waits_form}
+use Rattle.core_world.specs.Words.Forms.{says_notified, notified_form, enters_on, enters_form, says_ended, ended_form, names, names_form}
+use Rattle.core_world.specs.Words.Forms.{is_deeper, deeper_form, hold_word, runs_in, runs_form, requester_form, asks_in, is_halted, halted_form}
 use Rattle.core_world.specs.Clauses.WordForms.{IsMark}
 use Rattle.core_world.specs.Opening.{first_mark}
 

@@ -1,17 +1,18 @@
 -- What a thread may count on after a step it could count on before.
 use Rattle.std.proofs.Common.{◌≡◌, ℕ, ◌||◌, Bool, true, Some, None, subst, inl, inr}
 use Rattle.mark_word.specs.Mark.{read_mark}
-use Rattle.core_world.specs.declared.name.Name.{Name}
-use Rattle.core_world.specs.declared.name.Name.TheVariants.{Safepoint, Prototype, Revocations, LastBulk, Mark, Stamp, Slot, Hold, Displaced, Waiting, Length, Owner, Recursions, Header, Object, Claim, End, Ring, Class}
+use Rattle.core_world.specs.declared.word_id.WordId.{WordId}
+use Rattle.core_world.specs.declared.word_id.WordId.TheVariants.{Safepoint, Prototype, Revocations, LastBulk, Mark, Stamp, Slot, Hold, Displaced}
+use Rattle.core_world.specs.declared.word_id.WordId.TheVariants.{Waiting, Length, Owner, Recursions, Header, Object, Claim, End, Ring, Class}
 use Rattle.core_world.specs.Words.Forms.{monitor_in}
 use Rattle.core_world.specs.Threads.Stages.{Inflation, inflation_in, bears, revocation_in}
-use Rattle.core_world.specs.Threads.Known.{Known}
+use Rattle.core_world.specs.Threads.ThreadView.{ThreadView}
 use Rattle.core_world.specs.World.{World}
 use Rattle.core_world.specs.Locks.{marks, prototype_of}
 use Rattle.core_world.specs.Clauses.SeenWords.{Stays, StaysWhileRunning, StaysWhileAsking, IsValidBias, IsOwnMonitor}
 
 -- in world w thread u knew k, and in x it knows l; the plain owners were `owner`, and are `next`
-pub record Back (w x : World) (k l : Known) (owner next : ℕ → ℕ → Bool) (u : ℕ) : Type 0 where
+pub record Back (w x : World) (k l : ThreadView) (owner next : ℕ → ℕ → Bool) (u : ℕ) : Type 0 where
   pub run : l.running ≡ true → k.running ≡ true
   pub ask : l.requesting ≡ true → k.requesting ≡ true
   pub inflates : (i : Inflation) → inflation_in l.stage ≡ Some i → inflation_in k.stage ≡ Some i
@@ -22,11 +23,11 @@ pub record Back (w x : World) (k l : Known) (owner next : ℕ → ℕ → Bool) 
   pub owned : (o : ℕ) → next o u ≡ true → owner o u ≡ true
   pub held : (o m : ℕ) → monitor_in (marks x o) ≡ Some m → (next o u || bears l.stage o) ≡ true → (owner o u || bears k.stage o) ≡ true
 
-module _ (w x : World) (k l : Known) (owner next : ℕ → ℕ → Bool) (u : ℕ) (b : Back w x k l owner next u) where
+module _ (w x : World) (k l : ThreadView) (owner next : ℕ → ℕ → Bool) (u : ℕ) (b : Back w x k l owner next u) where
   own_back : (m : ℕ) → IsOwnMonitor x l next u m → IsOwnMonitor w k owner u m
   own_back m h = (h.0, b.monitor h.0 m h.1, b.held h.0 m h.1 h.2)
 
-  running_back : (n : Name) (v : ℕ) → StaysWhileRunning x l next u n v → StaysWhileRunning w k owner u n v
+  running_back : (n : WordId) (v : ℕ) → StaysWhileRunning x l next u n v → StaysWhileRunning w k owner u n v
   running_back Safepoint v h = h
   running_back (Prototype c) v h = h
   running_back (Revocations c) v h = h
@@ -54,7 +55,7 @@ module _ (w x : World) (k l : Known) (owner next : ℕ → ℕ → Bool) (u : �
   running_back (Ring p) v h = h
   running_back (Class o) v h = h
 
-  asking_back : (n : Name) (v : ℕ) → StaysWhileAsking x n v → StaysWhileAsking w n v
+  asking_back : (n : WordId) (v : ℕ) → StaysWhileAsking x n v → StaysWhileAsking w n v
   asking_back (Prototype c) v h = h
   asking_back (Revocations c) v h = h
   asking_back (LastBulk c) v h = h
@@ -75,6 +76,6 @@ module _ (w x : World) (k l : Known) (owner next : ℕ → ℕ → Bool) (u : �
   asking_back (Ring p) v h = h
   asking_back (Class o) v h = h
 
-  pub stays_back : (n : Name) (v : ℕ) → Stays x l next u n v → Stays w k owner u n v
+  pub stays_back : (n : WordId) (v : ℕ) → Stays x l next u n v → Stays w k owner u n v
   stays_back n v (inl h) = inl (b.run h.0, running_back n v h.1)
   stays_back n v (inr h) = inr (b.ask h.0, b.not_revoking h.1, asking_back n v h.2)

@@ -1,6 +1,7 @@
 -- The heap has the words that a thread names: of an object's class and slots, of a monitor that it keeps, and of a thread that waits; and which form
 -- a word has that is found at a name.
-use Rattle.std.proofs.Common.{◌≡◌, ◌≢◌, ℕ, suc, zero, ◌+◌, ◌-◌, ◌<◌, ◌≤◌, nat_lt, cond, Bool, true, false, List, [], ◌∷◌, length, slice_index_or, Some, refl, sym, ap, ◌∙◌, subst, inl, inr, arith}
+use Rattle.std.proofs.Common.{◌≡◌, ◌≢◌, ℕ, suc, zero, ◌+◌, ◌-◌, ◌<◌, ◌≤◌, nat_lt, cond, Bool, true, false, List, []}
+use Rattle.std.proofs.Common.{◌∷◌, length, slice_index_or, Some, refl, sym, ap, ◌∙◌, subst, inl, inr, arith}
 use Rattle.std.specs.List.{AllByRecursion}
 use Rattle.std.proofs.lemmas.Bool.Decides.{nat_tests}
 use Rattle.mark_word.specs.Hold.{read_hold}
@@ -11,19 +12,19 @@ use Rattle.mark_word.specs.declared.wait.WaitForm.TheVariants.{Ready}
 use Rattle.mark_word.proofs.ReadingWaits.{read_wait-wait_of}
 use Rattle.plain_monitor.specs.Limits.{most_slots}
 use Rattle.plain_monitor.specs.Objects.{PlainObject}
-use Rattle.core_world.specs.declared.name.Name.{Name}
-use Rattle.core_world.specs.declared.name.Name.TheVariants.{Mark, Hold, Waiting, Owner, Class}
+use Rattle.core_world.specs.declared.word_id.WordId.{WordId}
+use Rattle.core_world.specs.declared.word_id.WordId.TheVariants.{Mark, Hold, Waiting, Owner, Class}
 use Rattle.core_world.specs.Clauses.WordForms.{IsMark, IsHold, IsWait, IsOwner}
 use Rattle.core_world.specs.Words.Forms.{waits_on, waits_form}
-use Rattle.core_world.specs.Words.Shape.{Shape, IsInLimits, class_of, monitor_count}
+use Rattle.core_world.specs.Words.Shape.{Shape, IsInLimits, class_in_shape, monitor_count}
 use Rattle.core_world.specs.Words.Names.{class_by}
 use Rattle.core_world.specs.Threads.AtRest.{SawClass, SawClassIf}
-use Rattle.core_world.specs.Threads.Known.{Known, StepMade, last_seen}
+use Rattle.core_world.specs.Threads.ThreadView.{ThreadView, StepMade, last_seen}
 use Rattle.core_world.specs.Valid.{Fits, FormsFit, IsValid}
 use Rattle.core_world.specs.World.{World}
 
 -- what the forms of words say of one that was found at this name
-abbrev pub IsFormed : Shape → Name → ℕ → Type 0
+abbrev pub IsFormed : Shape → WordId → ℕ → Type 0
 IsFormed s (Mark o) n = IsMark s (read_mark n)
 IsFormed s (Hold t p) n = IsHold s (read_hold n)
 IsFormed s (Waiting t) n = IsWait s (read_wait n)
@@ -31,7 +32,7 @@ IsFormed s (Owner m) n = IsOwner s (read_owner n)
 IsFormed s (Class o) n = n ≤ s.classes
 IsFormed s _ n = Unit {0}
 
-pub is_formed : (w : World) (n : Name) → FormsFit w → IsFormed w.shape n (w.words n)
+pub is_formed : (w : World) (n : WordId) → FormsFit w → IsFormed w.shape n (w.words n)
 is_formed w (Mark o) f = f.marks o
 is_formed w (Hold t p) f = f.holds t p
 is_formed w (Waiting t) f = f.waits t
@@ -48,23 +49,23 @@ of_each [] n o h l = absurd (omega (arith, l))
 of_each (x ∷ xs) n zero h l = h.0
 of_each (x ∷ xs) n (suc o) h l = of_each xs n o h.1 (omega (arith, l))
 
-pub class_there : (s : Shape) (o : ℕ) → IsInLimits s → o < length s.objects → class_of s o < s.classes
+pub class_there : (s : Shape) (o : ℕ) → IsInLimits s → o < length s.objects → class_in_shape s o < s.classes
 class_there s o limits object = (of_each s.objects s.classes o limits.each object).0
 
 -- where class words are of classes that there are, each object is of one
-pub class_in_heap : (s : Shape) (f : Name → ℕ) (o : ℕ) → IsInLimits s → f (Class o) ≤ s.classes → o < length s.objects → class_by s f o < s.classes
+pub class_in_heap : (s : Shape) (f : WordId → ℕ) (o : ℕ) → IsInLimits s → f (Class o) ≤ s.classes → o < length s.objects → class_by s f o < s.classes
 class_in_heap s f o limits formed object = by_test (nat_lt o s.declared)
   where
-    by_test : (b : Bool) → cond b (class_of s o) (f (Class o) - 1) < s.classes
+    by_test : (b : Bool) → cond b (class_in_shape s o) (f (Class o) - 1) < s.classes
     by_test true = class_there s o limits object
     by_test false = let some = class_there s o limits object in omega (arith, some, formed)
 
 -- the class that a thread has seen an object have is the one that it has by words among which its class word stays as it was seen
-pub class_seen : (s : Shape) (f : Name → ℕ) (seen : List StepMade) (o c : ℕ) → ((v : ℕ) → last_seen (Class o) seen ≡ Some v → v ≢ 0 → f (Class o) ≡ v)
+pub class_seen : (s : Shape) (f : WordId → ℕ) (seen : List StepMade) (o c : ℕ) → ((v : ℕ) → last_seen (Class o) seen ≡ Some v → v ≢ 0 → f (Class o) ≡ v)
     → SawClass s seen o c → class_by s f o ≡ c
 class_seen s f seen o c stays saw = by_test (nat_lt o s.declared) saw
   where
-    by_test : (b : Bool) → SawClassIf b s seen o c → cond b (class_of s o) (f (Class o) - 1) ≡ c
+    by_test : (b : Bool) → SawClassIf b s seen o c → cond b (class_in_shape s o) (f (Class o) - 1) ≡ c
     by_test true h = sym h
     by_test false h = let is = stays (c + 1) h (λ z. absurd (omega (arith, z))) in omega (arith, is)
 
@@ -81,7 +82,7 @@ module _ (w : World) (P : List PlainObject) (v : Fits w P) where
     where
       never_waits : w.shape.threads ≤ u → ⊥
       never_waits absent =
-          let fresh = ap (λ (k : Known). k.wait) (v.absent u absent) in
+          let fresh = ap (λ (k : ThreadView). k.wait) (v.absent u absent) in
           elim (v.waits.stored u) [
             | inl same ↦ let said = ap (λ n. waits_on n o) (same ∙ fresh) in let none = no_wait o in absurd (cc (said, none, waits))
             | inr told ↦ let said = ap (λ n. waits_on n told.0) fresh in let none = no_wait told.0 in let its = told.1 in absurd (cc (said, none, its))

@@ -16,7 +16,8 @@ pub object_else : (P : List PlainObject) (o i : ℕ) (z : PlainObject) → i ≢
 object_else P o i z d = get_or-set_other P o i z (new_object 0) d
 
 -- objects take an entry that names o where o takes it
-pub takes : (P : List PlainObject) (o t : ℕ) (e : Entry) (z : PlainObject) → o < length P → named e ≡ Some o → take_at (object_of P o) t e ≡ Some z → take_entry P t e ≡ Some (slice_set P o z)
+pub takes : (P : List PlainObject) (o t : ℕ) (e : Entry) (z : PlainObject) → o < length P
+    → named e ≡ Some o → take_at (object_of P o) t e ≡ Some z → take_entry P t e ≡ Some (slice_set P o z)
 takes P o t e z within n h = ap (take_named P t e) n ∙ rw (slice_get-get_or P o (new_object 0) within, h) refl
 
 -- a fact of each object afterwards
@@ -29,7 +30,8 @@ each_object F P o z within here else_ i =
     (λ d. subst (F i) (sym (object_else P o i z d)) (else_ i d))
 
 -- a part of each object that the change leaves
-pub part_stays : {A : Type 0} (f : PlainObject → A) (P : List PlainObject) (o : ℕ) (z : PlainObject) → o < length P → f z ≡ f (object_of P o) → (i : ℕ) → f (object_of P i) ≡ f (object_of (slice_set P o z) i)
+pub part_stays : {A : Type 0} (f : PlainObject → A) (P : List PlainObject) (o : ℕ) (z : PlainObject)
+    → o < length P → f z ≡ f (object_of P o) → (i : ℕ) → f (object_of P i) ≡ f (object_of (slice_set P o z) i)
 part_stays f P o z within same = each_object (λ i y. f (object_of P i) ≡ f y) P o z within (sym same) (λ i d. refl)
 
 pub hashes_stay : (P : List PlainObject) (o : ℕ) (z : PlainObject) → o < length P → z.hash ≡ (object_of P o).hash → hash_at P ≡ hash_at (slice_set P o z)
@@ -39,13 +41,16 @@ pub slots_stay : (P : List PlainObject) (o : ℕ) (z : PlainObject) → o < leng
     → ◌≡◌ {A = ℕ → List Value} (λ i. (object_of P i).slots) (λ i. (object_of (slice_set P o z) i).slots)
 slots_stay P o z within same = λ j. λ i. part_stays (λ y. y.slots) P o z within same i j
 
-pub waits_stay : (P : List PlainObject) (o : ℕ) (z : PlainObject) → o < length P → z.monitor.waits ≡ (object_of P o).monitor.waits → waits_at P ≡ waits_at (slice_set P o z)
+pub waits_stay : (P : List PlainObject) (o : ℕ) (z : PlainObject) → o < length P
+    → z.monitor.waits ≡ (object_of P o).monitor.waits → waits_at P ≡ waits_at (slice_set P o z)
 waits_stay P o z within same = λ j. λ i. part_stays (λ y. y.monitor.waits) P o z within same i j
 
-pub called_stay : (P : List PlainObject) (o : ℕ) (z : PlainObject) → o < length P → z.monitor.called ≡ (object_of P o).monitor.called → notified_at P ≡ notified_at (slice_set P o z)
+pub called_stay : (P : List PlainObject) (o : ℕ) (z : PlainObject) → o < length P
+    → z.monitor.called ≡ (object_of P o).monitor.called → notified_at P ≡ notified_at (slice_set P o z)
 called_stay P o z within same = λ j. λ i. part_stays (λ y. y.monitor.called) P o z within same i j
 
-pub monitors_stay : (P : List PlainObject) (o : ℕ) (z : PlainObject) → o < length P → z.monitor ≡ (object_of P o).monitor → monitor_of P ≡ monitor_of (slice_set P o z)
+pub monitors_stay : (P : List PlainObject) (o : ℕ) (z : PlainObject) → o < length P
+    → z.monitor ≡ (object_of P o).monitor → monitor_of P ≡ monitor_of (slice_set P o z)
 monitors_stay P o z within same = λ j. λ i. part_stays (λ y. y.monitor) P o z within same i j
 
 pub monitor_here : (P : List PlainObject) (o : ℕ) (z : PlainObject) → o < length P → monitor_of (slice_set P o z) o ≡ z.monitor

@@ -9,7 +9,7 @@ use Rattle.mark_word.specs.Owner.{read_owner}
 use Rattle.plain_monitor.specs.Monitor.{PlainMonitor, owns}
 use Rattle.plain_monitor.specs.Objects.{PlainObject, new_object}
 pub use Rattle.plain_history.specs.HeldByLog.{or_zero, holds_by_monitor}
-use Rattle.core_world.specs.declared.name.Name.TheVariants.{Prototype, Mark, Displaced, Owner, Header}
+use Rattle.core_world.specs.declared.word_id.WordId.TheVariants.{Prototype, Mark, Displaced, Owner, Header}
 use Rattle.core_world.specs.Words.Names.{class_by}
 use Rattle.core_world.specs.Words.Forms.{epoch_in, monitor_in, names, is_deeper, hold_word}
 use Rattle.core_world.specs.Threads.Stages.{Inflation, inflation_in, one_if}

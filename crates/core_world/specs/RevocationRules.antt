@@ -12,32 +12,32 @@ use Rattle.mark_word.specs.Hold.{read_hold}
 use Rattle.lock_policy.specs.declared.policy.Verdict.{Verdict}
 use Rattle.lock_policy.specs.declared.policy.Verdict.TheVariants.{Single, BulkRebias, BulkRevoke}
 use Rattle.lock_policy.specs.Policy.{decided}
-use Rattle.core_world.specs.declared.name.Name.{Name}
-use Rattle.core_world.specs.declared.name.Name.TheVariants.{Prototype, Revocations, LastBulk, Mark, Hold, Displaced}
+use Rattle.core_world.specs.declared.word_id.WordId.{WordId}
+use Rattle.core_world.specs.declared.word_id.WordId.TheVariants.{Prototype, Revocations, LastBulk, Mark, Hold, Displaced}
 use Rattle.core_world.specs.declared.act.Act.{Act}
 use Rattle.core_world.specs.declared.act.Act.TheVariants as act
 use Rattle.core_world.specs.Words.Shape.{Shape}
 use Rattle.core_world.specs.Words.Names.{class_by, with_word}
 use Rattle.core_world.specs.Words.Forms.{names, hold_word, is_biased, epoch_in}
 use Rattle.core_world.specs.Threads.Stages.{Revocation}
-use Rattle.core_world.specs.Threads.Known.{StepMade}
+use Rattle.core_world.specs.Threads.ThreadView.{StepMade}
 use Rattle.core_world.specs.Locks.{hold_count}
 
 -- a store: the word's name, and what is stored there
 pub record Write : Type 0 where
-  pub at : Name
+  pub at : WordId
   pub word : ℕ
 
-abbrev pub write : Name → ℕ → Write
+abbrev pub write : WordId → ℕ → Write
 write at word = record { at = at; word = word }
 
 -- the words after these stores
-abbrev pub words_after : List Write → (Name → ℕ) → Name → ℕ
+abbrev pub words_after : List Write → (WordId → ℕ) → WordId → ℕ
 words_after [] f = f
 words_after (x ∷ xs) f = words_after xs (with_word x.at x.word f)
 
 -- the stores among these steps, the oldest first; the steps stand newest first
-abbrev pub write_by : Name → Act → List Write
+abbrev pub write_by : WordId → Act → List Write
 write_by at (act.Store word) = write at word ∷ []
 write_by at _ = []
 
@@ -46,13 +46,13 @@ writes_in [] = []
 writes_in (m ∷ ms) = writes_in ms ++ write_by m.plan.at m.plan.act
 
 -- each of these steps found its word as the stores before it left it, of these words
-abbrev pub FoundAfter : (Name → ℕ) → List StepMade → Type 0
+abbrev pub FoundAfter : (WordId → ℕ) → List StepMade → Type 0
 FoundAfter f [] = Unit {0}
 FoundAfter f (m ∷ ms) = (m.found ≡ words_after (writes_in ms) f m.plan.at) × FoundAfter f ms
 
 -- a rule says which stores to make, by the words that it finds
 abbrev pub Rule : Type 0
-Rule = (Name → ℕ) → List Write
+Rule = (WordId → ℕ) → List Write
 
 -- the rules one after the other, each on the words that those before it left
 abbrev pub in_turn : List Rule → Rule
@@ -64,7 +64,7 @@ abbrev pub each_below : ℕ → (ℕ → Rule) → Rule
 each_below zero r f = []
 each_below (suc n) r f = each_below n r f ++ r n (words_after (each_below n r f) f)
 
-abbrev pub store_one : Name → ℕ → Rule
+abbrev pub store_one : WordId → ℕ → Rule
 store_one at word f = write at word ∷ []
 
 -- the n words of places from p on
@@ -73,7 +73,7 @@ words_from p zero f = []
 words_from p (suc n) f = f p ∷ words_from (p + 1) n f
 
 -- the hold words of thread t
-unfoldable pub holds_in : (Name → ℕ) → ℕ → List ℕ
+unfoldable pub holds_in : (WordId → ℕ) → ℕ → List ℕ
 holds_in f t = words_from 0 most_holds (λ p. f (Hold t p))
 
 -- the displaced words of t's records of o, of which the first stands at place p: the record with depth 1 gets the neutral header, and
@@ -118,7 +118,7 @@ with_epoch (Some (Anonymous e age)) (Some epoch) = Some (mark_of (Anonymous epoc
 with_epoch (Some (Biased thread e age)) (Some epoch) = Some (mark_of (Biased thread epoch age))
 with_epoch _ _ = None
 
-abbrev pub store_where : Name → Option ℕ → List Write
+abbrev pub store_where : WordId → Option ℕ → List Write
 store_where at None = []
 store_where at (Some word) = write at word ∷ []
 

@@ -7,9 +7,9 @@ use Rattle.plain_monitor.specs.Monitor.{PlainMonitor}
 use Rattle.plain_monitor.specs.Objects.{PlainObject}
 use Rattle.plain_monitor.specs.History.{LegalObjects, objects_after, log_of}
 use Rattle.plain_history.specs.Cuts.{cut_logs, IsCutInOrder}
-use Rattle.core_world.specs.declared.task.Op.TheVariants as op
-use Rattle.core_world.specs.declared.task.Unfinished.{Unfinished}
-use Rattle.core_world.specs.Threads.Known.{DumpShot}
+use Rattle.core_world.specs.declared.heap_call.Operation.TheVariants as op
+use Rattle.core_world.specs.declared.heap_call.Unfinished.{Unfinished}
+use Rattle.core_world.specs.Threads.ThreadView.{DumpShot}
 use Rattle.core_world.specs.Clauses.Safepoints.{IsUnfinished}
 
 -- the owner of a monitor, and its count
@@ -19,7 +19,7 @@ cell_in m = (m.owner, m.count)
 abbrev pub cells_of : List PlainObject → List (Option ℕ × ℕ)
 cells_of objects = map (λ x. cell_in x.monitor) objects
 
--- a dump's place and number before those behind it
+-- a dump's place and number before those after it
 abbrev pub placed : ℕ → Entry → List (ℕ × ℕ) → List (ℕ × ℕ)
 placed n (Dump number) rest = (n, number) ∷ rest
 placed n e rest = rest
@@ -33,12 +33,12 @@ dumps_from n (l ∷ log) = placed n l.entry (dumps_from (n + 1) log)
 abbrev pub places_of : ℕ → List DumpShot → List (ℕ × ℕ)
 places_of t shots = map (λ s. (slice_index s.cut t, s.number)) shots
 
--- the shot cuts the logs where they are legal, and has the owner and the count of each plain object behind what it leaves of them
+-- the shot cuts the logs where they are legal, and has the owner and the count of each plain object after what it leaves of them
 pub record IsRightShot (shape : List (ℕ × ℕ)) (logs : List (List Logged)) (shot : DumpShot) : Type 0 where
   -- it says of each log how long it was, which is now no shorter
   pub threads : length shot.cut ≡ length logs
   pub within : (u : ℕ) → slice_index shot.cut u ≤ length (log_of logs u)
-  -- what was logged since stands behind all that was logged then and that it is tied to
+  -- what was logged since stands after all that was logged then and that it is tied to
   pub in_order : IsCutInOrder shot.cut logs
   pub legal : LegalObjects shape (cut_logs shot.cut logs)
   pub objects : List PlainObject

@@ -1,6 +1,6 @@
 -- What a thread knows, and where it stands.
 pub mod Stages
 pub mod Counts
-pub mod Known
+pub mod ThreadView
 pub mod References
 pub mod AtRest

@@ -1,5 +1,5 @@
 -- The steps of every operation, as trees that branch by the word that a step finds.
-pub mod Todo
+pub mod StepTree
 pub mod Plans
 pub mod LockSteps
 pub mod MonitorSteps

@@ -4,18 +4,20 @@ use Rattle.mark_word.specs.Mark.{read_mark}
 use Rattle.lock_policy.specs.Policy.{decided, is_reset}
 use Rattle.plain_monitor.specs.Objects.{PlainObject}
 use Rattle.plain_monitor.specs.History.{LegalObjects, objects_after}
-use Rattle.core_world.specs.declared.name.Name.TheVariants.{Safepoint, Prototype, Revocations, LastBulk, Mark, Stamp, Slot, Hold, Waiting, Length, Recursions, Object, Claim, End, Ring, Class}
-use Rattle.core_world.specs.declared.stage.Stage.TheVariants.{Calm}
-use Rattle.core_world.specs.declared.task.Op.{Op}
-use Rattle.core_world.specs.declared.task.Op.TheVariants as op
+use Rattle.core_world.specs.declared.word_id.WordId.TheVariants.{Safepoint, Prototype, Revocations, LastBulk, Mark, Stamp, Slot, Hold}
+use Rattle.core_world.specs.declared.word_id.WordId.TheVariants.{Waiting, Length, Recursions, Object, Claim, End, Ring, Class}
+use Rattle.core_world.specs.declared.stage.Stage.TheVariants.{Settled}
+use Rattle.core_world.specs.declared.heap_call.Operation.{Operation}
+use Rattle.core_world.specs.declared.heap_call.Operation.TheVariants as op
 use Rattle.core_world.specs.Words.Shape.{IsInLimits, monitor_count, ring_bits}
 use Rattle.core_world.specs.Words.Names.{class_by}
 use Rattle.core_world.specs.Words.Forms.{is_halted}
 use Rattle.core_world.specs.Threads.Stages.{Revocation, hold_words_ahead, inflation_in, revocation_in}
 use Rattle.core_world.specs.Threads.Counts.{with_verdict_counted}
-use Rattle.core_world.specs.Threads.Known.{Known}
+use Rattle.core_world.specs.Threads.ThreadView.{ThreadView}
 use Rattle.core_world.specs.World.{World, logs}
-use Rattle.core_world.specs.Locks.{is_valid_bias, marks, inflated_to, displaced_words, headers, owner_words, inflations, lock, header, who, object_of, monitor_of, holds_by_monitor, owner_at, hash_at, waits_at, notified_at}
+use Rattle.core_world.specs.Locks.{is_valid_bias, marks, inflated_to, displaced_words, headers, owner_words, inflations, lock, header}
+use Rattle.core_world.specs.Locks.{who, object_of, monitor_of, holds_by_monitor, owner_at, hash_at, waits_at, notified_at}
 use Rattle.core_world.specs.Opening.{first_known}
 use Rattle.core_world.specs.Clauses.SeenWords.{SeenStays}
 use Rattle.core_world.specs.Clauses.WordForms.{WordsHaveForms}
@@ -98,14 +100,14 @@ pub record Fits (w : World) (objects : List PlainObject) : Type 0 where
       (λ t. (w.known t).unfinished)
 
 -- a new bias is allowed in an enter alone; an exit and a dump revoke none
-abbrev pub RevokesWithin : Op → Bool → Type 0
+abbrev pub RevokesWithin : Operation → Bool → Type 0
 RevokesWithin op.Enter rebias = rebias ≡ true
 RevokesWithin op.Exit rebias = ⊥
 RevokesWithin op.Dump rebias = ⊥
 RevokesWithin _ rebias = rebias ≡ false
 
 -- the requester knows what it knew before its first store, but for its stage, its call and its steps, and the verdict that it has counted
-abbrev pub requester_known : World → ℕ → Revocation → Known → Known
+abbrev pub requester_known : World → ℕ → Revocation → ThreadView → ThreadView
 requester_known before t b k =
     let c = class_by before.shape before.words b.object in
     let count = before.words (Revocations c) in
@@ -130,11 +132,11 @@ pub record IsRevoking (w : World) (objects : List PlainObject) : Type 0 where
   pub requester : ℕ
   pub reached : (before.known requester).reached ≡ true
   -- where it stood in the middle of nothing
-  pub was_calm : (before.known requester).stage ≡ Calm
+  pub was_calm : (before.known requester).stage ≡ Settled
   -- the operation that it works for
   pub revocation : Revocation
   pub its_revocation : revocation_in (w.known requester).stage ≡ Some revocation
-  pub operation : Op
+  pub operation : Operation
   pub unfinished : (before.known requester).unfinished ≡ Some (record { op = operation; object = revocation.object })
   pub allowed : RevokesWithin operation revocation.rebias
   -- its object, which was validly biased to a thread before the first store

@@ -11,13 +11,13 @@ pub enum Act {
     /// Writes `word`.
     Store { word: u64 },
     /// Compare-exchange: writes `word` where `expected` stands.
-    Swap { expected: u64, word: u64 },
+    CompareExchange { expected: u64, word: u64 },
     /// Fetch-max: writes `word` where the word is smaller.
-    Raise { word: u64 },
+    FetchMax { word: u64 },
     /// Fetch-and: keeps of the word the bits of `bits` alone.
-    Mask { bits: u64 },
+    FetchAnd { bits: u64 },
     /// Fetch-add of one, which wraps at 2^64.
-    Count,
+    FetchAdd,
 }
 
 /// What an act makes of a word.
@@ -25,11 +25,11 @@ pub enum Act {
 pub struct Effect {
     /// The word afterwards.
     pub word: u64,
-    /// False exactly for a `Swap` that expected another word.
+    /// False exactly for a `CompareExchange` that expected another word.
     pub hit: bool,
 }
 
-/// What the act makes of the word `old`: the word afterwards, and whether the act did what it is for. A `Swap` whose expected
+/// What the act makes of the word `old`: the word afterwards, and whether the act did what it is for. A `CompareExchange` whose expected
 /// word differs from `old` leaves the word and misses; every other act hits.
 pub fn apply(old: u64, act: &Act) -> Effect
     ensures word { result.word ≡ word_after act.now old }
@@ -38,10 +38,10 @@ pub fn apply(old: u64, act: &Act) -> Effect
     match *act {
         Act::Load => hit(old),
         Act::Store { word } => hit(word),
-        Act::Swap { expected, word } => swap(old, expected, word),
-        Act::Raise { word } => hit(old.max(word)),
-        Act::Mask { bits } => hit(old & bits),
-        Act::Count => hit(old.wrapping_add(1)),
+        Act::CompareExchange { expected, word } => swap(old, expected, word),
+        Act::FetchMax { word } => hit(old.max(word)),
+        Act::FetchAnd { bits } => hit(old & bits),
+        Act::FetchAdd => hit(old.wrapping_add(1)),
     }
 }
 
@@ -54,8 +54,8 @@ fn hit(word: u64) -> Effect
 
 /// The effect of a compare-exchange.
 fn swap(old: u64, expected: u64, word: u64) -> Effect
-    ensures word { result.word ≡ word_after (Act.Swap expected word) old }
-    ensures hit { result.hit ≡ hits (Act.Swap expected word) old }
+    ensures word { result.word ≡ word_after (Act.CompareExchange expected word) old }
+    ensures hit { result.hit ≡ hits (Act.CompareExchange expected word) old }
 {
     if old == expected {
         hit(word)

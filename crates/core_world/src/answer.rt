@@ -4,7 +4,7 @@ use plain_monitor::Path;
 
 /// Why an operation is pending.
 #[derive(Clone, Copy, Debug, PartialEq, Eq)]
-pub enum Why {
+pub enum PendingCause {
     /// The owner word `word` of the monitor names another thread.
     Owned { word: u64 },
     /// The thread's own waiting word is still `word`, which says that it waits.
@@ -23,9 +23,9 @@ pub enum Why {
 
 /// A call that either did its work or has to be made again.
 #[derive(Clone, Copy, Debug, PartialEq, Eq)]
-pub enum Turn<A> {
+pub enum Progress<A> {
     Done(A),
-    Pending(Why),
+    Pending(PendingCause),
 }
 
 /// What an attempt on the bias of a mark came to.
@@ -49,7 +49,7 @@ pub enum StackOut {
     /// The object has the monitor with this number, and nothing was let go.
     Monitor { number: u32 },
     /// Nothing was let go.
-    Not(Why),
+    Not(PendingCause),
 }
 
 /// The thread has 64 holds.

@@ -8,21 +8,22 @@
 
 mod act;
 mod answer;
+mod heap_call;
 mod laws;
-mod name;
 mod plan;
 mod refused;
 mod shown;
 mod stage;
-mod task;
+mod word_id;
 
 pub use act::{Act, Effect, apply};
 pub use answer::{
-    BiasTry, IllegalMonitorState, StackOut, TooDeep, TooMany, TooManyDumps, Turn, Unguarded, Why,
+    BiasTry, IllegalMonitorState, PendingCause, Progress, StackOut, TooDeep, TooMany, TooManyDumps,
+    Unguarded,
 };
+pub use heap_call::{HeapCall, Operation, Unfinished};
 pub use laws::{a_look_keeps_the_world_valid, the_opening_world_is_valid};
-pub use name::Name;
-pub use plan::{Note, Own, StepPlan};
+pub use plan::{LocalEffect, LogEffect, StepPlan};
 pub use refused::{
     no_displaced_header_lost, no_hash_changed, no_hash_drawn_twice, no_hash_that_nobody_drew,
     no_hold_by_the_monitor_before_its_recursions, no_revocation_without_a_bias, no_stale_bias_held,
@@ -30,4 +31,4 @@ pub use refused::{
 };
 pub use shown::{all_clauses_hold_while_a_thread_runs, held_objects_are_stood_at, shown_is_plain};
 pub use stage::Stage;
-pub use task::{Op, Task, Unfinished};
+pub use word_id::WordId;

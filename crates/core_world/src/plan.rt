@@ -1,15 +1,15 @@
 //! One step with all that it makes of its thread's knowledge.
 
 use crate::act::Act;
-use crate::name::Name;
+use crate::heap_call::{HeapCall, Unfinished};
 use crate::stage::Stage;
-use crate::task::{Task, Unfinished};
+use crate::word_id::WordId;
 use lock_policy::Verdict;
 use plain_monitor::Entry;
 
 /// What a step logs, where it hits.
 #[derive(Clone, Copy)]
-pub enum Note {
+pub enum LogEffect {
     /// Nothing.
     Quiet,
     /// This entry. An Enter or a Resume gets one more than the greater of the word found and the thread's last stamp, every other
@@ -24,9 +24,9 @@ pub enum Note {
 
 /// What a thread keeps of a step for itself, where the step hits.
 #[derive(Clone, Copy)]
-pub enum Own {
+pub enum LocalEffect {
     /// Nothing.
-    Same,
+    Unchanged,
     /// The number found is the ring position whose monitor it loads next.
     Position,
     /// The number found is the monitor that it keeps from now on, and it has loaded its position.
@@ -38,9 +38,9 @@ pub enum Own {
     /// The monitor that it gave back stands in the ring.
     Enqueue,
     /// It keeps no monitor any more.
-    Spend,
+    DropClaim,
     /// The number found is the recursions that its wait saves.
-    Save,
+    SaveRecursions,
     /// It counts a verdict on the class, and a reset where there was one.
     CountVerdict {
         class: u32,
@@ -54,12 +54,12 @@ pub enum Own {
 /// One atomic step, and what it makes of its thread's knowledge where it hits.
 #[derive(Clone, Copy)]
 pub struct StepPlan {
-    pub at: Name,
+    pub at: WordId,
     pub act: Act,
-    pub note: Note,
-    pub own: Own,
+    pub note: LogEffect,
+    pub own: LocalEffect,
     /// The call that it is a step of.
-    pub task: Task,
+    pub task: HeapCall,
     /// The operation that is unfinished afterwards.
     pub after: Option<Unfinished>,
     /// Whether a check is unfinished afterwards.

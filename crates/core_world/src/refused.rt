@@ -6,13 +6,13 @@ ghost use Rattle.std.specs.List.{AllByRecursion};
 ghost use Rattle.mark_word.specs.declared.mark.MarkForm.TheVariants.{Neutral, Biased, Locked};
 ghost use Rattle.mark_word.specs.Mark.{mark_of};
 ghost use Rattle.core_world.specs.declared.act.Act.TheVariants.{Load};
-ghost use Rattle.core_world.specs.declared.name.Name.{Name};
-ghost use Rattle.core_world.specs.declared.name.Name.TheVariants.{Mark, Stamp, Hold, Displaced};
-ghost use Rattle.core_world.specs.declared.stage.Stage.TheVariants.{TakesOver, Revokes};
+ghost use Rattle.core_world.specs.declared.word_id.WordId.{WordId};
+ghost use Rattle.core_world.specs.declared.word_id.WordId.TheVariants.{Mark, Stamp, Hold, Displaced};
+ghost use Rattle.core_world.specs.declared.stage.Stage.TheVariants.{OwnerConverted, Revokes};
 ghost use Rattle.core_world.specs.Words.Names.{same_name, with_word};
 ghost use Rattle.core_world.specs.Words.Forms.{names, epoch_in, is_biased, is_deeper};
 ghost use Rattle.core_world.specs.Clauses.Draws.{all_draws};
-ghost use Rattle.core_world.specs.Threads.Known.{StepMade, last_seen};
+ghost use Rattle.core_world.specs.Threads.ThreadView.{StepMade, last_seen};
 ghost use Rattle.core_world.specs.World.{World, logs};
 ghost use Rattle.core_world.specs.Locks.{has_epoch, prototype_of, monitor_of, owner_at, hash_at};
 ghost use Rattle.plain_history.specs.HeldByLog.{HasLetGo};
@@ -69,7 +69,7 @@ pub fn no_hash_drawn_twice()
 /// A hold that the recursions would miss: a thread has stored itself as the owner in place of its own record, and not the recursions
 /// yet, while a record of it above depth 1 goes by the monitor.
 pub fn no_hold_by_the_monitor_before_its_recursions()
-    ensures { (w : World) (o t p : ℕ) → Valid w → (w.known t).stage ≡ TakesOver o
+    ensures { (w : World) (o t p : ℕ) → Valid w → (w.known t).stage ≡ OwnerConverted o
         → is_deeper o (w.words (Hold t p)) ≡ true
         → w.words (Displaced t p) ≡ 3 → ⊥ }
 {}
@@ -87,7 +87,7 @@ pub fn no_revocation_without_a_bias()
 /// A word changed at a safepoint: a thread whose safepoint is reached saw another word there than stands there now, or loaded two
 /// different words there, one right after the other; also where it revokes a bias.
 pub fn no_word_changed_at_a_safepoint()
-    ensures now { (w : World) (t n : ℕ) (at : Name) → Valid w → (w.known t).reached ≡ true
+    ensures now { (w : World) (t n : ℕ) (at : WordId) → Valid w → (w.known t).reached ≡ true
         → last_seen at (w.known t).seen_at_safepoint ≡ Some n
         → w.words at ≢ n → ⊥ }
     ensures before { (w : World) (t : ℕ) (a b : StepMade) (steps : List StepMade) → Valid w → (w.known t).reached ≡ true

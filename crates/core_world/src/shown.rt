@@ -3,7 +3,7 @@
 ghost use Rattle.std.specs.Prelude.{◌≡◌, ◌≢◌, ◌⊎◌, ℕ, true, false, List, Some, None};
 ghost use Rattle.plain_monitor.specs.Monitor.{is_listed, count_of};
 ghost use Rattle.plain_monitor.specs.Objects.{PlainObject};
-ghost use Rattle.core_world.specs.declared.name.Name.TheVariants.{Hold};
+ghost use Rattle.core_world.specs.declared.word_id.WordId.TheVariants.{Hold};
 ghost use Rattle.core_world.specs.declared.stage.Stage.TheVariants.{Waits};
 ghost use Rattle.core_world.specs.Words.Forms.{names};
 ghost use Rattle.core_world.specs.Threads.Stages.{bears, hold_words_ahead, revocation_in};

@@ -7,18 +7,18 @@ use plain_monitor::Path;
 #[derive(Clone, Copy)]
 pub enum Stage {
     /// Nothing is ahead or behind.
-    Calm,
+    Settled,
     /// It exchanged the object's neutral mark for its place, and hasn't stored the hold word.
-    Seizes {
+    RecordLocked {
         object: u32,
         place: u32,
     },
     /// It exchanged the free owner word of the object's monitor to enter, and hasn't stored the hold word.
-    Grabs {
+    MonitorAcquired {
         object: u32,
     },
     /// It has stored a bias to itself, by an exchange of the mark or in a bulk rebias, and hasn't stored the hold word.
-    Takes {
+    BiasAcquired {
         object: u32,
     },
     /// Its new hold word stands at this place, and the Enter, which will have this path, isn't logged.
@@ -41,15 +41,15 @@ pub enum Stage {
         object: u32,
     },
     /// It stored itself as the owner of the object's monitor, in place of its own record, and hasn't stored the recursions.
-    TakesOver {
+    OwnerConverted {
         object: u32,
     },
     /// The monitor's recursions count the hold that it is about to store.
-    Ahead {
+    RecursionsRaised {
         object: u32,
     },
     /// The monitor's recursions don't count the hold any more that it is about to clear.
-    Behind {
+    RecursionsLowered {
         object: u32,
     },
     /// It exchanged the object's mark, which named this lock record, for 0, and hasn't stored the inflated mark.

@@ -7,10 +7,10 @@ use Rattle.plain_monitor.specs.declared.entry.Logged.{Logged}
 use Rattle.plain_monitor.specs.declared.entry.Path.{Path}
 use Rattle.core_calls.specs.CallsSay.{has_none, is_full}
 use Rattle.core_world.specs.Words.Forms.{waits_on}
-use Rattle.core_world.specs.declared.answer.Turn.{Turn}
-use Rattle.core_world.specs.declared.answer.Turn.TheVariants.{Done, Pending}
-use Rattle.core_world.specs.declared.task.Op.{Op}
-use Rattle.core_world.specs.declared.task.Op.TheVariants as op
+use Rattle.core_world.specs.declared.answer.Progress.{Progress}
+use Rattle.core_world.specs.declared.answer.Progress.TheVariants.{Done, Pending}
+use Rattle.core_world.specs.declared.heap_call.Operation.{Operation}
+use Rattle.core_world.specs.declared.heap_call.Operation.TheVariants as op
 use Rattle.heap_table.specs.Kept.{all_holds}
 use Rattle.heap_table.specs.Resting.{start_now}
 use Rattle.heap_table.specs.Seen.{HeapSeen, PassSeen}
@@ -21,7 +21,7 @@ use Rattle.embed_example.specs.declared.Stop.TheVariants.{LogIsFull, TooDeep, Il
 use Rattle.embed_example.specs.Between.{IsFree, MayTry}
 
 -- the operation of the runtime
-abbrev pub op_of : Act → Op
+abbrev pub op_of : Act → Operation
 op_of Enter = op.Enter
 op_of Wait = op.Wait
 op_of Notify = op.Notify
@@ -44,7 +44,7 @@ IsLeft _ o e = ⊥
 abbrev pub entries : List Logged → List Entry
 entries log = map (λ (l : Logged). l.entry) log
 
--- the log of p, with such entries behind it, is that of q
+-- the log of p, with such entries after it, is that of q
 pub record HasAdded (P : List Entry → Type 0) (p q : PassSeen) : Type 0 where
   pub new : List Logged
   pub log : q.known.log ≡ p.known.log ++ new
@@ -73,7 +73,7 @@ IsRefused Exit h o p IllegalMonitorState = has_none (start_now h p) o ≡ true
 IsRefused _ h o p _ = ⊥
 
 -- One try. Done, any operation may follow; pending, this one goes on; refused, it is as before.
-abbrev pub Tried : Act → ℕ → HeapSeen → PassSeen → PassSeen → Result (Turn (Unit {0})) Stop → Type 0
+abbrev pub Tried : Act → ℕ → HeapSeen → PassSeen → PassSeen → Result (Progress (Unit {0})) Stop → Type 0
 Tried a o h p q (Ok (Done x)) = IsFree h q × HasAdded (IsDone a o) p q
 Tried a o h p q (Ok (Pending why)) = MayTry (op_of a) o h q × HasAdded (AllByRecursion (IsLeft a o)) p q
 Tried a o h p q (Err e) = MayTry (op_of a) o h q × (q.known.log ≡ p.known.log) × IsRefused a h o q e

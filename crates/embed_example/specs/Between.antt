@@ -1,7 +1,7 @@
 -- A thread between two calls: what of its pass lets the next call begin.
 use Rattle.std.specs.Prelude.{◌≡◌, ℕ, ◌≤◌, ◌&&◌, ◌||◌, true, false, None, is_none}
 use Rattle.plain_monitor.specs.Limits.{entries_for}
-use Rattle.core_world.specs.declared.task.Op.{Op}
+use Rattle.core_world.specs.declared.heap_call.Operation.{Operation}
 use Rattle.core_world.specs.Clauses.Lengths.{log_limit}
 use Rattle.core_world.specs.Clauses.Safepoints.{ends}
 use Rattle.core_world.specs.Trees.Operations.{goes_on_with}
@@ -31,7 +31,7 @@ pub record IsFree (h : HeapSeen) (p : PassSeen) : Type 0 where
   pub none : p.known.unfinished ≡ None
 
 -- This operation on o may begin, or go on: the thread runs, or has asked for a safepoint for it; and nothing else is unfinished.
-pub record MayTry (w : Op) (o : ℕ) (h : HeapSeen) (p : PassSeen) : Type 0 where
+pub record MayTry (w : Operation) (o : ℕ) (h : HeapSeen) (p : PassSeen) : Type 0 where
   pub live : IsLive h p
   pub stands : (p.known.running || (p.known.requesting && goes_on_with w o p.known.unfinished)) ≡ true
   pub free : (is_none p.known.unfinished || goes_on_with w o p.known.unfinished) ≡ true
@@ -42,7 +42,7 @@ pub record IsOver (h : HeapSeen) (p : PassSeen) : Type 0 where
   pub stopped : IsStopped p.known
   pub whole : p.limit ≡ h.room
 
--- The pass was p, and is q behind calls that log nothing, and leave what is unfinished so.
+-- The pass was p, and is q after calls that log nothing, and leave what is unfinished so.
 pub record IsBeside (h : HeapSeen) (p q : PassSeen) : Type 0 where
   pub rests : Rests h q
   pub log : q.known.log ≡ p.known.log

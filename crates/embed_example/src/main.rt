@@ -6,8 +6,8 @@
 #![tactic(auto)]
 
 ghost use Rattle.std.specs.Prelude.{◌≡◌, ℕ, ◌<◌, [], ◌∷◌, true, IfOk, IfErr, OnOk, OnErr};
-ghost use Rattle.core_world.specs.declared.task.Op.{Op};
-ghost use Rattle.core_world.specs.declared.task.Op.TheVariants as op;
+ghost use Rattle.core_world.specs.declared.heap_call.Operation.{Operation};
+ghost use Rattle.core_world.specs.declared.heap_call.Operation.TheVariants as op;
 ghost use Rattle.core_world.specs.Threads.References.{has_reference};
 ghost use Rattle.core_world.specs.Words.Forms.{waits_on};
 ghost use Rattle.embed_example.specs.declared.Act.TheVariants as act;
@@ -20,7 +20,7 @@ ghost use Rattle.plain_monitor.specs.declared.entry.Entry.TheVariants as entry;
 ghost use Rattle.embed_example.specs.Acts.{op_of, Tried, HasAdded, HasMade, IsGivenUp, IsNoEnd};
 ghost use Rattle.embed_example.specs.Between.{IsNew, IsFree, IsOver, MayTry, IsBeside};
 
-use core_world::{Turn, Why};
+use core_world::{PendingCause, Progress};
 use heap_table::{Closed, Heap, HeapShape, Pass, close, wait_of_word};
 use lawful_heap::new_heap;
 use lock_runtime as runtime;
@@ -98,9 +98,9 @@ pub fn set_running<R: Wait>(rt: &R, heap: &Heap, pass: &mut Pass) -> Result<(), 
 {
     for _ in rt.forever() {
         match runtime::resume(heap, pass) {
-            Turn::Done(()) => return Ok(()),
-            Turn::Pending(Why::Halted) => return Err(Stop::Halted),
-            Turn::Pending(_) => {}
+            Progress::Done(()) => return Ok(()),
+            Progress::Pending(PendingCause::Halted) => return Err(Stop::Halted),
+            Progress::Pending(_) => {}
         }
     }
     unreachable!()
@@ -110,14 +110,14 @@ pub fn set_running<R: Wait>(rt: &R, heap: &Heap, pass: &mut Pass) -> Result<(), 
 /// runs. One that doesn't run has asked for a safepoint itself, and goes on with its call.
 pub fn give_way<R: Wait>(rt: &R, heap: &Heap, pass: &mut Pass) -> Result<(), Stop>
     requires { Rests heap.now pass.old }
-    ensures may { OnOk result ((w : Op) (o : ℕ) → MayTry w o heap.now pass.old → MayTry w o heap.now pass.new) }
+    ensures may { OnOk result ((w : Operation) (o : ℕ) → MayTry w o heap.now pass.old → MayTry w o heap.now pass.new) }
     ensures beside { IsBeside heap.now pass.old pass.new }
     ensures halted { IfErr result (λ e. e ≡ stop.Halted) }
 {
     if !pass.running() {
         return Ok(());
     }
-    if let Turn::Done(()) = runtime::poll(heap, pass) {
+    if let Progress::Done(()) = runtime::poll(heap, pass) {
         return Ok(());
     }
     runtime::stop(heap, pass);
@@ -126,7 +126,7 @@ pub fn give_way<R: Wait>(rt: &R, heap: &Heap, pass: &mut Pass) -> Result<(), Sto
 }
 
 /// An enter logs one entry.
-pub fn enter(heap: &Heap, pass: &mut Pass, object: u32) -> Result<Turn<()>, Stop>
+pub fn enter(heap: &Heap, pass: &mut Pass, object: u32) -> Result<Progress<()>, Stop>
     requires object { has_reference heap.now.heap.shape pass.old.known object ≡ true }
     requires may { MayTry op.Enter object heap.now pass.old }
     ensures { Tried act.Enter object heap.now pass.old pass.new result }
@@ -135,14 +135,14 @@ pub fn enter(heap: &Heap, pass: &mut Pass, object: u32) -> Result<Turn<()>, Stop
         return Err(Stop::LogIsFull);
     }
     match runtime::enter(heap, pass, object, NOW) {
-        Ok(Turn::Done(_)) => Ok(Turn::Done(())),
-        Ok(Turn::Pending(why)) => Ok(Turn::Pending(why)),
+        Ok(Progress::Done(_)) => Ok(Progress::Done(())),
+        Ok(Progress::Pending(why)) => Ok(Progress::Pending(why)),
         Err(_) => Err(Stop::TooDeep),
     }
 }
 
 /// So does an exit.
-pub fn exit(heap: &Heap, pass: &mut Pass, object: u32) -> Result<Turn<()>, Stop>
+pub fn exit(heap: &Heap, pass: &mut Pass, object: u32) -> Result<Progress<()>, Stop>
     requires object { has_reference heap.now.heap.shape pass.old.known object ≡ true }
     requires may { MayTry op.Exit object heap.now pass.old }
     ensures { Tried act.Exit object heap.now pass.old pass.new result }
@@ -151,8 +151,8 @@ pub fn exit(heap: &Heap, pass: &mut Pass, object: u32) -> Result<Turn<()>, Stop>
         return Err(Stop::LogIsFull);
     }
     match runtime::exit(heap, pass, object) {
-        Ok(Turn::Done(())) => Ok(Turn::Done(())),
-        Ok(Turn::Pending(why)) => Ok(Turn::Pending(why)),
+        Ok(Progress::Done(())) => Ok(Progress::Done(())),
+        Ok(Progress::Pending(why)) => Ok(Progress::Pending(why)),
         Err(_) => Err(Stop::IllegalMonitorState),
     }
 }
@@ -171,7 +171,7 @@ fn waits_on(word: u64, object: u32) -> bool
 }
 
 /// A wait that begins asks for room for two entries, since it may end without having to be made again; one that has let go, for one.
-pub fn wait(heap: &Heap, pass: &mut Pass, object: u32) -> Result<Turn<()>, Stop>
+pub fn wait(heap: &Heap, pass: &mut Pass, object: u32) -> Result<Progress<()>, Stop>
     requires object { has_reference heap.now.heap.shape pass.old.known object ≡ true }
     requires may { MayTry op.Wait object heap.now pass.old }
     ensures { Tried act.Wait object heap.now pass.old pass.new result }
@@ -185,14 +185,14 @@ pub fn wait(heap: &Heap, pass: &mut Pass, object: u32) -> Result<Turn<()>, Stop>
         return Err(Stop::LogIsFull);
     }
     match runtime::wait(heap, pass, object, NOW) {
-        Ok(Turn::Done(())) => Ok(Turn::Done(())),
-        Ok(Turn::Pending(why)) => Ok(Turn::Pending(why)),
+        Ok(Progress::Done(())) => Ok(Progress::Done(())),
+        Ok(Progress::Pending(why)) => Ok(Progress::Pending(why)),
         Err(_) => Err(Stop::IllegalMonitorState),
     }
 }
 
 /// A notify answers whom it woke, which its entry says, too.
-pub fn notify(heap: &Heap, pass: &mut Pass, object: u32) -> Result<Turn<()>, Stop>
+pub fn notify(heap: &Heap, pass: &mut Pass, object: u32) -> Result<Progress<()>, Stop>
     requires object { has_reference heap.now.heap.shape pass.old.known object ≡ true }
     requires may { MayTry op.Notify object heap.now pass.old }
     ensures { Tried act.Notify object heap.now pass.old pass.new result }
@@ -201,14 +201,14 @@ pub fn notify(heap: &Heap, pass: &mut Pass, object: u32) -> Result<Turn<()>, Sto
         return Err(Stop::LogIsFull);
     }
     match runtime::notify(heap, pass, object, NOW) {
-        Ok(Turn::Done(_)) => Ok(Turn::Done(())),
-        Ok(Turn::Pending(why)) => Ok(Turn::Pending(why)),
+        Ok(Progress::Done(_)) => Ok(Progress::Done(())),
+        Ok(Progress::Pending(why)) => Ok(Progress::Pending(why)),
         Err(_) => Err(Stop::IllegalMonitorState),
     }
 }
 
 /// A hash is refused nobody.
-pub fn hash(heap: &Heap, pass: &mut Pass, object: u32) -> Result<Turn<()>, Stop>
+pub fn hash(heap: &Heap, pass: &mut Pass, object: u32) -> Result<Progress<()>, Stop>
     requires object { has_reference heap.now.heap.shape pass.old.known object ≡ true }
     requires may { MayTry op.Hash object heap.now pass.old }
     ensures { Tried act.Hash object heap.now pass.old pass.new result }
@@ -217,13 +217,13 @@ pub fn hash(heap: &Heap, pass: &mut Pass, object: u32) -> Result<Turn<()>, Stop>
         return Err(Stop::LogIsFull);
     }
     match runtime::hash(heap, pass, object, NOW) {
-        Turn::Done(_) => Ok(Turn::Done(())),
-        Turn::Pending(why) => Ok(Turn::Pending(why)),
+        Progress::Done(_) => Ok(Progress::Done(())),
+        Progress::Pending(why) => Ok(Progress::Pending(why)),
     }
 }
 
 /// One try.
-pub fn try_once(heap: &Heap, pass: &mut Pass, act: Act, object: u32) -> Result<Turn<()>, Stop>
+pub fn try_once(heap: &Heap, pass: &mut Pass, act: Act, object: u32) -> Result<Progress<()>, Stop>
     requires object { has_reference heap.now.heap.shape pass.old.known object ≡ true }
     requires may { MayTry (op_of act) object heap.now pass.old }
     ensures { Tried act object heap.now pass.old pass.new result }
@@ -253,8 +253,8 @@ pub fn make<R: Wait>(
 {
     for _ in rt.forever() {
         match try_once(heap, pass, act, object)? {
-            Turn::Done(()) => return Ok(()),
-            Turn::Pending(_) => give_way(rt, heap, pass)?,
+            Progress::Done(()) => return Ok(()),
+            Progress::Pending(_) => give_way(rt, heap, pass)?,
         }
     }
     unreachable!()

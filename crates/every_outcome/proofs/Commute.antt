@@ -1,17 +1,19 @@
 -- Entries that go alone commute with those of other threads.
-use Rattle.std.proofs.Common.{◌≡◌, ◌≢◌, ℕ, Bool, true, false, ◌==◌, List, slice_get, slice_set, slice_index_or, Option, Some, None, option_map, is_none, refl, sym, ap, ◌∙◌, subst, eqb-true, eq-eqb}
+use Rattle.std.proofs.Common.{◌≡◌, ◌≢◌, ℕ, Bool, true, false, ◌==◌, List, slice_get, slice_set, slice_index_or, Option}
+use Rattle.std.proofs.Common.{Some, None, option_map, is_none, refl, sym, ap, ◌∙◌, subst, eqb-true, eq-eqb}
 use Rattle.std.proofs.lemmas.Bool.{false≢true, true≢false, and_parts, and_from, not-true}
 use Rattle.std.proofs.lemmas.Option.{none-some, same_Some}
 use Rattle.plain_monitor.specs.declared.entry.Entry.{Entry}
-use Rattle.plain_monitor.specs.declared.entry.Entry.TheVariants.{Enter, Exit, Get, Put, Wait, Resume, Notify, NotifyAll, Hash, New, Print, Dump, Trap, Spent, Done}
+use Rattle.plain_monitor.specs.declared.entry.Entry.TheVariants.{Enter, Exit, Get, Put, Wait, Resume, Notify, NotifyAll}
+use Rattle.plain_monitor.specs.declared.entry.Entry.TheVariants.{Hash, New, Print, Dump, Trap, Spent, Done}
 use Rattle.plain_monitor.specs.Monitor.{PlainMonitor, only_if, is_thread, owns, count_of, resumed, enter, exit, wait, resume, notify, notify_all}
 use Rattle.plain_monitor.specs.Objects.{PlainObject, new_object, hashed, with_monitor, with_hash, take_at, take_named, take_entry, named}
-use Rattle.plain_machine.specs.declared.call.Asked.{Asked}
+use Rattle.plain_machine.specs.declared.monitor_call.NextEntry.{NextEntry}
 use Rattle.plain_machine.specs.Thread.{ThreadState}
-use Rattle.plain_machine.specs.Asking.{ask, fits, behind_entry}
+use Rattle.plain_machine.specs.Asking.{ask, fits, after_entry}
 use Rattle.plain_monitor.specs.Made.{creates}
 use Rattle.object_program.specs.Program.{numbering_of}
-use Rattle.plain_machine.specs.Machine.{PlainMachine, code_of, made_behind, take}
+use Rattle.plain_machine.specs.Machine.{PlainMachine, code_of, made_after_entry, take}
 use Rattle.plain_monitor.proofs.Lists.{get_set_same, get_set_other}
 use Rattle.machine_laws.proofs.ReachedAsked.{IsTakenAt, taken, taken_at}
 use Rattle.every_outcome.specs.Alone.{is_hash, own_among, goes_alone}
@@ -94,8 +96,8 @@ only_hashes x y t u o Done d own at takes = absurd (none-some o at)
 -- an object that took e of t, and then f of u, or the other way round
 pub record BothAt (x left right : PlainObject) (t u : ℕ) (e f : Entry) : Type 0 where
   pub z : PlainObject
-  pub behind_left : take_at left u f ≡ Some z
-  pub behind_right : take_at right t e ≡ Some z
+  pub after_left : take_at left u f ≡ Some z
+  pub after_right : take_at right t e ≡ Some z
   pub monitor : right.monitor ≡ x.monitor
 
 both_hash : (x left right : PlainObject) (t u k v : ℕ) (e : Entry) (w h : Option ℕ) (r : Option (Option ℕ)) → is_hash e ≡ false → take_at x t e ≡ Some left
@@ -107,8 +109,8 @@ both_hash x left right t u k v e w h (Some g) i takes at hash =
     let kept : left.hash ≡ x.hash = hash_kept x left t e i takes in
     record {
       z = record left { hash = g };
-      behind_left = ap (λ (q : Option ℕ). with_hash left (hashed q v)) kept ∙ ap (with_hash left) at;
-      behind_right = subst (λ (q : PlainObject). take_at q t e ≡ Some (record left { hash = g })) is (beside_some g x left t e i takes);
+      after_left = ap (λ (q : Option ℕ). with_hash left (hashed q v)) kept ∙ ap (with_hash left) at;
+      after_right = subst (λ (q : PlainObject). take_at q t e ≡ Some (record left { hash = g })) is (beside_some g x left t e i takes);
       monitor = ap (λ (q : PlainObject). q.monitor) (sym is);
     }
 
@@ -121,8 +123,8 @@ both_at x left right t u o e f d own i at takes takes2 = absurd (false≢true (o
 -- the same of all objects
 pub record BothIn (left right : List PlainObject) (t u : ℕ) (e f : Entry) : Type 0 where
   pub objects : List PlainObject
-  pub behind_left : take_entry left u f ≡ Some objects
-  pub behind_right : take_entry right t e ≡ Some objects
+  pub after_left : take_entry left u f ≡ Some objects
+  pub after_right : take_entry right t e ≡ Some objects
   pub alone : own_among right t e (named e) ≡ true
 
 alone_still : (right : List PlainObject) (t : ℕ) (e : Entry) (name : Option ℕ) → named e ≡ name → own_among right t e name ≡ true
@@ -155,8 +157,8 @@ both_named objects left right t u e f o q false d at at2 own differ k l =
     ap (λ (xs : List PlainObject). slice_get xs o) (sym l.is) ∙ get_set_other objects q o l.y (λ same. apart (sym same)) ∙ k.there in
     record {
       objects = slice_set left q l.y;
-      behind_left = as_named left (slice_set left q l.y) u f (Some q) at2 (takes_to left q u f l.x l.y there l.takes);
-      behind_right = as_named right (slice_set left q l.y) t e (Some o) at (takes_to right o t e k.x k.y there2 k.takes
+      after_left = as_named left (slice_set left q l.y) u f (Some q) at2 (takes_to left q u f l.x l.y there l.takes);
+      after_right = as_named right (slice_set left q l.y) t e (Some o) at (takes_to right o t e k.x k.y there2 k.takes
           ∙ ap (λ (xs : List PlainObject). Some (slice_set xs o k.y)) (sym l.is) ∙ ap Some (sym swap)
           ∙ ap (λ (xs : List PlainObject). Some (slice_set xs q l.y)) k.is);
       alone = alone_still right t e (Some o) at (and_from _ _ (ap (λ (z : PlainObject). owns z.monitor t) (read_at right o (new_object 0) k.x there2
@@ -175,10 +177,10 @@ both_named objects left right t u e f o q true d at at2 own same k l =
     let there2 : slice_get right q ≡ Some l.y = ap (λ (xs : List PlainObject). slice_get xs q) (sym l.is) ∙ get_set_same objects q l.x l.y l.there in
     record {
       objects = slice_set objects q both.z;
-      behind_left = as_named left _ u f (Some q) at2 (takes_to left q u f k.y both.z there both.behind_left
+      after_left = as_named left _ u f (Some q) at2 (takes_to left q u f k.y both.z there both.after_left
           ∙ ap (λ (xs : List PlainObject). Some (slice_set xs q both.z)) (sym left_is) ∙ ap Some (set_twice objects q k.y both.z));
-      behind_right = as_named right _ t e (Some o) at (subst (λ (i : ℕ). take_named right t e (Some i) ≡ Some (slice_set objects q both.z)) (sym here)
-          (takes_to right q t e l.y both.z there2 both.behind_right
+      after_right = as_named right _ t e (Some o) at (subst (λ (i : ℕ). take_named right t e (Some i) ≡ Some (slice_set objects q both.z)) (sym here)
+          (takes_to right q t e l.y both.z there2 both.after_right
           ∙ ap (λ (xs : List PlainObject). Some (slice_set xs q both.z)) (sym l.is) ∙ ap Some (set_twice objects q l.y both.z)));
       alone = alone_still right t e (Some o) at (and_from _ _ (subst (λ (i : ℕ). owns (slice_index_or right i (new_object 0)).monitor t ≡ true) (sym here)
           (subst (λ (xs : List PlainObject). owns (slice_index_or xs q (new_object 0)).monitor t ≡ true) l.is
@@ -192,16 +194,16 @@ both_by objects left right t u e f None r d at at2 own takes takes2 =
     let same : objects ≡ left = same_Some objects left takes in
     record {
       objects = right;
-      behind_left = as_named left right u f r at2 (subst (λ (xs : List PlainObject). take_named xs u f r ≡ Some right) same takes2);
-      behind_right = as_named right right t e None at refl;
+      after_left = as_named left right u f r at2 (subst (λ (xs : List PlainObject). take_named xs u f r ≡ Some right) same takes2);
+      after_right = as_named right right t e None at refl;
       alone = alone_still right t e None at refl;
     }
 both_by objects left right t u e f (Some o) None d at at2 own takes takes2 =
     let same : objects ≡ right = same_Some objects right takes2 in
     record {
       objects = left;
-      behind_left = as_named left left u f None at2 refl;
-      behind_right = as_named right left t e (Some o) at (subst (λ (xs : List PlainObject). take_named xs t e (Some o) ≡ Some left) same takes);
+      after_left = as_named left left u f None at2 refl;
+      after_right = as_named right left t e (Some o) at (subst (λ (xs : List PlainObject). take_named xs t e (Some o) ≡ Some left) same takes);
       alone = alone_still right t e (Some o) at (subst (λ (xs : List PlainObject). own_among xs t e (Some o) ≡ true) same own);
     }
 both_by objects left right t u e f (Some o) (Some q) d at at2 own takes takes2 =
@@ -212,16 +214,16 @@ abbrev pub moved_on : PlainMachine → ℕ → ThreadState → List (List ℕ) �
 moved_on m t s made objects = record m { objects = objects; made = made; threads = slice_set m.threads t s }
 
 -- the machine takes what its thread asks for, where each object that it needs is there and the objects take it
-pub takes_from : (m : PlainMachine) (t : ℕ) (e : Entry) (s : ThreadState) (a : Asked) (made : List (List ℕ)) (objects : List PlainObject)
-    → slice_get m.threads t ≡ Some s → ask s ≡ Some a → fits a e ≡ true → made_behind m t e ≡ Some made → take_entry m.objects t e ≡ Some objects
-    → take m t e ≡ Some (moved_on m t (behind_entry m.program (code_of m.program t) s a e) made objects)
+pub takes_from : (m : PlainMachine) (t : ℕ) (e : Entry) (s : ThreadState) (a : NextEntry) (made : List (List ℕ)) (objects : List PlainObject)
+    → slice_get m.threads t ≡ Some s → ask s ≡ Some a → fits a e ≡ true → made_after_entry m t e ≡ Some made → take_entry m.objects t e ≡ Some objects
+    → take m t e ≡ Some (moved_on m t (after_entry m.program (code_of m.program t) s a e) made objects)
 takes_from m t e s a made objects at asks fit makes takes = rw (at, asks, fit, makes, takes) refl
 
--- one machine is behind both, whichever goes first
+-- one machine comes after both, whichever goes first
 pub record Commutes (a b : PlainMachine) (t u : ℕ) (e f : Entry) : Type 0 where
   pub machine : PlainMachine
-  pub behind_a : take a u f ≡ Some machine
-  pub behind_b : take b t e ≡ Some machine
+  pub after_a : take a u f ≡ Some machine
+  pub after_b : take b t e ≡ Some machine
   pub alone : goes_alone b t e ≡ true
 
 pub commutes : (m a b : PlainMachine) (t u : ℕ) (e f : Entry) → t ≢ u → goes_alone m t e ≡ true → take m t e ≡ Some a → take m u f ≡ Some b
@@ -230,23 +232,23 @@ commutes m a b t u e f d own takes takes2 =
     let k = taken m t e a takes in
     let l = taken m u f b takes2 in
     let both = both_by m.objects k.objects l.objects t u e f (named e) (named f) d refl refl own k.takes l.takes in
-    let news = both_made (numbering_of m.program) m.made k.behind l.behind t u e f (creates e) (creates f) d k.makes l.makes in
-    let s2 = behind_entry m.program (code_of m.program t) k.s k.asked e in
-    let v2 = behind_entry m.program (code_of m.program u) l.s l.asked f in
-    let one = moved_on m t s2 k.behind k.objects in
-    let other = moved_on m u v2 l.behind l.objects in
+    let news = both_made (numbering_of m.program) m.made k.made_then l.made_then t u e f (creates e) (creates f) d k.makes l.makes in
+    let s2 = after_entry m.program (code_of m.program t) k.s k.asked e in
+    let v2 = after_entry m.program (code_of m.program u) l.s l.asked f in
+    let one = moved_on m t s2 k.made_then k.objects in
+    let other = moved_on m u v2 l.made_then l.objects in
     let last = moved_on one u v2 news.made both.objects in
     let first : take one u f ≡ Some last =
-    takes_from one u f l.s l.asked news.made both.objects (get_set_other m.threads t u s2 d ∙ l.at) l.asks l.fit news.behind_left both.behind_left in
+    takes_from one u f l.s l.asked news.made both.objects (get_set_other m.threads t u s2 d ∙ l.at) l.asks l.fit news.after_left both.after_left in
     let second : take other t e ≡ Some (moved_on other t s2 news.made both.objects) =
     takes_from other t e k.s k.asked news.made both.objects (get_set_other m.threads u t v2 (λ same. d (sym same)) ∙ k.at) k.asks k.fit
-    news.behind_right both.behind_right in
+    news.after_right both.after_right in
     let same : moved_on other t s2 news.made both.objects ≡ last =
     ap (λ (threads : List ThreadState). record m { objects = both.objects; made = news.made; threads = threads })
     (sym (sets_commute m.threads t u s2 v2 d)) in
     record {
       machine = last;
-      behind_a = subst (λ (z : PlainMachine). take z u f ≡ Some last) k.is first;
-      behind_b = subst (λ (z : PlainMachine). take z t e ≡ Some last) l.is (second ∙ ap Some same);
+      after_a = subst (λ (z : PlainMachine). take z u f ≡ Some last) k.is first;
+      after_b = subst (λ (z : PlainMachine). take z t e ≡ Some last) l.is (second ∙ ap Some same);
       alone = subst (λ (z : PlainMachine). goes_alone z t e ≡ true) l.is both.alone;
     }

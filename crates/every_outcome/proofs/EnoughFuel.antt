@@ -1,5 +1,6 @@
 -- What is found with the fuel given back is found with enough fuel.
-use Rattle.std.proofs.Common.{◌≡◌, ℕ, zero, suc, ◌+◌, ◌-◌, ◌*◌, ◌≤◌, Bool, true, false, List, [], ◌∷◌, length, map, slice_get, slice_set, Some, refl, sym, ap, ◌∙◌, subst, arith}
+use Rattle.std.proofs.Common.{◌≡◌, ℕ, zero, suc, ◌+◌, ◌-◌, ◌*◌, ◌≤◌, Bool, true, false, List, [], ◌∷◌}
+use Rattle.std.proofs.Common.{length, map, slice_get, slice_set, Some, refl, sym, ap, ◌∙◌, subst, arith}
 use Rattle.std.proofs.lemmas.Bool.{true≢false}
 use Rattle.std.proofs.lemmas.Option.{none-some, same_Some}
 use Rattle.plain_monitor.specs.declared.entry.Ending.TheVariants.{Done}
@@ -9,17 +10,17 @@ use Rattle.plain_monitor.proofs.Lists.{get_set_same}
 use Rattle.object_program.specs.declared.program.Code.{Code}
 use Rattle.object_program.specs.declared.program.ThreadDef.{ThreadDef}
 use Rattle.object_program.specs.Program.{ProgramText}
-use Rattle.plain_machine.specs.declared.call.Call.{Call}
-use Rattle.plain_machine.specs.declared.call.Call.TheVariants as call
-use Rattle.plain_machine.specs.declared.call.Mode.{Mode}
-use Rattle.plain_machine.specs.declared.call.Mode.TheVariants.{Unwinding}
-use Rattle.plain_machine.specs.declared.call.Asked.{Asked}
-use Rattle.plain_machine.specs.declared.call.Asked.TheVariants as asked
-use Rattle.plain_machine.specs.Thread.{ThreadState, Step, Goes, Calls, Stops, behind, step_of}
+use Rattle.plain_machine.specs.declared.monitor_call.MonitorCall.{MonitorCall}
+use Rattle.plain_machine.specs.declared.monitor_call.MonitorCall.TheVariants as call
+use Rattle.plain_machine.specs.declared.monitor_call.Mode.{Mode}
+use Rattle.plain_machine.specs.declared.monitor_call.Mode.TheVariants.{Unwinding}
+use Rattle.plain_machine.specs.declared.monitor_call.NextEntry.{NextEntry}
+use Rattle.plain_machine.specs.declared.monitor_call.NextEntry.TheVariants as asked
+use Rattle.plain_machine.specs.Thread.{ThreadState, Step, Goes, Calls, Stops, past, step_of}
 use Rattle.plain_machine.specs.Running.{instruction_at, run_on, first_state}
-use Rattle.plain_machine.specs.Asking.{ask, answered, behind_call, behind_entry}
+use Rattle.plain_machine.specs.Asking.{ask, answered, after_call, after_entry}
 use Rattle.plain_machine.specs.Machine.{PlainMachine, new_machine, code_of, take}
-use Rattle.plain_machine.specs.Legal.{behind_all}
+use Rattle.plain_machine.specs.Legal.{after_all}
 use Rattle.machine_laws.specs.Reached.{AtEach}
 use Rattle.machine_laws.proofs.ReachedLists.{each_set}
 use Rattle.machine_laws.proofs.ReachedAsked.{taken}
@@ -46,23 +47,23 @@ run_left (suc n) d g md p c s h = go (step_of p s (instruction_at c s.place)) re
     go (Calls k) e ih = rw (more, step_same g md p s (instruction_at c s.place), e) (omega arith)
     go (Stops x) e ih = rw (more, step_same g md p s (instruction_at c s.place), e) (omega arith)
 
-runs_left : (g : ℕ) (p : ProgramText) (i : List Code) (s : ThreadState) (c : Call) (e : Entry) → s.fuel ≤ g → 1 ≤ s.fuel
-    → is_spent (run_on p i (s.fuel - 1) (behind (answered s c e))).mode ≡ false
-    → g ≤ (run_on p i (g - 1) (behind (answered (with_fuel g s) c e))).fuel + s.fuel
+runs_left : (g : ℕ) (p : ProgramText) (i : List Code) (s : ThreadState) (c : MonitorCall) (e : Entry) → s.fuel ≤ g → 1 ≤ s.fuel
+    → is_spent (run_on p i (s.fuel - 1) (past (answered s c e))).mode ≡ false
+    → g ≤ (run_on p i (g - 1) (past (answered (with_fuel g s) c e))).fuel + s.fuel
 runs_left g p i s c e few some h =
     let d : ℕ = (g - 1) - (s.fuel - 1) in
     let more : g - 1 ≡ (s.fuel - 1) + d = omega (arith, few) in
-    let left : d ≤ (run_on p i ((s.fuel - 1) + d) (with_fuel g (behind (answered s c e)))).fuel =
-    run_left (s.fuel - 1) d g (answered s c e).mode p i (behind (answered s c e)) h in
+    let left : d ≤ (run_on p i ((s.fuel - 1) + d) (with_fuel g (past (answered s c e)))).fuel =
+    run_left (s.fuel - 1) d g (answered s c e).mode p i (past (answered s c e)) h in
     rw (answered_with g s c e, more) (omega (arith, left, few, some))
 
-call_left : (g : ℕ) (p : ProgramText) (i : List Code) (s : ThreadState) (c : Call) (e : Entry) → s.fuel ≤ g → 1 ≤ s.fuel
-    → is_spent (behind_call p i s c e).mode ≡ false → g ≤ (behind_call p i (with_fuel g s) c e).fuel + s.fuel
+call_left : (g : ℕ) (p : ProgramText) (i : List Code) (s : ThreadState) (c : MonitorCall) (e : Entry) → s.fuel ≤ g → 1 ≤ s.fuel
+    → is_spent (after_call p i s c e).mode ≡ false → g ≤ (after_call p i (with_fuel g s) c e).fuel + s.fuel
 call_left g p i s (call.Wait o) e few some h = omega (arith, some)
 call_left g p i s c e few some h = runs_left g p i s c e few some h
 
-entry_left : (g : ℕ) (p : ProgramText) (i : List Code) (s : ThreadState) (a : Asked) (e : Entry) → s.fuel ≤ g → 1 ≤ s.fuel
-    → is_spent (behind_entry p i s a e).mode ≡ false → g ≤ (behind_entry p i (with_fuel g s) a e).fuel + s.fuel
+entry_left : (g : ℕ) (p : ProgramText) (i : List Code) (s : ThreadState) (a : NextEntry) (e : Entry) → s.fuel ≤ g → 1 ≤ s.fuel
+    → is_spent (after_entry p i s a e).mode ≡ false → g ≤ (after_entry p i (with_fuel g s) a e).fuel + s.fuel
 entry_left g p i s (asked.Calls c) e few some h = call_left g p i s c e few some h
 entry_left g p i s (asked.Resumes o) e few some h =
     let d : ℕ = g - s.fuel in
@@ -96,25 +97,25 @@ steps_up least top m b t e some above takes alive =
     let u = get_unmap w m.threads t k.s k.at in
     let i = code_of m.program t in
     let asks : ask u.0 ≡ Some k.asked = sym (ask_full top u.0) ∙ ap ask u.2 ∙ k.asks in
-    let n2 = behind_entry m.program i u.0 k.asked e in
-    let b2 = behind_entry m.program i (with_fuel top u.0) k.asked e in
-    let is : moved_on (refuelled top m) t b2 k.behind k.objects ≡ b =
-    ap (λ (s : ThreadState). moved_on (refuelled top m) t (behind_entry m.program i s k.asked e) k.behind k.objects) u.2 ∙ k.is in
+    let n2 = after_entry m.program i u.0 k.asked e in
+    let b2 = after_entry m.program i (with_fuel top u.0) k.asked e in
+    let is : moved_on (refuelled top m) t b2 k.made_then k.objects ≡ b =
+    ap (λ (s : ThreadState). moved_on (refuelled top m) t (after_entry m.program i s k.asked e) k.made_then k.objects) u.2 ∙ k.is in
     let unspent : is_spent b2.mode ≡ false =
     lives b2 (is_spent b2.mode) refl
     (λ h. alive (subst HasSpent is (record { thread = t; state = b2; at = get_set_same (map w m.threads) t k.s b2 k.at; spent = h }))) in
     let rich : least + top ≤ u.0.fuel = above t u.0 u.1 in
     let ends : with_fuel top n2 ≡ with_fuel top b2 = ap w (entry_more u.0.fuel m.program i (with_fuel top u.0) k.asked e (omega (arith, rich)) unspent) in
     let left : u.0.fuel ≤ n2.fuel + top = entry_left u.0.fuel m.program i (with_fuel top u.0) k.asked e (omega (arith, rich)) some unspent in
-    let n = moved_on m t n2 k.behind k.objects in
+    let n = moved_on m t n2 k.made_then k.objects in
     let one : map w (slice_set m.threads t n2) ≡ slice_set (map w m.threads) t (w n2) = map_set w m.threads t n2 in
     let two : map w (slice_set (map w m.threads) t b2) ≡ slice_set (map w m.threads) t (w b2) =
     map_set w (map w m.threads) t b2 ∙ ap (λ (xs : List ThreadState). slice_set xs t (w b2)) (full_twice top m.threads) in
     let threads : map w (slice_set m.threads t n2) ≡ map w (slice_set (map w m.threads) t b2) = one ∙ ap (slice_set (map w m.threads) t) ends ∙ sym two in
     record {
       machine = n;
-      takes = takes_from m t e u.0 k.asked k.behind k.objects u.1 asks k.fit k.makes k.takes;
-      same = ap (λ (xs : List ThreadState). record m { objects = k.objects; made = k.behind; threads = xs }) threads ∙ ap (refuelled top) is;
+      takes = takes_from m t e u.0 k.asked k.made_then k.objects u.1 asks k.fit k.makes k.takes;
+      same = ap (λ (xs : List ThreadState). record m { objects = k.objects; made = k.made_then; threads = xs }) threads ∙ ap (refuelled top) is;
       above =
           each_set (λ (t : ℕ) (s : ThreadState). least ≤ s.fuel) m.threads t u.0 n2 u.1 (omega (arith, left, rich))
           (λ j z other at. let r : least + top ≤ z.fuel = above j z at in omega (arith, r));
@@ -122,7 +123,7 @@ steps_up least top m b t e some above takes alive =
 
 pub record IsReal (top : ℕ) (m r : PlainMachine) (xs : List (ℕ × Logged)) : Type 0 where
   pub machine : PlainMachine
-  pub leads : behind_all m xs ≡ Some machine
+  pub leads : after_all m xs ≡ Some machine
   pub same : refuelled top machine ≡ r
 
 real : (xs : List (ℕ × Logged)) (top : ℕ) (m q r : PlainMachine) → 1 ≤ top → refuelled top m ≡ q → IsAbove (length xs * top) m → LeadsFull top q xs r

@@ -1,5 +1,6 @@
 -- A list that is closed where all threads get their fuel back has every end of every run with less fuel, up to the fuel.
-use Rattle.std.proofs.Common.{◌≡◌, ◌≢◌, ◌⊎◌, inl, inr, ℕ, zero, suc, ◌+◌, ◌-◌, ◌≤◌, ◌==◌, Bool, true, false, List, [], ◌∷◌, length, map, replicate, slice_get, slice_set, Some, refl, sym, ap, ◌∙◌, subst, eqb-true, eq-eqb, arith}
+use Rattle.std.proofs.Common.{◌≡◌, ◌≢◌, ◌⊎◌, inl, inr, ℕ, zero, suc, ◌+◌, ◌-◌, ◌≤◌, ◌==◌, Bool, true, false, List, [], ◌∷◌, length}
+use Rattle.std.proofs.Common.{map, replicate, slice_get, slice_set, Some, refl, sym, ap, ◌∙◌, subst, eqb-true, eq-eqb, arith}
 use Rattle.std.proofs.lemmas.Bool.{false≢true}
 use Rattle.std.proofs.lemmas.Option.{same_Some}
 use Rattle.plain_monitor.specs.declared.entry.Value.TheVariants.{Nil}
@@ -11,11 +12,11 @@ use Rattle.plain_monitor.proofs.Lists.{get_set_same, get_set_other}
 use Rattle.object_program.specs.declared.program.ThreadDef.{ThreadDef}
 use Rattle.object_program.specs.Program.{ProgramText, objects_total}
 use Rattle.object_program.specs.Valid.{IsProgram}
-use Rattle.plain_machine.specs.declared.call.Mode.{Mode}
-use Rattle.plain_machine.specs.declared.call.Mode.TheVariants.{Calling, Waiting, Unwinding, Ended}
+use Rattle.plain_machine.specs.declared.monitor_call.Mode.{Mode}
+use Rattle.plain_machine.specs.declared.monitor_call.Mode.TheVariants.{Calling, Waiting, Unwinding, Ended}
 use Rattle.plain_machine.specs.Thread.{ThreadState}
 use Rattle.plain_machine.specs.Running.{first_state, run_on}
-use Rattle.plain_machine.specs.Asking.{ask, behind_entry}
+use Rattle.plain_machine.specs.Asking.{ask, after_entry}
 use Rattle.plain_machine.specs.Machine.{PlainMachine, new_machine, code_of, take}
 use Rattle.plain_machine.specs.Legal.{machine_after}
 use Rattle.machine_laws.specs.Reached.{AtEach}
@@ -40,21 +41,21 @@ full_twice top (x ∷ xs) = ap (λ (zs : List ThreadState). with_fuel top x ∷ 
 abbrev pub IsBelow : ℕ → PlainMachine → Type 0
 IsBelow top m = AtEach (λ (t : ℕ) (s : ThreadState). s.fuel ≤ top) m.threads
 
-below_behind : (top : ℕ) (m n : PlainMachine) (t : ℕ) (e : Entry) → IsBelow top m → take m t e ≡ Some n → IsBelow top n
-below_behind top m n t e below takes =
+below_after : (top : ℕ) (m n : PlainMachine) (t : ℕ) (e : Entry) → IsBelow top m → take m t e ≡ Some n → IsBelow top n
+below_after top m n t e below takes =
     let k = taken m t e n takes in
-    let s2 = behind_entry m.program (code_of m.program t) k.s k.asked e in
+    let s2 = after_entry m.program (code_of m.program t) k.s k.asked e in
     let less : s2.fuel ≤ k.s.fuel = entry_fuel m.program (code_of m.program t) k.s k.asked e in
     subst (IsBelow top) k.is
     (each_set (λ (t : ℕ) (s : ThreadState). s.fuel ≤ top) m.threads t k.s s2 k.at (omega (arith, less, below t k.s k.at)) (λ j z other at. below j z at))
 
-pub spent_behind : (m n : PlainMachine) (t : ℕ) (e : Entry) → HasSpent m → take m t e ≡ Some n → HasSpent n
-spent_behind m n t e spent takes = go (t == spent.thread) refl
+pub spent_after : (m n : PlainMachine) (t : ℕ) (e : Entry) → HasSpent m → take m t e ≡ Some n → HasSpent n
+spent_after m n t e spent takes = go (t == spent.thread) refl
   where
     go : (b : Bool) → (t == spent.thread) ≡ b → HasSpent n
     go true same =
         let k = taken m t e n takes in
-        let s2 = behind_entry m.program (code_of m.program t) k.s k.asked e in
+        let s2 = after_entry m.program (code_of m.program t) k.s k.asked e in
         let here : slice_get m.threads t ≡ Some spent.state =
         subst (λ (u : ℕ). slice_get m.threads u ≡ Some spent.state) (sym (eqb-true t spent.thread same)) spent.at in
         let is : spent.state ≡ k.s = same_Some spent.state k.s (sym here ∙ k.at) in
@@ -63,7 +64,7 @@ spent_behind m n t e spent takes = go (t == spent.thread) refl
         subst HasSpent k.is (record { thread = t; state = s2; at = get_set_same m.threads t k.s s2 k.at; spent = stays })
     go false differ =
         let k = taken m t e n takes in
-        let s2 = behind_entry m.program (code_of m.program t) k.s k.asked e in
+        let s2 = after_entry m.program (code_of m.program t) k.s k.asked e in
         let apart : t ≢ spent.thread = λ same. false≢true (sym differ ∙ subst (λ (u : ℕ). (t == u) ≡ true) same (eq-eqb t t refl)) in
         subst HasSpent k.is
         (record { thread = spent.thread; state = spent.state; at = get_set_other m.threads t spent.thread s2 apart ∙ spent.at; spent = spent.spent })
@@ -88,23 +89,23 @@ goes_full : (top : ℕ) (m n : PlainMachine) (t : ℕ) (e : Entry) → IsBelow t
 goes_full top m n t e below takes =
     let k = taken m t e n takes in
     let i = code_of m.program t in
-    let s2 = behind_entry m.program i k.s k.asked e in
-    let f2 = behind_entry m.program i (with_fuel top k.s) k.asked e in
-    let full : take (refuelled top m) t e ≡ Some (moved_on (refuelled top m) t f2 k.behind k.objects) =
-    takes_from (refuelled top m) t e (with_fuel top k.s) k.asked k.behind k.objects (get_map (λ s. with_fuel top s) m.threads t k.s k.at)
+    let s2 = after_entry m.program i k.s k.asked e in
+    let f2 = after_entry m.program i (with_fuel top k.s) k.asked e in
+    let full : take (refuelled top m) t e ≡ Some (moved_on (refuelled top m) t f2 k.made_then k.objects) =
+    takes_from (refuelled top m) t e (with_fuel top k.s) k.asked k.made_then k.objects (get_map (λ s. with_fuel top s) m.threads t k.s k.at)
     (ask_full top k.s ∙ k.asks) k.fit k.makes k.takes in
-    record { machine = moved_on (refuelled top m) t f2 k.behind k.objects; takes = full; same = go k s2 f2 refl refl (is_spent s2.mode) refl }
+    record { machine = moved_on (refuelled top m) t f2 k.made_then k.objects; takes = full; same = go k s2 f2 refl refl (is_spent s2.mode) refl }
   where
-    go : (k : IsTaken m t e n) (s2 f2 : ThreadState) → s2 ≡ behind_entry m.program (code_of m.program t) k.s k.asked e
-        → f2 ≡ behind_entry m.program (code_of m.program t) (with_fuel top k.s) k.asked e
-        → (b : Bool) → is_spent s2.mode ≡ b → HasSpent n ⊎ (refuelled top n ≡ refuelled top (moved_on (refuelled top m) t f2 k.behind k.objects))
+    go : (k : IsTaken m t e n) (s2 f2 : ThreadState) → s2 ≡ after_entry m.program (code_of m.program t) k.s k.asked e
+        → f2 ≡ after_entry m.program (code_of m.program t) (with_fuel top k.s) k.asked e
+        → (b : Bool) → is_spent s2.mode ≡ b → HasSpent n ⊎ (refuelled top n ≡ refuelled top (moved_on (refuelled top m) t f2 k.made_then k.objects))
     go k s2 f2 is is2 true spent =
-        let next : moved_on m t s2 k.behind k.objects ≡ n = ap (λ (s : ThreadState). moved_on m t s k.behind k.objects) is ∙ k.is in
+        let next : moved_on m t s2 k.made_then k.objects ≡ n = ap (λ (s : ThreadState). moved_on m t s k.made_then k.objects) is ∙ k.is in
         inl (subst HasSpent next (record { thread = t; state = s2; at = get_set_same m.threads t k.s s2 k.at; spent = spent }))
     go k s2 f2 is is2 false alive =
         let i = code_of m.program t in
         let w : ThreadState → ThreadState = λ s. with_fuel top s in
-        let same : with_fuel top (behind_entry m.program i (with_fuel top k.s) k.asked e) ≡ with_fuel top (behind_entry m.program i k.s k.asked e) =
+        let same : with_fuel top (after_entry m.program i (with_fuel top k.s) k.asked e) ≡ with_fuel top (after_entry m.program i k.s k.asked e) =
         entry_more top m.program i k.s k.asked e (below t k.s k.at) (ap (λ (s : ThreadState). is_spent s.mode) (sym is) ∙ alive) in
         let ends : with_fuel top s2 ≡ with_fuel top f2 = ap w is ∙ sym same ∙ ap w (sym is2) in
         let left : map w (slice_set m.threads t s2) ≡ slice_set (map w m.threads) t (w s2) = map_set w m.threads t s2 in
@@ -112,8 +113,8 @@ goes_full top m n t e below takes =
         map_set w (map w m.threads) t f2 ∙ ap (λ (xs : List ThreadState). slice_set xs t (w f2)) (full_twice top m.threads) in
         let threads : map w (slice_set m.threads t s2) ≡ map w (slice_set (map w m.threads) t f2) =
         left ∙ ap (slice_set (map w m.threads) t) ends ∙ sym right in
-        let next : moved_on m t s2 k.behind k.objects ≡ n = ap (λ (s : ThreadState). moved_on m t s k.behind k.objects) is ∙ k.is in
-        inr (ap (refuelled top) (sym next) ∙ ap (λ (xs : List ThreadState). record m { objects = k.objects; made = k.behind; threads = xs }) threads)
+        let next : moved_on m t s2 k.made_then k.objects ≡ n = ap (λ (s : ThreadState). moved_on m t s k.made_then k.objects) is ∙ k.is in
+        inr (ap (refuelled top) (sym next) ∙ ap (λ (xs : List ThreadState). record m { objects = k.objects; made = k.made_then; threads = xs }) threads)
 
 -- and what it takes with all its fuel it takes with less
 pub record GoesLess (top : ℕ) (m b : PlainMachine) (t : ℕ) (e : Entry) : Type 0 where
@@ -126,8 +127,8 @@ goes_less top m b t e below takes =
     let k = taken (refuelled top m) t e b takes in
     let u = get_unmap (λ s. with_fuel top s) m.threads t k.s k.at in
     let asks : ask u.0 ≡ Some k.asked = sym (ask_full top u.0) ∙ ap ask u.2 ∙ k.asks in
-    let n = moved_on m t (behind_entry m.program (code_of m.program t) u.0 k.asked e) k.behind k.objects in
-    let less : take m t e ≡ Some n = takes_from m t e u.0 k.asked k.behind k.objects u.1 asks k.fit k.makes k.takes in
+    let n = moved_on m t (after_entry m.program (code_of m.program t) u.0 k.asked e) k.made_then k.objects in
+    let less : take m t e ≡ Some n = takes_from m t e u.0 k.asked k.made_then k.objects u.1 asks k.fit k.makes k.takes in
     let full = goes_full top m n t e below less in
     let is : full.machine ≡ b = same_Some full.machine b (sym full.takes ∙ takes) in
     record { machine = n; takes = less; same = subst (λ (z : PlainMachine). HasSpent n ⊎ (refuelled top n ≡ refuelled top z)) is full.same }
@@ -163,7 +164,7 @@ lifted (x ∷ xs) top seen n q to below is alone here =
     let own : goes_alone n x.0 x.1 ≡ true = subst (λ (z : PlainMachine). goes_alone z x.0 x.1 ≡ true) (sym is) alone.1 in
     let full : take (refuelled top n) x.0 x.1 ≡ Some alone.0 = subst (λ (z : PlainMachine). take z x.0 x.1 ≡ Some alone.0) (sym is) alone.2 in
     let l = goes_less top n alone.0 x.0 x.1 below full in
-    go l own (below_behind top n l.machine x.0 x.1 below l.takes) l.same (λ b same. lifted xs top seen l.machine (refuelled top alone.0) to b same alone.3 here)
+    go l own (below_after top n l.machine x.0 x.1 below l.takes) l.same (λ b same. lifted xs top seen l.machine (refuelled top alone.0) to b same alone.3 here)
   where
     go : (l : GoesLess top n alone.0 x.0 x.1) → goes_alone n x.0 x.1 ≡ true → IsBelow top l.machine
         → HasSpent l.machine ⊎ (refuelled top l.machine ≡ refuelled top alone.0)
@@ -178,19 +179,19 @@ closed_known : (p : ProgramText) (top : ℕ) (seen : List PlainMachine) → IsCl
 closed_known p top seen closed m n t e h takes = go h.known
   where
     b : IsBelow top n
-    b = below_behind top m n t e h.below takes
+    b = below_after top m n t e h.below takes
 
-    behind : (f : GoesFull top m n t e) → refuelled top n ≡ refuelled top f.machine → HasSpent f.machine ⊎ IsCoveredFull top seen (refuelled top f.machine)
+    goes_on : (f : GoesFull top m n t e) → refuelled top n ≡ refuelled top f.machine → HasSpent f.machine ⊎ IsCoveredFull top seen (refuelled top f.machine)
         → IsCoveredKnown top seen n
-    behind f is (inl spent) = at_once top seen n (record { below = b; known = inl (spent_same top f.machine n is spent) })
-    behind f is (inr c) = lifted c.entries top seen n (refuelled top f.machine) c.machine b is c.alone c.is_seen
+    goes_on f is (inl spent) = at_once top seen n (record { below = b; known = inl (spent_same top f.machine n is spent) })
+    goes_on f is (inr c) = lifted c.entries top seen n (refuelled top f.machine) c.machine b is c.alone c.is_seen
 
     same : (f : GoesFull top m n t e) → IsSeen seen (refuelled top m) → HasSpent n ⊎ (refuelled top n ≡ refuelled top f.machine) → IsCoveredKnown top seen n
     same f here (inl spent) = at_once top seen n (record { below = b; known = inl spent })
-    same f here (inr is) = behind f is (closed.next (refuelled top m) f.machine t e here f.takes)
+    same f here (inr is) = goes_on f is (closed.next (refuelled top m) f.machine t e here f.takes)
 
     go : HasSpent m ⊎ IsSeen seen (refuelled top m) → IsCoveredKnown top seen n
-    go (inl spent) = at_once top seen n (record { below = b; known = inl (spent_behind m n t e spent takes) })
+    go (inl spent) = at_once top seen n (record { below = b; known = inl (spent_after m n t e spent takes) })
     go (inr here) = let f = goes_full top m n t e h.below takes in same f here f.same
 
 -- the threads before their first calls
@@ -249,17 +250,17 @@ first_known p fuel top seen few closed = go (firsts_full p fuel top p.threads fe
     b : IsBelow top (new_machine p fuel)
     b = firsts_below p fuel top p.threads few
 
-    behind : refuelled top (new_machine p fuel) ≡ refuelled top (new_machine p top)
+    goes_on : refuelled top (new_machine p fuel) ≡ refuelled top (new_machine p top)
         → HasSpent (new_machine p top) ⊎ IsCoveredFull top seen (refuelled top (new_machine p top)) → IsCoveredKnown top seen (new_machine p fuel)
-    behind is (inl spent) =
+    goes_on is (inl spent) =
         at_once top seen (new_machine p fuel) (record { below = b; known = inl (spent_same top (new_machine p top) (new_machine p fuel) is spent) })
-    behind is (inr c) = lifted c.entries top seen (new_machine p fuel) (refuelled top (new_machine p top)) c.machine b is c.alone c.is_seen
+    goes_on is (inr c) = lifted c.entries top seen (new_machine p fuel) (refuelled top (new_machine p top)) c.machine b is c.alone c.is_seen
 
     go : HasSpentIn (firsts p fuel p.threads) ⊎ (map (λ s. with_fuel top s) (firsts p fuel p.threads) ≡ map (λ s. with_fuel top s) (firsts p top p.threads))
         → IsCoveredKnown top seen (new_machine p fuel)
     go (inl h) =
         at_once top seen (new_machine p fuel) (record { below = b; known = inl (record { thread = h.thread; state = h.state; at = h.at; spent = h.spent }) })
-    go (inr same) = behind (ap (λ (xs : List ThreadState). record (new_machine p fuel) { threads = xs }) same) closed.first
+    go (inr same) = goes_on (ap (λ (xs : List ThreadState). record (new_machine p fuel) { threads = xs }) same) closed.first
 
 pub over_is_known : (p : ProgramText) (fuel top : ℕ) (seen : List PlainMachine) (logs : List (List Logged)) (n : PlainMachine) → IsProgram p
     → IsClosedFull p top seen → fuel ≤ top

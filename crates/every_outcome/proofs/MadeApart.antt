@@ -1,5 +1,6 @@
 -- What is there stays there, and what two threads make doesn't depend on who makes first: each has numbers of its own.
-use Rattle.std.proofs.Common.{◌≡◌, ◌≢◌, ℕ, ◌≤◌, Bool, true, false, ◌||◌, nat_lt, List, [], ◌∷◌, ◌++◌, length, slice_set, Option, Some, None, refl, sym, ap, ◌∙◌, subst, arith, length-set, length-append}
+use Rattle.std.proofs.Common.{◌≡◌, ◌≢◌, ℕ, ◌≤◌, Bool, true, false, ◌||◌, nat_lt, List, [], ◌∷◌, ◌++◌, length, slice_set}
+use Rattle.std.proofs.Common.{Option, Some, None, refl, sym, ap, ◌∙◌, subst, arith, length-set, length-append}
 use Rattle.std.specs.List.{list_all}
 use Rattle.std.proofs.lemmas.Bool.Decides.{nat_tests}
 use Rattle.std.proofs.lemmas.Option.{cond_some}
@@ -12,7 +13,7 @@ or_more : (a b d : Bool) → (b ≡ true → d ≡ true) → (a || b) ≡ true �
 or_more true b d f h = refl
 or_more false b d f h = f h
 
--- what is there behind one more object of thread t
+-- what is there after one more object of thread t
 abbrev made_more : List (List ℕ) → ℕ → ℕ → List (List ℕ)
 made_more made t c = slice_set made t (made_by made t ++ c ∷ [])
 
@@ -34,10 +35,10 @@ stays_there n made after t e (Some p) takes o here =
 -- what is there where t took e, and u then f, or the other way round
 pub record BothMade (n : Numbering) (left right : List (List ℕ)) (t u : ℕ) (e f : Entry) (p q : Option (ℕ × ℕ)) : Type 0 where
   pub made : List (List ℕ)
-  pub behind_left : take_created n left u f q ≡ Some made
-  pub behind_right : take_created n right t e p ≡ Some made
+  pub after_left : take_created n left u f q ≡ Some made
+  pub after_right : take_created n right t e p ≡ Some made
 
--- an entry that makes nothing finds what it needs behind another thread's, too
+-- an entry that makes nothing finds what it needs after another thread's, too
 still_found : (n : Numbering) (made after right : List (List ℕ)) (t u : ℕ) (e f : Entry) (q : Option (ℕ × ℕ)) → take_created n made t e None ≡ Some after
     → take_created n made u f q ≡ Some right → take_created n right t e None ≡ Some right
 still_found n made after right t u e f q takes takes2 =
@@ -61,15 +62,15 @@ both_made n made left right t u e f None q apart takes takes2 =
     let same : made ≡ left = (cond_some (list_all (is_there n made) (needs e)) made left takes).1 in
     record {
       made = right;
-      behind_left = subst (λ (x : List (List ℕ)). take_created n x u f q ≡ Some right) same takes2;
-      behind_right = still_found n made left right t u e f q takes takes2;
+      after_left = subst (λ (x : List (List ℕ)). take_created n x u f q ≡ Some right) same takes2;
+      after_right = still_found n made left right t u e f q takes takes2;
     }
 both_made n made left right t u e f (Some p) None apart takes takes2 =
     let same : made ≡ right = (cond_some (list_all (is_there n made) (needs f)) made right takes2).1 in
     record {
       made = left;
-      behind_left = still_found n made right left u t f e (Some p) takes2 takes;
-      behind_right = subst (λ (x : List (List ℕ)). take_created n x t e (Some p) ≡ Some left) same takes;
+      after_left = still_found n made right left u t f e (Some p) takes2 takes;
+      after_right = subst (λ (x : List (List ℕ)). take_created n x t e (Some p) ≡ Some left) same takes;
     }
 both_made n made left right t u e f (Some p) (Some q) apart takes takes2 =
     let k = cond_some (may_create n made t p) (made_more made t p.1) left takes in
@@ -77,6 +78,6 @@ both_made n made left right t u e f (Some p) (Some q) apart takes takes2 =
     let swap = sets_commute made t u (made_by made t ++ p.1 ∷ []) (made_by made u ++ q.1 ∷ []) apart in
     record {
       made = slice_set (made_more made t p.1) u (made_by made u ++ q.1 ∷ []);
-      behind_left = two_more n made left t u p.1 f q apart k.1 l.0;
-      behind_right = two_more n made right u t q.1 e p (λ same. apart (sym same)) l.1 k.0 ∙ ap Some (sym swap);
+      after_left = two_more n made left t u p.1 f q apart k.1 l.0;
+      after_right = two_more n made right u t q.1 e p (λ same. apart (sym same)) l.1 k.0 ∙ ap Some (sym swap);
     }

@@ -1,5 +1,6 @@
 -- A program without the instruction makes no hash entry.
-use Rattle.std.proofs.Common.{◌≡◌, ℕ, ℤ, zero, suc, ◌+◌, ◌-◌, ◌+ℤ◌, ◌-ℤ◌, ◌*ℤ◌, Bool, true, false, nat_le, nat_lt, if◌then◌else◌, List, [], ◌∷◌, map, slice_get, slice_index_or, sum, Option, Some, None, refl, sym, ◌∙◌, subst}
+use Rattle.std.proofs.Common.{◌≡◌, ℕ, ℤ, zero, suc, ◌+◌, ◌-◌, ◌+ℤ◌, ◌-ℤ◌, ◌*ℤ◌, Bool, true, false, nat_le, nat_lt, if◌then◌else◌}
+use Rattle.std.proofs.Common.{List, [], ◌∷◌, map, slice_get, slice_index_or, sum, Option, Some, None, refl, sym, ◌∙◌, subst}
 use Rattle.std.specs.List.{AllByRecursion, list_any}
 use Rattle.std.proofs.lemmas.Bool.{false≢true, true≢false, or_parts}
 use Rattle.std.proofs.lemmas.Option.{none-some, same_Some}
@@ -18,17 +19,18 @@ use Rattle.object_program.specs.declared.program.Code.TheVariants as code
 use Rattle.object_program.specs.declared.program.ObjectDef.{ObjectDef}
 use Rattle.object_program.specs.declared.program.ThreadDef.{ThreadDef}
 use Rattle.object_program.specs.Program.{ProgramText, slots_of}
-use Rattle.plain_machine.specs.declared.call.Call.{Call}
-use Rattle.plain_machine.specs.declared.call.Call.TheVariants as call
-use Rattle.plain_machine.specs.declared.call.Mode.{Mode}
-use Rattle.plain_machine.specs.declared.call.Mode.TheVariants.{Calling, Waiting, Unwinding, Ended}
-use Rattle.plain_machine.specs.declared.call.Asked.{Asked}
-use Rattle.plain_machine.specs.declared.call.Asked.TheVariants as asked
-use Rattle.plain_machine.specs.Thread.{ThreadState, Step, Goes, Calls, Stops, local, holds_of, combines, faults, on_object, owner_only, on_slot, is_element, size_of, element, jumps_below, step_of}
+use Rattle.plain_machine.specs.declared.monitor_call.MonitorCall.{MonitorCall}
+use Rattle.plain_machine.specs.declared.monitor_call.MonitorCall.TheVariants as call
+use Rattle.plain_machine.specs.declared.monitor_call.Mode.{Mode}
+use Rattle.plain_machine.specs.declared.monitor_call.Mode.TheVariants.{Calling, Waiting, Unwinding, Ended}
+use Rattle.plain_machine.specs.declared.monitor_call.NextEntry.{NextEntry}
+use Rattle.plain_machine.specs.declared.monitor_call.NextEntry.TheVariants as asked
+use Rattle.plain_machine.specs.Thread.{ThreadState, Step, Goes, Calls, Stops, local, holds_of, combines, faults, on_object}
+use Rattle.plain_machine.specs.Thread.{owner_only, on_slot, is_element, size_of, element, jumps_below, step_of}
 use Rattle.plain_machine.specs.Running.{instruction_at, run_on, first_state}
-use Rattle.plain_machine.specs.Asking.{ask_in, held_from, unwinds, fits, behind_call, behind_entry}
+use Rattle.plain_machine.specs.Asking.{ask_in, held_from, unwinds, fits, after_call, after_entry}
 use Rattle.plain_machine.specs.Machine.{PlainMachine, new_machine, code_of, take}
-use Rattle.plain_machine.specs.Legal.{behind_all}
+use Rattle.plain_machine.specs.Legal.{after_all}
 use Rattle.machine_laws.proofs.ReachedLists.{each_set}
 use Rattle.machine_laws.proofs.ReachedAsked.{taken}
 use Rattle.every_outcome.specs.Alone.{is_hash}
@@ -61,10 +63,10 @@ below : (s : ThreadState) (v w : Value) (l : ℕ) → hash_step (jumps_below s v
 below s (Int y) (Int z) l = refl
 below s v w l = refl
 
-owned : (s : ThreadState) (o : ℕ) (f : Fault) (c : Call) → hash_step (Calls c) ≡ false → hash_step (owner_only s o f (Calls c)) ≡ false
+owned : (s : ThreadState) (o : ℕ) (f : Fault) (c : MonitorCall) → hash_step (Calls c) ≡ false → hash_step (owner_only s o f (Calls c)) ≡ false
 owned s o f c h = pick (nat_le 1 (holds_of s o)) (Calls c) (faults s f) h refl
 
-slotted : (p : ProgramText) (s : ThreadState) (o k : ℕ) (c : Call) → hash_step (Calls c) ≡ false → hash_step (on_slot p s o k c) ≡ false
+slotted : (p : ProgramText) (s : ThreadState) (o k : ℕ) (c : MonitorCall) → hash_step (Calls c) ≡ false → hash_step (on_slot p s o k c) ≡ false
 slotted p s o k c h = pick (nat_lt k (slots_of p o)) (owner_only s o fault.Unguarded (Calls c)) (faults s fault.Range) (owned s o fault.Unguarded c h) refl
 
 no_step : (p : ProgramText) (s : ThreadState) (c : Code) → is_hash_code c ≡ false → hash_step (step_of p s c) ≡ false
@@ -95,7 +97,7 @@ at_place [] k h = refl
 at_place (x ∷ c) zero h = (or_parts (is_hash_code x) (list_any is_hash_code c) h).0
 at_place (x ∷ c) (suc k) h = at_place c k (or_parts (is_hash_code x) (list_any is_hash_code c) h).1
 
-called : (c : Call) → hash_step (Calls c) ≡ false → asks_hash (Calling c) ≡ false
+called : (c : MonitorCall) → hash_step (Calls c) ≡ false → asks_hash (Calling c) ≡ false
 called (call.Hash x o) h = h
 called c h = refl
 
@@ -112,13 +114,13 @@ run_no_hash (suc n) p c s h =
     go (Calls k) e none ih = rw e (called k (rw e at none))
     go (Stops x) e none ih = rw e refl
 
-call_no_hash : (p : ProgramText) (i : List Code) (s : ThreadState) (c : Call) (e : Entry) → list_any is_hash_code i ≡ false
-    → asks_hash (behind_call p i s c e).mode ≡ false
+call_no_hash : (p : ProgramText) (i : List Code) (s : ThreadState) (c : MonitorCall) (e : Entry) → list_any is_hash_code i ≡ false
+    → asks_hash (after_call p i s c e).mode ≡ false
 call_no_hash p i s (call.Wait o) e h = refl
 call_no_hash p i s c e h = run_no_hash (s.fuel - 1) p i _ h
 
-entry_no_hash : (p : ProgramText) (i : List Code) (s : ThreadState) (a : Asked) (e : Entry) → list_any is_hash_code i ≡ false → asks_hash s.mode ≡ false
-    → asks_hash (behind_entry p i s a e).mode ≡ false
+entry_no_hash : (p : ProgramText) (i : List Code) (s : ThreadState) (a : NextEntry) (e : Entry) → list_any is_hash_code i ≡ false → asks_hash s.mode ≡ false
+    → asks_hash (after_entry p i s a e).mode ≡ false
 entry_no_hash p i s (asked.Calls c) e h none = call_no_hash p i s c e h
 entry_no_hash p i s (asked.Resumes o) e h none = run_no_hash s.fuel p i s h
 entry_no_hash p i s (asked.Leaves o) e h none = none
@@ -133,7 +135,7 @@ code_free (d ∷ ts) (suc t) h = code_free ts t h.1
 pub stays : (m n : PlainMachine) (t : ℕ) (e : Entry) → AsksNoHash m → take m t e ≡ Some n → AsksNoHash n
 stays m n t e h takes =
     let k = taken m t e n takes in
-    let s2 = behind_entry m.program (code_of m.program t) k.s k.asked e in
+    let s2 = after_entry m.program (code_of m.program t) k.s k.asked e in
     let none : asks_hash s2.mode ≡ false =
     entry_no_hash m.program (code_of m.program t) k.s k.asked e (code_free m.program.threads t h.program) (h.threads t k.s k.at) in
     subst AsksNoHash k.is (record {
@@ -142,20 +144,20 @@ stays m n t e h takes =
     })
 
 -- who asks no hash makes none
-unasked : (s : ThreadState) (mode : Mode) (a : Asked) (e : Entry) → asks_hash mode ≡ false → ask_in s mode ≡ Some a → fits a e ≡ true → is_hash e ≡ false
-unasked s (Calling c) a e none asks fit = by c e none (subst (λ (b : Asked). fits b e ≡ true) (sym (same_Some (asked.Calls c) a asks)) fit)
+unasked : (s : ThreadState) (mode : Mode) (a : NextEntry) (e : Entry) → asks_hash mode ≡ false → ask_in s mode ≡ Some a → fits a e ≡ true → is_hash e ≡ false
+unasked s (Calling c) a e none asks fit = by c e none (subst (λ (b : NextEntry). fits b e ≡ true) (sym (same_Some (asked.Calls c) a asks)) fit)
   where
-    by : (c : Call) (e : Entry) → asks_hash (Calling c) ≡ false → fits (asked.Calls c) e ≡ true → is_hash e ≡ false
+    by : (c : MonitorCall) (e : Entry) → asks_hash (Calling c) ≡ false → fits (asked.Calls c) e ≡ true → is_hash e ≡ false
     by (call.Hash x o) e none fit = absurd (true≢false none)
     by c (entry.Hash o v d) none fit = absurd (false≢true fit)
     by c e none fit = refl
-unasked s (Waiting o) a e none asks fit = by e (subst (λ (b : Asked). fits b e ≡ true) (sym (same_Some (asked.Resumes o) a asks)) fit)
+unasked s (Waiting o) a e none asks fit = by e (subst (λ (b : NextEntry). fits b e ≡ true) (sym (same_Some (asked.Resumes o) a asks)) fit)
   where
     by : (e : Entry) → fits (asked.Resumes o) e ≡ true → is_hash e ≡ false
     by (entry.Hash k v d) fit = absurd (false≢true fit)
     by e fit = refl
 unasked s (Unwinding x) a e none asks fit =
-    by (held_from 0 s.holds) e (subst (λ (b : Asked). fits b e ≡ true) (sym (same_Some (unwinds x (held_from 0 s.holds)) a asks)) fit)
+    by (held_from 0 s.holds) e (subst (λ (b : NextEntry). fits b e ≡ true) (sym (same_Some (unwinds x (held_from 0 s.holds)) a asks)) fit)
   where
     ends : (g : _) (k v : ℕ) (d : Option ℕ) → fits (asked.Ends g) (entry.Hash k v d) ≡ false
     ends (ending.Trap f i) k v d = refl
@@ -168,7 +170,7 @@ unasked s (Unwinding x) a e none asks fit =
     by held e fit = refl
 unasked s (Ended x) a e none asks fit = absurd (none-some a asks)
 
-all_stay : (xs : List (ℕ × Logged)) (m n : PlainMachine) → AsksNoHash m → behind_all m xs ≡ Some n → AsksNoHash n
+all_stay : (xs : List (ℕ × Logged)) (m n : PlainMachine) → AsksNoHash m → after_all m xs ≡ Some n → AsksNoHash n
 all_stay [] m n h leads = subst AsksNoHash (same_Some m n leads) h
 all_stay (x ∷ xs) m n h leads = let k = first_of m n x xs leads in all_stay xs k.machine n (stays m k.machine x.0 x.1.entry h k.takes) k.rest
 
@@ -196,5 +198,5 @@ pub makes_none : (m n : PlainMachine) (t : ℕ) (e : Entry) → AsksNoHash m →
 makes_none m n t e h takes = let k = taken m t e n takes in unasked k.s k.s.mode k.asked e (h.threads t k.s k.at) k.asks k.fit
 
 pub takes_no_hash : (p : ProgramText) (fuel : ℕ) (xs : List (ℕ × Logged)) (m n : PlainMachine) (t : ℕ) (e : Entry) → HasNoHash p
-    → behind_all (new_machine p fuel) xs ≡ Some m → take m t e ≡ Some n → is_hash e ≡ false
+    → after_all (new_machine p fuel) xs ≡ Some m → take m t e ≡ Some n → is_hash e ≡ false
 takes_no_hash p fuel xs m n t e free leads takes = makes_none m n t e (all_stay xs (new_machine p fuel) m (first_asks_none p fuel free) leads) takes

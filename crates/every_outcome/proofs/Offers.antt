@@ -1,5 +1,6 @@
 -- Each entry that a machine takes is one that it offers.
-use Rattle.std.proofs.Common.{◌≡◌, ℕ, ◌≤◌, ◌^◌, nat_le, nat_lt, Bool, true, false, ◌&&◌, ◌==◌, List, [], ◌∷◌, length, slice_get, slice_index_or, Option, Some, None, is_none, refl, sym, ap, ◌∙◌, subst, eqb-true, arith, leb-true}
+use Rattle.std.proofs.Common.{◌≡◌, ℕ, ◌≤◌, ◌^◌, nat_le, nat_lt, Bool, true, false, ◌&&◌, ◌==◌, List, [], ◌∷◌, length, slice_get}
+use Rattle.std.proofs.Common.{slice_index_or, Option, Some, None, is_none, refl, sym, ap, ◌∙◌, subst, eqb-true, arith, leb-true}
 use Rattle.std.proofs.lemmas.Bool.{false≢true, and_parts}
 use Rattle.std.proofs.lemmas.Option.{none-some, cond_some}
 use Rattle.std.proofs.lemmas.Bool.Decides.{nat_tests}
@@ -8,18 +9,19 @@ use Rattle.plain_monitor.specs.declared.entry.Value.TheVariants.{Nil}
 use Rattle.plain_monitor.specs.declared.entry.Ending.{Ending}
 use Rattle.plain_monitor.specs.declared.entry.Ending.TheVariants as ending
 use Rattle.plain_monitor.specs.declared.entry.Entry.{Entry}
-use Rattle.plain_monitor.specs.declared.entry.Entry.TheVariants.{Enter, Exit, Get, Put, Wait, Resume, Notify, NotifyAll, Hash, New, Print, Dump, Trap, Spent, Done}
+use Rattle.plain_monitor.specs.declared.entry.Entry.TheVariants.{Enter, Exit, Get, Put, Wait, Resume, Notify, NotifyAll}
+use Rattle.plain_monitor.specs.declared.entry.Entry.TheVariants.{Hash, New, Print, Dump, Trap, Spent, Done}
 use Rattle.plain_monitor.specs.Endings.{ending_entry}
 use Rattle.plain_monitor.specs.Monitor.{PlainMonitor, only_if, owns, is_listed, count_of, resumed, calls, enter, resume, notify, notify_all}
 use Rattle.plain_monitor.specs.Objects.{PlainObject, new_object, same_value, has_value, hashed, with_monitor, with_hash, take_entry}
-use Rattle.plain_machine.specs.declared.call.Call.{Call}
-use Rattle.plain_machine.specs.declared.call.Call.TheVariants as call
-use Rattle.plain_machine.specs.declared.call.Asked.{Asked}
-use Rattle.plain_machine.specs.declared.call.Asked.TheVariants.{Calls, Resumes, Leaves, Ends}
+use Rattle.plain_machine.specs.declared.monitor_call.MonitorCall.{MonitorCall}
+use Rattle.plain_machine.specs.declared.monitor_call.MonitorCall.TheVariants as call
+use Rattle.plain_machine.specs.declared.monitor_call.NextEntry.{NextEntry}
+use Rattle.plain_machine.specs.declared.monitor_call.NextEntry.TheVariants.{Calls, Resumes, Leaves, Ends}
 use Rattle.plain_machine.specs.Asking.{fits, is_call, is_ending, is_exit, is_resume, fault_number}
 use Rattle.plain_monitor.specs.Made.{may_create}
 use Rattle.object_program.specs.Program.{numbering_of}
-use Rattle.plain_machine.specs.Machine.{PlainMachine, made_behind, take, object_at, monitor_at, slot_at, other_owner}
+use Rattle.plain_machine.specs.Machine.{PlainMachine, made_after_entry, take, object_at, monitor_at, slot_at, other_owner}
 use Rattle.plain_machine.specs.Offering.{hash_offer, oldest, next_made, call_offer, asked_offer, offered}
 use Rattle.plain_machine.proofs.Tallies.{counted_times}
 use Rattle.plain_monitor.specs.Listed.{times_in, presence}
@@ -27,14 +29,15 @@ use Rattle.machine_laws.specs.Reached.{IsReached}
 use Rattle.machine_laws.proofs.ReachedAsked.{IsTakenAt, taken, taken_at}
 use Rattle.machine_laws.proofs.ReachedObjects.{same_is}
 use Rattle.plain_monitor.specs.declared.entry.Fault.{Fault}
-use Rattle.plain_monitor.specs.declared.entry.Fault.TheVariants.{IllegalMonitorState, Unguarded, NotRef, NotInt, Range, Overflow, TooDeep, TooManyDumps, TooMany}
+use Rattle.plain_monitor.specs.declared.entry.Fault.TheVariants.{IllegalMonitorState, Unguarded, NotRef, NotInt}
+use Rattle.plain_monitor.specs.declared.entry.Fault.TheVariants.{Range, Overflow, TooDeep, TooManyDumps, TooMany}
 use Rattle.every_outcome.specs.Offers.{bare, StandsFor}
 use Rattle.every_outcome.proofs.Places.{read_at}
 
 -- what a monitor's step was, where the object took it
-monitor_of : (x y : PlainObject) (r : Option PlainMonitor) → with_monitor x r ≡ Some y → (n : PlainMonitor) × (r ≡ Some n)
-monitor_of x y None h = absurd (none-some y h)
-monitor_of x y (Some n) h = (n, refl)
+monitor_found : (x y : PlainObject) (r : Option PlainMonitor) → with_monitor x r ≡ Some y → (n : PlainMonitor) × (r ≡ Some n)
+monitor_found x y None h = absurd (none-some y h)
+monitor_found x y (Some n) h = (n, refl)
 
 only_true : {A : Type 0} (b : Bool) (x y : A) → only_if b x ≡ Some y → b ≡ true
 only_true true x y h = refl
@@ -90,17 +93,17 @@ object_is : (m : PlainMachine) (o t : ℕ) (e : Entry) (objects : List PlainObje
 object_is m o t e objects k = read_at m.objects o (new_object 0) k.x k.there
 
 -- a new object has its maker's next number
-new_is : (m : PlainMachine) (t o c : ℕ) (made : List (List ℕ)) → made_behind m t (New o c) ≡ Some made → o ≡ next_made m t
+new_is : (m : PlainMachine) (t o c : ℕ) (made : List (List ℕ)) → made_after_entry m t (New o c) ≡ Some made → o ≡ next_made m t
 new_is m t o c made makes =
     let may = (cond_some (may_create (numbering_of m.program) m.made t (o, c)) _ made makes).0 in
     eqb-true o (next_made m t) (and_parts _ _ may).1
 
 -- what is offered to who asks this, where the entry fits it and the objects take it
-call_is : (m : PlainMachine) (t : ℕ) (c : Call) (e : Entry) (made : List (List ℕ)) (objects : List PlainObject) → is_call c e ≡ true
-    → made_behind m t e ≡ Some made → take_entry m.objects t e ≡ Some objects → StandsFor (call_offer m t c) e
+call_is : (m : PlainMachine) (t : ℕ) (c : MonitorCall) (e : Entry) (made : List (List ℕ)) (objects : List PlainObject) → is_call c e ≡ true
+    → made_after_entry m t e ≡ Some made → take_entry m.objects t e ≡ Some objects → StandsFor (call_offer m t c) e
 call_is m t (call.Enter o) (Enter q p) made objects fit makes takes =
     let k = taken_at m.objects q t (Enter q p) objects takes in
-    let n = monitor_of k.x k.y (enter k.x.monitor t) k.takes in
+    let n = monitor_found k.x k.y (enter k.x.monitor t) k.takes in
     let free : other_owner (monitor_at m q) t ≡ None =
     ap (λ (x : PlainObject). other_owner x.monitor t) (object_is m q t (Enter q p) objects k) ∙ enter_free k.x.monitor n.0 t k.x.monitor.owner refl n.1 in
     rw (eqb-true o q fit, free) refl
@@ -108,14 +111,14 @@ call_is m t (call.Exit o) (Exit q) made objects fit makes takes = ap Exit (eqb-t
 call_is m t (call.Wait o) (Wait q) made objects fit makes takes = ap Wait (eqb-true o q fit)
 call_is m t (call.Notify o) (Notify q w) made objects fit makes takes =
     let k = taken_at m.objects q t (Notify q w) objects takes in
-    let n = monitor_of k.x k.y (notify k.x.monitor t w) k.takes in
+    let n = monitor_found k.x k.y (notify k.x.monitor t w) k.takes in
     let is : oldest (monitor_at m q).waits ≡ w =
     ap (λ (x : PlainObject). oldest x.monitor.waits) (object_is m q t (Notify q w) objects k)
     ∙ notify_oldest k.x.monitor n.0 t w (owns k.x.monitor t) refl n.1 in
     rw (eqb-true o q fit) (ap (Notify q) is)
 call_is m t (call.NotifyAll o) (NotifyAll q many) made objects fit makes takes =
     let k = taken_at m.objects q t (NotifyAll q many) objects takes in
-    let n = monitor_of k.x k.y (notify_all k.x.monitor t many) k.takes in
+    let n = monitor_found k.x k.y (notify_all k.x.monitor t many) k.takes in
     let same : (length k.x.monitor.waits == many) ≡ true = (and_parts (owns k.x.monitor t) _ (only_true _ _ n.0 n.1)).1 in
     let is : length (monitor_at m q).waits ≡ many =
     ap (λ (x : PlainObject). length x.monitor.waits) (object_is m q t (NotifyAll q many) objects k) ∙ eqb-true _ _ same in
@@ -159,7 +162,7 @@ resume_is : (m : PlainMachine) (t o : ℕ) (e : Entry) (objects : List PlainObje
     → take_entry m.objects t e ≡ Some objects → StandsFor (asked_offer m t (Some (Resumes o))) e
 resume_is m t o (Resume q) objects h fit takes =
     let k = taken_at m.objects q t (Resume q) objects takes in
-    let n = monitor_of k.x k.y (resume k.x.monitor t) k.takes in
+    let n = monitor_found k.x k.y (resume k.x.monitor t) k.takes in
     let is = object_is m q t (Resume q) objects k in
     let parts = resumed_parts k.x.monitor n.0 t (count_of k.x.monitor.called t) refl n.1 in
     let free : other_owner (monitor_at m q) t ≡ None =
@@ -200,8 +203,8 @@ leave_is : (m : PlainMachine) (t o : ℕ) (e : Entry) → is_exit o e ≡ true �
 leave_is m t o (Exit q) h = ap Exit (eqb-true o q h)
 leave_is m t o e h = absurd (false≢true h)
 
-asked_is : (m : PlainMachine) (t : ℕ) (a : Asked) (e : Entry) (made : List (List ℕ)) (objects : List PlainObject) → IsReached m → fits a e ≡ true
-    → made_behind m t e ≡ Some made → take_entry m.objects t e ≡ Some objects → StandsFor (asked_offer m t (Some a)) e
+asked_is : (m : PlainMachine) (t : ℕ) (a : NextEntry) (e : Entry) (made : List (List ℕ)) (objects : List PlainObject) → IsReached m → fits a e ≡ true
+    → made_after_entry m t e ≡ Some made → take_entry m.objects t e ≡ Some objects → StandsFor (asked_offer m t (Some a)) e
 asked_is m t (Calls c) e made objects h fit makes takes = call_is m t c e made objects fit makes takes
 asked_is m t (Resumes o) e made objects h fit makes takes = resume_is m t o e objects h fit takes
 asked_is m t (Leaves o) e made objects h fit makes takes = leave_is m t o e fit
@@ -210,4 +213,4 @@ asked_is m t (Ends g) e made objects h fit makes takes = ending_is g e fit
 pub taken_is_offered : (m n : PlainMachine) (t : ℕ) (e : Entry) → IsReached m → take m t e ≡ Some n → StandsFor (offered m t) e
 taken_is_offered m n t e h takes =
     let k = taken m t e n takes in
-    rw (k.at, k.asks) (asked_is m t k.asked e k.behind k.objects h k.fit k.makes k.takes)
+    rw (k.at, k.asks) (asked_is m t k.asked e k.made_then k.objects h k.fit k.makes k.takes)

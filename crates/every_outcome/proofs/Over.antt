@@ -10,7 +10,7 @@ use Rattle.object_program.specs.Valid.{IsProgram}
 use Rattle.plain_machine.specs.declared.offer.Offer.{Offer}
 use Rattle.plain_machine.specs.declared.offer.Offer.TheVariants as offer
 use Rattle.plain_machine.specs.Machine.{PlainMachine, new_machine}
-use Rattle.plain_machine.specs.Legal.{behind_all, machine_after}
+use Rattle.plain_machine.specs.Legal.{after_all, machine_after}
 use Rattle.plain_machine.specs.Offering.{offered, is_next}
 use Rattle.machine_laws.specs.Reached.{IsReached}
 use Rattle.machine_laws.proofs.ReachedEntries.{progress}
@@ -34,7 +34,7 @@ offers_nothing m t (inr ended) = ended_offers_nothing m t ended
 pub over_takes_nothing : (m : PlainMachine) → IsReached m → IsOver m → TakesNothing m
 over_takes_nothing m r over t e n takes = stands_for_none (offered m t) e (offers_nothing m t over) (taken_is_offered m n t e r takes)
 
-pub all_reached : (xs : List (ℕ × Logged)) (m n : PlainMachine) → IsReached m → behind_all m xs ≡ Some n → IsReached n
+pub all_reached : (xs : List (ℕ × Logged)) (m n : PlainMachine) → IsReached m → after_all m xs ≡ Some n → IsReached n
 all_reached [] m n r h = subst IsReached (same_Some m n h) r
 all_reached (x ∷ xs) m n r h = let k = first_of m n x xs h in all_reached xs k.machine n (progress m k.machine x.0 x.1.entry r k.takes).reached k.rest
 

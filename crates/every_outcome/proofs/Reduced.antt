@@ -1,5 +1,6 @@
--- A list that covers the machines behind its entries has every machine that takes nothing.
-use Rattle.std.proofs.Common.{◌≡◌, ◌≢◌, ℕ, zero, suc, ◌+◌, ◌≤◌, Bool, true, false, ◌==◌, List, [], ◌∷◌, length, Option, Some, None, refl, sym, ap, ◌∙◌, subst, eqb-true, eq-eqb, arith}
+-- A list that covers the machines after its entries has every machine that takes nothing.
+use Rattle.std.proofs.Common.{◌≡◌, ◌≢◌, ℕ, zero, suc, ◌+◌, ◌≤◌, Bool, true, false, ◌==◌, List, [], ◌∷◌, length}
+use Rattle.std.proofs.Common.{Option, Some, None, refl, sym, ap, ◌∙◌, subst, eqb-true, eq-eqb, arith}
 use Rattle.std.proofs.lemmas.Bool.{false≢true, and_parts}
 use Rattle.std.proofs.lemmas.Option.{same_Some, option_and_then_some}
 use Rattle.plain_monitor.specs.declared.entry.Path.TheVariants.{StackFirst}
@@ -12,7 +13,7 @@ use Rattle.object_program.specs.Valid.{IsProgram}
 use Rattle.plain_machine.specs.declared.offer.Offer.{Offer}
 use Rattle.plain_machine.specs.declared.offer.Offer.TheVariants as offer
 use Rattle.plain_machine.specs.Machine.{PlainMachine, new_machine, take}
-use Rattle.plain_machine.specs.Legal.{behind_all, machine_after}
+use Rattle.plain_machine.specs.Legal.{after_all, machine_after}
 use Rattle.plain_machine.specs.Offering.{offered}
 use Rattle.machine_laws.specs.Reached.{IsReached}
 use Rattle.machine_laws.proofs.ReachedEntries.{progress}
@@ -56,36 +57,36 @@ only_one m a b t e f r own takes takes2 =
 pub record IsFirst (m n : PlainMachine) (x : ℕ × Logged) (xs : List (ℕ × Logged)) : Type 0 where
   pub machine : PlainMachine
   pub takes : take m x.0 x.1.entry ≡ Some machine
-  pub rest : behind_all machine xs ≡ Some n
+  pub rest : after_all machine xs ≡ Some n
 
-pub first_of : (m n : PlainMachine) (x : ℕ × Logged) (xs : List (ℕ × Logged)) → behind_all m (x ∷ xs) ≡ Some n → IsFirst m n x xs
+pub first_of : (m n : PlainMachine) (x : ℕ × Logged) (xs : List (ℕ × Logged)) → after_all m (x ∷ xs) ≡ Some n → IsFirst m n x xs
 first_of m n x xs h = option_and_then_some _ (take m x.0 x.1.entry) n h (λ next takes rest. record { machine = next; takes = takes; rest = rest })
 
 -- one entry fewer leads from a to n
 pub record IsShorter (a n : PlainMachine) (xs : List (ℕ × Logged)) : Type 0 where
   pub entries : List (ℕ × Logged)
-  pub leads : behind_all a entries ≡ Some n
+  pub leads : after_all a entries ≡ Some n
   pub fewer : length entries + 1 ≡ length xs
 
 -- an entry that goes alone may go first, on the way to a machine that takes nothing
 goes_first : (xs : List (ℕ × Logged)) (m a n : PlainMachine) (t : ℕ) (e : Entry) → TakesNothing n → IsReached m → goes_alone m t e ≡ true
-    → take m t e ≡ Some a → behind_all m xs ≡ Some n → IsShorter a n xs
+    → take m t e ≡ Some a → after_all m xs ≡ Some n → IsShorter a n xs
 goes_first [] m a n t e over r own takes leads = absurd (over t e a (subst (λ (z : PlainMachine). take z t e ≡ Some a) (same_Some m n leads) takes))
 goes_first (x ∷ xs) m a n t e over r own takes leads =
     by (t == x.0) refl (first_of m n x xs leads) (λ b c r2 own2 takes2 rest. goes_first xs b c n t e over r2 own2 takes2 rest)
   where
     by : (same : Bool) → (t == x.0) ≡ same → IsFirst m n x xs
-        → ((b c : PlainMachine) → IsReached b → goes_alone b t e ≡ true → take b t e ≡ Some c → behind_all b xs ≡ Some n → IsShorter c n xs)
+        → ((b c : PlainMachine) → IsReached b → goes_alone b t e ≡ true → take b t e ≡ Some c → after_all b xs ≡ Some n → IsShorter c n xs)
         → IsShorter a n (x ∷ xs)
     by true same k ih =
         let takes2 : take m t x.1.entry ≡ Some k.machine = subst (λ (u : ℕ). take m u x.1.entry ≡ Some k.machine) (sym (eqb-true t x.0 same)) k.takes in
         let is : a ≡ k.machine = only_one m a k.machine t e x.1.entry r own takes takes2 in
-        record { entries = xs; leads = subst (λ (z : PlainMachine). behind_all z xs ≡ Some n) (sym is) k.rest; fewer = omega arith }
+        record { entries = xs; leads = subst (λ (z : PlainMachine). after_all z xs ≡ Some n) (sym is) k.rest; fewer = omega arith }
     by false differ k ih =
         let apart : t ≢ x.0 = λ same. false≢true (sym differ ∙ subst (λ (u : ℕ). (t == u) ≡ true) same (eq-eqb t t refl)) in
         let c = commutes m a k.machine t x.0 e x.1.entry apart own takes k.takes in
-        let s = ih k.machine c.machine (progress m k.machine x.0 x.1.entry r k.takes).reached c.alone c.behind_b k.rest in
-        record { entries = x ∷ s.entries; leads = rw c.behind_a s.leads; fewer = omega (arith, s.fewer) }
+        let s = ih k.machine c.machine (progress m k.machine x.0 x.1.entry r k.takes).reached c.alone c.after_b k.rest in
+        record { entries = x ∷ s.entries; leads = rw c.after_a s.leads; fewer = omega (arith, s.fewer) }
 
 -- entries that go alone lead to a machine of which this holds
 pub record CoveredBy (S : PlainMachine → Type 0) (m : PlainMachine) : Type 0 where
@@ -97,7 +98,7 @@ pub record CoveredBy (S : PlainMachine → Type 0) (m : PlainMachine) : Type 0 w
 -- where each entry leads from machines of which it holds to such that are covered, it holds of each end
 pub covered : (S : PlainMachine → Type 0) (bound : ℕ) (m n : PlainMachine) (alone : List (ℕ × Entry)) (to : PlainMachine) (xs : List (ℕ × Logged))
     → ((m n : PlainMachine) (t : ℕ) (e : Entry) → S m → take m t e ≡ Some n → CoveredBy S n)
-    → length xs ≤ bound → TakesNothing n → IsReached m → GoesAlone m alone to → S to → behind_all m xs ≡ Some n → S n
+    → length xs ≤ bound → TakesNothing n → IsReached m → GoesAlone m alone to → S to → after_all m xs ≡ Some n → S n
 covered S bound m n [] to [] closed few over r alone here leads =
     subst S (sym alone ∙ same_Some m n leads) here
 covered S zero m n [] to (x ∷ xs) closed few over r alone here leads = absurd (omega (arith, few))

@@ -4,8 +4,8 @@ use Rattle.std.specs.List.{AllByRecursion}
 use Rattle.std.proofs.lemmas.Option.{none-some, same_Some}
 use Rattle.plain_monitor.specs.Objects.{PlainObject}
 use Rattle.object_program.specs.Program.{ProgramText, objects_total}
-use Rattle.plain_machine.specs.declared.call.Mode.{Mode}
-use Rattle.plain_machine.specs.declared.call.Mode.TheVariants.{Calling, Waiting, Unwinding, Ended}
+use Rattle.plain_machine.specs.declared.monitor_call.Mode.{Mode}
+use Rattle.plain_machine.specs.declared.monitor_call.Mode.TheVariants.{Calling, Waiting, Unwinding, Ended}
 use Rattle.plain_machine.specs.Thread.{ThreadState}
 use Rattle.plain_machine.specs.Machine.{PlainMachine}
 use Rattle.machine_laws.specs.Reached.{AtEach, HasMonitor, HasMade, IsReached}

@@ -11,10 +11,11 @@ use Rattle.object_program.specs.declared.program.Code.{Code}
 use Rattle.object_program.specs.declared.program.Code.TheVariants as code
 use Rattle.object_program.specs.declared.program.ObjectDef.{ObjectDef}
 use Rattle.object_program.specs.Program.{ProgramText, slots_of}
-use Rattle.plain_machine.specs.declared.call.Call.{Call}
-use Rattle.plain_machine.specs.declared.call.Call.TheVariants as call
-use Rattle.plain_machine.specs.declared.call.Mode.{Mode}
-use Rattle.plain_machine.specs.Thread.{ThreadState, Step, Goes, Calls, Stops, local, holds_of, sets, computes, combines, faults, on_object, owner_only, enters, on_slot, is_element, size_of, element, jumps_where, jumps_below, step_of}
+use Rattle.plain_machine.specs.declared.monitor_call.MonitorCall.{MonitorCall}
+use Rattle.plain_machine.specs.declared.monitor_call.MonitorCall.TheVariants as call
+use Rattle.plain_machine.specs.declared.monitor_call.Mode.{Mode}
+use Rattle.plain_machine.specs.Thread.{ThreadState, Step, Goes, Calls, Stops, local, holds_of, sets, computes, combines, faults, on_object}
+use Rattle.plain_machine.specs.Thread.{owner_only, enters, on_slot, is_element, size_of, element, jumps_where, jumps_below, step_of}
 
 -- the thread with this fuel, in this mode
 abbrev pub with_mode : ℕ → Mode → ThreadState → ThreadState
@@ -44,11 +45,11 @@ object_with : (g : ℕ) (md : Mode) (s : ThreadState) (v : Value) (f f2 : ℕ �
 object_with g md s (Ref o) f f2 h = h o
 object_with g md s v f f2 h = refl
 
-owner_with : (g : ℕ) (md : Mode) (s : ThreadState) (o : ℕ) (f : Fault) (c : Call)
+owner_with : (g : ℕ) (md : Mode) (s : ThreadState) (o : ℕ) (f : Fault) (c : MonitorCall)
     → owner_only (with_mode g md s) o f (Calls c) ≡ step_with g md (owner_only s o f (Calls c))
 owner_with g md s o f c = pick g md (nat_le 1 (holds_of s o)) (Calls c) (faults s f) _ _ refl refl
 
-slot_with : (g : ℕ) (md : Mode) (p : ProgramText) (s : ThreadState) (o k : ℕ) (c : Call)
+slot_with : (g : ℕ) (md : Mode) (p : ProgramText) (s : ThreadState) (o k : ℕ) (c : MonitorCall)
     → on_slot p (with_mode g md s) o k c ≡ step_with g md (on_slot p s o k c)
 slot_with g md p s o k c =
     pick g md (nat_lt k (slots_of p o)) (owner_only s o fault.Unguarded (Calls c)) (faults s fault.Range) _ _ (owner_with g md s o fault.Unguarded c) refl

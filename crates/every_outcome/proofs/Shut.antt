@@ -1,5 +1,6 @@
--- Entries that don't go alone: behind them another thread doesn't take what it might have taken before.
-use Rattle.std.proofs.Common.{◌≡◌, ◌≢◌, ℕ, Bool, true, false, ◌&&◌, nat_le, nat_lt, ◌^◌, ◌==◌, List, [], ◌∷◌, slice_get, slice_set, Option, Some, None, is_none, refl, sym, ap, ◌∙◌, subst, eqb-true, eq-eqb}
+-- Entries that don't go alone: after them another thread doesn't take what it might have taken before.
+use Rattle.std.proofs.Common.{◌≡◌, ◌≢◌, ℕ, Bool, true, false, ◌&&◌, nat_le, nat_lt, ◌^◌, ◌==◌, List, [], ◌∷◌, slice_get}
+use Rattle.std.proofs.Common.{slice_set, Option, Some, None, is_none, refl, sym, ap, ◌∙◌, subst, eqb-true, eq-eqb}
 use Rattle.std.proofs.lemmas.Bool.{false≢true}
 use Rattle.std.proofs.lemmas.Option.{none-some, same_Some, cond_some}
 use Rattle.plain_monitor.specs.declared.entry.Path.{Path}
@@ -15,15 +16,15 @@ use Rattle.every_outcome.specs.Alone.{is_hash}
 use Rattle.every_outcome.specs.Covered.{IsSeen, GoesAlone, IsClosed, TakesNothing}
 use Rattle.every_outcome.proofs.Commute.{only_hashes}
 
--- object o behind an entry that names it
-record IsBehind (a : PlainMachine) (o t : ℕ) (e : Entry) : Type 0 where
+-- object o after an entry that names it
+record IsAfter (a : PlainMachine) (o t : ℕ) (e : Entry) : Type 0 where
   x : PlainObject
   y : PlainObject
   takes : take_at x t e ≡ Some y
   there : slice_get a.objects o ≡ Some y
 
-behind_at : (m a : PlainMachine) (o t : ℕ) (e : Entry) → named e ≡ Some o → take m t e ≡ Some a → IsBehind a o t e
-behind_at m a o t e at takes =
+after_at : (m a : PlainMachine) (o t : ℕ) (e : Entry) → named e ≡ Some o → take m t e ≡ Some a → IsAfter a o t e
+after_at m a o t e at takes =
     let k = taken m t e a takes in
     let l = taken_at m.objects o t e k.objects (ap (take_named m.objects t e) (sym at) ∙ k.takes) in
     let is : slice_set m.objects o l.y ≡ a.objects = l.is ∙ ap (λ (z : PlainMachine). z.objects) k.is in
@@ -73,13 +74,13 @@ never (Some b) h = absurd (h b refl)
 
 pub enter_shuts_out : (m a : PlainMachine) (t u o : ℕ) (p q : Path) → t ≢ u → take m t (Enter o p) ≡ Some a → take a u (Enter o q) ≡ None
 enter_shuts_out m a t u o p q apart takes =
-    let k = behind_at m a o t (Enter o p) refl takes in
+    let k = after_at m a o t (Enter o p) refl takes in
     let own : owns k.y.monitor t ≡ true = with_owner k.x k.y t (enter k.x.monitor t) (λ n. entered_owns k.x.monitor n t) k.takes in
     never (take a u (Enter o q)) (λ b. owner_shuts_out a b k.y t u o (Enter o q) apart own k.there refl refl)
 
 pub resume_shuts_out : (m a : PlainMachine) (t u o : ℕ) → t ≢ u → take m t (Resume o) ≡ Some a → take a u (Resume o) ≡ None
 resume_shuts_out m a t u o apart takes =
-    let k = behind_at m a o t (Resume o) refl takes in
+    let k = after_at m a o t (Resume o) refl takes in
     let own : owns k.y.monitor t ≡ true =
     with_owner k.x k.y t (resume k.x.monitor t) (λ n. resumed_owns k.x.monitor n t (count_of k.x.monitor.called t)) k.takes in
     never (take a u (Resume o)) (λ b. owner_shuts_out a b k.y t u o (Resume o) apart own k.there refl refl)
@@ -100,8 +101,8 @@ hash_becomes x y v (Some w) h = go (w == v) refl
 pub hash_shuts_out : (m a : PlainMachine) (t u o v w : ℕ) (d g : Option ℕ) → v ≢ w → take m t (Hash o v d) ≡ Some a → take a u (Hash o w g) ≡ None
 hash_shuts_out m a t u o v w d g apart takes = never (take a u (Hash o w g)) (λ b takes2. both (taken_next a b k.y o u (Hash o w g) k.there refl takes2))
   where
-    k : IsBehind a o t (Hash o v d)
-    k = behind_at m a o t (Hash o v d) refl takes
+    k : IsAfter a o t (Hash o v d)
+    k = after_at m a o t (Hash o v d) refl takes
 
     has : k.y.hash ≡ Some v
     has = hash_becomes k.x k.y v k.x.hash k.takes

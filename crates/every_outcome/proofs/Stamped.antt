@@ -1,5 +1,6 @@
 -- Entries that are taken one after the other are the order of legal logs: entry n gets the stamp n.
-use Rattle.std.proofs.Common.{◌≡◌, ℕ, zero, suc, ◌+◌, ◌<◌, ◌≤◌, ◌==◌, Bool, true, false, List, [], ◌∷◌, ◌++◌, length, replicate, refl, sym, subst, ◌∙◌, ap, arith, append_assoc, append-nil, Some}
+use Rattle.std.proofs.Common.{◌≡◌, ℕ, zero, suc, ◌+◌, ◌<◌, ◌≤◌, ◌==◌, Bool, true, false, List, [], ◌∷◌, ◌++◌, length}
+use Rattle.std.proofs.Common.{replicate, refl, sym, subst, ◌∙◌, ap, arith, append_assoc, append-nil, Some}
 use Rattle.std.specs.List.{AllByRecursion}
 use Rattle.std.proofs.lemmas.Bool.Decides.{nat_tests}
 use Rattle.std.proofs.lemmas.List.{length-set, length-replicate}
@@ -14,7 +15,7 @@ use Rattle.plain_monitor.proofs.Threads.{thread_kept}
 use Rattle.object_program.specs.Program.{ProgramText}
 use Rattle.object_program.specs.Valid.{IsProgram}
 use Rattle.plain_machine.specs.Machine.{PlainMachine, new_machine}
-use Rattle.plain_machine.specs.Legal.{behind_all, machine_after}
+use Rattle.plain_machine.specs.Legal.{after_all, machine_after}
 use Rattle.machine_laws.specs.Reached.{IsReached}
 use Rattle.machine_laws.proofs.ReachedEntries.{progress}
 use Rattle.machine_laws.proofs.ReachedFirst.{first_is_reached}
@@ -46,9 +47,9 @@ last_lower k t (y ∷ ys) n h lt = go (y.0 == t) refl (last_lower k t ys y.1.sta
     go true e here skip = rw e here
     go false e here skip = rw e skip
 
-abbrev pub logs_behind : List (List Logged) → List (ℕ × Logged) → List (List Logged)
-logs_behind logs [] = logs
-logs_behind logs (x ∷ xs) = logs_behind (appended logs x.0 x.1) xs
+abbrev pub logs_after : List (List Logged) → List (ℕ × Logged) → List (List Logged)
+logs_after logs [] = logs
+logs_after logs (x ∷ xs) = logs_after (appended logs x.0 x.1) xs
 
 pub record AreLogsOf (threads : ℕ) (entries : List (ℕ × Logged)) (logs : List (List Logged)) : Type 0 where
   pub counted : length logs ≡ threads
@@ -77,8 +78,8 @@ below_more k done x is h =
     all_push (λ y. y.1.stamp < k + 1) done x (all_weaker (λ y. y.1.stamp < k) (λ y. y.1.stamp < k + 1) (λ y lt. omega (arith, lt)) done h) (omega (arith, is))
 
 logs_from : (xs : List (ℕ × Logged)) (k : ℕ) (m n : PlainMachine) (count : ℕ) (done : List (ℕ × Logged)) (logs : List (List Logged)) → IsReached m
-    → length m.threads ≡ count → behind_all m xs ≡ Some n → 1 ≤ k
-    → AreLogsOf count done logs → AllBelow k done → AreLogsOf count (done ++ stamped k xs) (logs_behind logs (stamped k xs))
+    → length m.threads ≡ count → after_all m xs ≡ Some n → 1 ≤ k
+    → AreLogsOf count done logs → AllBelow k done → AreLogsOf count (done ++ stamped k xs) (logs_after logs (stamped k xs))
 logs_from [] k m n count done logs r c h some a below = rw append-nil a
 logs_from (x ∷ xs) k m n count done logs r c h some a below =
     let f = first_of m n x xs h in
@@ -90,10 +91,10 @@ logs_from (x ∷ xs) k m n count done logs r c h some a below =
     let rest =
     logs_from xs (k + 1) f.machine n count (done ++ y ∷ []) (appended logs y.0 y.1) next same f.rest (omega (arith, some)) more
     (below_more k done y refl below) in
-    subst (λ (ys : List (ℕ × Logged)). AreLogsOf count ys (logs_behind (appended logs y.0 y.1) (stamped (k + 1) xs)))
+    subst (λ (ys : List (ℕ × Logged)). AreLogsOf count ys (logs_after (appended logs y.0 y.1) (stamped (k + 1) xs)))
     (append_assoc done (y ∷ []) (stamped (k + 1) xs)) rest
 
-stamped_taken : (xs : List (ℕ × Logged)) (k : ℕ) (m n : PlainMachine) → behind_all m xs ≡ Some n → behind_all m (stamped k xs) ≡ Some n
+stamped_taken : (xs : List (ℕ × Logged)) (k : ℕ) (m n : PlainMachine) → after_all m xs ≡ Some n → after_all m (stamped k xs) ≡ Some n
 stamped_taken [] k m n h = h
 stamped_taken (x ∷ xs) k m n h = let f = first_of m n x xs h in rw f.takes (stamped_taken xs (k + 1) f.machine n f.rest)
 
@@ -112,10 +113,10 @@ led_is_after_logs p fuel n valid led =
       ordered = empty_order none (empty_logs (length m.threads));
     } in
     let a = logs_from led.entries 1 m n (length m.threads) [] none (first_is_reached p fuel valid) refl led.taken (omega arith) first tt in
-    let under : machine_after p fuel (logs_behind none (stamped 1 led.entries)) ≡ Some n =
-    ap (behind_all m) a.ordered ∙ stamped_taken led.entries 1 m n led.taken in
+    let under : machine_after p fuel (logs_after none (stamped 1 led.entries)) ≡ Some n =
+    ap (after_all m) a.ordered ∙ stamped_taken led.entries 1 m n led.taken in
     record {
-      logs = logs_behind none (stamped 1 led.entries);
+      logs = logs_after none (stamped 1 led.entries);
       legal = record { rises = a.rises; taken = rw under refl };
       under = under;
     }

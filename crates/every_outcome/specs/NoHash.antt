@@ -4,9 +4,9 @@ use Rattle.std.specs.List.{AllByRecursion, list_any}
 use Rattle.object_program.specs.declared.program.Code.{Code}
 use Rattle.object_program.specs.declared.program.Code.TheVariants as code
 use Rattle.object_program.specs.Program.{ProgramText}
-use Rattle.plain_machine.specs.declared.call.Call.TheVariants as call
-use Rattle.plain_machine.specs.declared.call.Mode.{Mode}
-use Rattle.plain_machine.specs.declared.call.Mode.TheVariants.{Calling}
+use Rattle.plain_machine.specs.declared.monitor_call.MonitorCall.TheVariants as call
+use Rattle.plain_machine.specs.declared.monitor_call.Mode.{Mode}
+use Rattle.plain_machine.specs.declared.monitor_call.Mode.TheVariants.{Calling}
 use Rattle.plain_machine.specs.Thread.{ThreadState}
 use Rattle.plain_machine.specs.Machine.{PlainMachine}
 use Rattle.machine_laws.specs.Reached.{AtEach}

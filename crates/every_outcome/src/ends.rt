@@ -5,12 +5,12 @@ ghost use Rattle.plain_monitor.specs.declared.entry.Logged.{Logged};
 ghost use Rattle.object_program.specs.Program.{ProgramText};
 ghost use Rattle.object_program.specs.Valid.{IsProgram};
 ghost use Rattle.plain_machine.specs.Machine.{PlainMachine, new_machine, is_stuck};
-ghost use Rattle.plain_machine.specs.Legal.{behind_all, machine_after};
+ghost use Rattle.plain_machine.specs.Legal.{after_all, machine_after};
 ghost use Rattle.every_outcome.specs.Covered.{IsSeen, IsClosed};
 ghost use Rattle.every_outcome.specs.Fuel.{refuelled, HasSpent, IsClosedFull, LeadsFull};
 ghost use Rattle.every_outcome.specs.Led.{LeadsTo, IsAfterLogs, IsOver};
 
-/// A list that covers the first machine, and each one behind an entry of one of its own, has every end of the program: each
+/// A list that covers the first machine, and each one after an entry of one of its own, has every end of the program: each
 /// machine under logs that is stuck, or whose threads have all ended.
 pub fn closed_lists_have_every_end()
     ensures { (p : ProgramText) (fuel : ℕ) (seen : List PlainMachine) (logs : List (List Logged)) (n : PlainMachine)
@@ -43,5 +43,5 @@ pub fn lists_without_stuck_machines()
 pub fn found_machines_are_real()
     ensures { (p : ProgramText) (top : ℕ) (xs : List (ℕ × Logged)) (r : PlainMachine) → 1 ≤ top → (HasSpent (new_machine p top) → ⊥)
         → LeadsFull top (refuelled top (new_machine p top)) xs r
-        → (n : PlainMachine) × (behind_all (new_machine p (top + length xs * top)) xs ≡ Some n) × (refuelled top n ≡ r) }
+        → (n : PlainMachine) × (after_all (new_machine p (top + length xs * top)) xs ≡ Some n) × (refuelled top n ≡ r) }
 {}

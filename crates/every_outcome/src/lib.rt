@@ -1,7 +1,7 @@
 //! Laws of a search for all ends of a program: which machines it has to keep so that it misses no end, and that it finds no others.
 //!
 //! Three things keep the machines few. An entry that *goes alone* commutes with whatever the other threads do next, so that a machine at
-//! which one goes need not be kept. Fuel is given back behind each entry, so that machines don't differ by it. And what holds of each
+//! which one goes need not be kept. Fuel is given back after each entry, so that machines don't differ by it. And what holds of each
 //! machine that is reached tells which parts of it need not be written down.
 #![tactic(auto)]
 

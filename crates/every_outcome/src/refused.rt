@@ -25,7 +25,7 @@ pub fn hashes_do_not_go_alone()
         → take a u (Hash o w g) ≡ None }
 {}
 
-/// A list isn't closed without a machine that takes nothing behind an entry of one of its own, of whichever thread.
+/// A list isn't closed without a machine that takes nothing after an entry of one of its own, of whichever thread.
 pub fn a_list_that_leaves_out_an_end_is_refused()
     ensures { (p : ProgramText) (fuel : ℕ) (seen : List PlainMachine) (m n : PlainMachine) (t : ℕ) (e : Entry)
         → IsSeen seen m → take m t e ≡ Some n → TakesNothing n → (IsSeen seen n → ⊥) → IsClosed p fuel seen → ⊥ }

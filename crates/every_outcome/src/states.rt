@@ -4,13 +4,13 @@ ghost use Rattle.std.specs.Prelude.{◌≡◌, ◌≤◌, ℕ, List, slice_get, 
 ghost use Rattle.plain_monitor.specs.declared.entry.Entry.{Entry};
 ghost use Rattle.object_program.specs.declared.program.Code.{Code};
 ghost use Rattle.object_program.specs.Program.{ProgramText};
-ghost use Rattle.plain_machine.specs.declared.call.Call.{Call};
-ghost use Rattle.plain_machine.specs.declared.call.Mode.TheVariants.{Calling};
+ghost use Rattle.plain_machine.specs.declared.monitor_call.MonitorCall.{MonitorCall};
+ghost use Rattle.plain_machine.specs.declared.monitor_call.Mode.TheVariants.{Calling};
 ghost use Rattle.plain_machine.specs.Thread.{ThreadState};
 ghost use Rattle.plain_machine.specs.Machine.{PlainMachine, new_machine, take};
 ghost use Rattle.machine_laws.specs.Reached.{IsReached};
 ghost use Rattle.every_outcome.specs.Fuel.{refuelled};
-ghost use Rattle.every_outcome.specs.Stands.{StandsBefore, AllStand};
+ghost use Rattle.every_outcome.specs.Stands.{IsAtCall, AllStand};
 
 /// A reached machine stays reached where its threads get fuel, and the holds of its threads are told by its objects.
 pub fn reached_machines_in_a_search()
@@ -24,7 +24,7 @@ pub fn threads_stand_before_their_calls()
     ensures first { (p : ProgramText) (fuel : ℕ) → AllStand (new_machine p fuel) }
     ensures each { (m n : PlainMachine) (t : ℕ) (e : Entry) → AllStand m → take m t e ≡ Some n → AllStand n }
     ensures full { (top : ℕ) (m : PlainMachine) → AllStand m → AllStand (refuelled top m) }
-    ensures told { (p : ProgramText) (code : List Code) (s : ThreadState) (fuel fuel2 : ℕ) (c d : Call)
-        → StandsBefore p code (record s { fuel = fuel; mode = Calling c }) (Calling c)
-        → StandsBefore p code (record s { fuel = fuel2; mode = Calling d }) (Calling d) → c ≡ d }
+    ensures told { (p : ProgramText) (code : List Code) (s : ThreadState) (fuel fuel2 : ℕ) (c d : MonitorCall)
+        → IsAtCall p code (record s { fuel = fuel; mode = Calling c }) (Calling c)
+        → IsAtCall p code (record s { fuel = fuel2; mode = Calling d }) (Calling d) → c ≡ d }
 {}

@@ -461,7 +461,7 @@ done
 end
 ";
 
-/// `made_queue.sync`: a queue whose nodes one thread makes and another takes; each node has an item and the node behind
+/// `made_queue.sync`: a queue whose nodes one thread makes and another takes; each node has an item and the node after
 /// it.
 pub const MADE_QUEUE_SYNC: &str = "\
 # A queue of nodes that one thread makes and another takes. Slot 0 of the queue is its first node, slot 1 its last

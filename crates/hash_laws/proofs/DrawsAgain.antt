@@ -1,5 +1,6 @@
 -- What a check asks of hashes makes them draws of generators.
-use Rattle.std.proofs.Common.{◌≡◌, ◌⊎◌, inl, inr, ℕ, ◌+◌, ◌==◌, ◌&&◌, ◌||◌, not, cond, Bool, true, false, List, [], ◌∷◌, ◌++◌, Option, Some, None, refl, sym, ap, ◌∙◌, subst, eq-eqb, eqb-true}
+use Rattle.std.proofs.Common.{◌≡◌, ◌⊎◌, inl, inr, ℕ, ◌+◌, ◌==◌, ◌&&◌, ◌||◌, not, cond, Bool, true, false, List}
+use Rattle.std.proofs.Common.{[], ◌∷◌, ◌++◌, Option, Some, None, refl, sym, ap, ◌∙◌, subst, eq-eqb, eqb-true}
 use Rattle.std.specs.List.{AllByRecursion}
 use Rattle.std.proofs.lemmas.Bool.{and_parts, cases_eq, false≢true}
 use Rattle.lock_policy.specs.Draws.{nth_value}
@@ -37,12 +38,14 @@ seen_in : (o t : ℕ) (xs : List (ℕ × Logged)) → has_hash o (of_thread t xs
 seen_in o t [] h = absurd (false≢true h)
 seen_in o t (x ∷ xs) h = by_test (x.0 == t) h (seen_in o t xs)
   where
-    at_head : (b : Bool) → is_hash o x.1.entry ≡ b → (b || has_hash o (of_thread t xs)) ≡ true → (has_hash o (of_thread t xs) ≡ true → has_none (hashes_of o xs) ≡ false)
+    at_head : (b : Bool) → is_hash o x.1.entry ≡ b → (b || has_hash o (of_thread t xs)) ≡ true
+        → (has_hash o (of_thread t xs) ≡ true → has_none (hashes_of o xs) ≡ false)
         → has_none (hashes_of o (x ∷ xs)) ≡ false
     at_head true is g others = seen_here o x xs is
     at_head false is g others = seen_later o x xs (others g)
 
-    by_test : (b : Bool) → has_hash o (cond b (x.1 ∷ of_thread t xs) (of_thread t xs)) ≡ true → (has_hash o (of_thread t xs) ≡ true → has_none (hashes_of o xs) ≡ false)
+    by_test : (b : Bool) → has_hash o (cond b (x.1 ∷ of_thread t xs) (of_thread t xs)) ≡ true
+        → (has_hash o (of_thread t xs) ≡ true → has_none (hashes_of o xs) ≡ false)
         → has_none (hashes_of o (x ∷ xs)) ≡ false
     by_test true g others = at_head (is_hash o x.1.entry) refl g others
     by_test false g others = seen_later o x xs (others g)
@@ -80,7 +83,8 @@ are_left : (start t : ℕ) (done left : List (ℕ × Logged)) → ((o : ℕ) →
 are_left start t done [] h = tt
 are_left start t done (x ∷ xs) h = by_thread (cases_eq x.0 t) (are_left start t (done ++ x ∷ []) xs (λ o. (parts o).1))
   where
-    parts : (o : ℕ) → ((not (is_draw_of o x.1.entry) || is_right start x.0 (draws_by x.0 done) x.1.entry) ≡ true) × (are_right start o (done ++ x ∷ []) xs ≡ true)
+    parts : (o : ℕ) → ((not (is_draw_of o x.1.entry) || is_right start x.0 (draws_by x.0 done) x.1.entry) ≡ true)
+        × (are_right start o (done ++ x ∷ []) xs ≡ true)
     parts o = and_parts (not (is_draw_of o x.1.entry) || is_right start x.0 (draws_by x.0 done) x.1.entry) (are_right start o (done ++ x ∷ []) xs) (h o)
 
     next : x.0 ≡ t → IsNextDraw (first_draw start t) (draws_by t done) (draw_in x.1.entry)
@@ -90,9 +94,9 @@ are_left start t done (x ∷ xs) h = by_thread (cases_eq x.0 t) (are_left start 
 
     by_thread : (x.0 ≡ t) ⊎ (x.0 ≡ t → ⊥) → AreLeft start t (done ++ x ∷ []) xs → AreLeft start t done (x ∷ xs)
     by_thread (inl is) others =
-        let behind : AreDraws (first_draw start t) (drawn_by (draw_in x.1.entry) + draws_by t done) (of_thread t xs) =
+        let after : AreDraws (first_draw start t) (drawn_by (draw_in x.1.entry) + draws_by t done) (of_thread t xs) =
         subst (λ n. AreDraws (first_draw start t) n (of_thread t xs)) (done_own t done x is) others in
-        subst (AreDraws (first_draw start t) (draws_by t done)) (sym (own_left t x xs is)) (next is, behind)
+        subst (AreDraws (first_draw start t) (draws_by t done)) (sym (own_left t x xs is)) (next is, after)
     by_thread (inr other) others =
         subst (AreDraws (first_draw start t) (draws_by t done)) (sym (other_left t x xs other))
         (subst (λ n. AreDraws (first_draw start t) n (of_thread t xs)) (done_other t done x other) others)
@@ -107,7 +111,8 @@ module _ (start : ℕ) (logs : List (List Logged)) (rises : AllByRecursion (Rise
 
   where_seen : (o : ℕ) → has_none (hashes_of o (order logs)) ≡ false → AllFit o
   where_seen o seen =
-      let both = or_right (has_none (hashes_of o (order logs))) (all_same (hashes_of o (order logs)) && (drawn_of o (order logs) == 1) && are_right start o [] (order logs)) seen (fits o) in
+      let both = or_right (has_none (hashes_of o (order logs)))
+      (all_same (hashes_of o (order logs)) && (drawn_of o (order logs) == 1) && are_right start o [] (order logs)) seen (fits o) in
       let front = and_parts (all_same (hashes_of o (order logs)) && (drawn_of o (order logs) == 1)) (are_right start o [] (order logs)) both in
       (eqb-true (drawn_of o (order logs)) 1 (and_parts (all_same (hashes_of o (order logs))) (drawn_of o (order logs) == 1) front.0).1, front.1)
 

@@ -1,5 +1,6 @@
 -- Draws of generators are what a check asks of hashes.
-use Rattle.std.proofs.Common.{◌≡◌, inl, inr, ℕ, ◌+◌, ◌==◌, ◌&&◌, ◌||◌, not, cond, Bool, true, false, List, [], ◌∷◌, ◌++◌, map, count_by, Option, Some, None, refl, sym, ap, ◌∙◌, subst, arith, eq-eqb}
+use Rattle.std.proofs.Common.{◌≡◌, inl, inr, ℕ, ◌+◌, ◌==◌, ◌&&◌, ◌||◌, not, cond, Bool, true, false, List, [], ◌∷◌}
+use Rattle.std.proofs.Common.{◌++◌, map, count_by, Option, Some, None, refl, sym, ap, ◌∙◌, subst, arith, eq-eqb}
 use Rattle.std.specs.List.{AllByRecursion}
 use Rattle.std.proofs.lemmas.Bool.{cases_eq}
 use Rattle.std.proofs.lemmas.List.Sums.{sum_by-append, sum_by-cons, sum_by_push}
@@ -11,7 +12,7 @@ use Rattle.plain_monitor.specs.History.{RisesAbove, log_of}
 use Rattle.plain_monitor.specs.Order.{insert_ordered, is_before, of_thread, order, ordered, with_threads}
 use Rattle.plain_monitor.proofs.Threads.{other_thread, thread_kept}
 use Rattle.plain_history.specs.EnterPaths.{has_hash, is_hash}
-use Rattle.plain_machine.specs.Legal.{behind_all}
+use Rattle.plain_machine.specs.Legal.{after_all}
 use Rattle.plain_machine.specs.Machine.{PlainMachine}
 use Rattle.core_world.specs.Clauses.Draws.{AreDraws, IsNextDraw, all_draws, draw_in, drawn_by, drawn_for, draws_for, first_draw}
 use Rattle.core_law.specs.Draws.{HasDraws}
@@ -101,7 +102,7 @@ seen_of o logs (x ∷ xs) placed h = by_entry (hash_in o x.1.entry) refl (seen_o
         (x.0, ap (has_hash o) p.log_is ∙ has_here o p.before x.1 p.later (at_entry v is))
 
 -- DRAWS
--- the draws of thread t that are left are its generator's, behind those that are done
+-- the draws of thread t that are left are its generator's, after those that are done
 abbrev pub AreLeft : ℕ → ℕ → List (ℕ × Logged) → List (ℕ × Logged) → Type 0
 AreLeft start t done left = AreDraws (first_draw start t) (draws_by t done) (of_thread t left)
 
@@ -131,20 +132,23 @@ done_other t done x other =
     let none : ◌≡◌ {A = ℕ} (cond ((x.0 == t) && is_draw x.1.entry) 1 0) 0 = rw (other_thread x.0 t other) refl in
     omega (arith, more, none)
 
--- the thread's next entry is its next draw, where it is one, and what is left behind it is left
+-- the thread's next entry is its next draw, where it is one, and what is left after it is left
 pub own_left : (t : ℕ) (x : ℕ × Logged) (xs : List (ℕ × Logged)) → x.0 ≡ t → of_thread t (x ∷ xs) ≡ x.1 ∷ of_thread t xs
 own_left t x xs is = rw (eq-eqb x.0 t is) refl
 
 pub other_left : (t : ℕ) (x : ℕ × Logged) (xs : List (ℕ × Logged)) → (x.0 ≡ t → ⊥) → of_thread t (x ∷ xs) ≡ of_thread t xs
 other_left t x xs other = rw (other_thread x.0 t other) refl
 
-left_behind : (start t : ℕ) (done : List (ℕ × Logged)) (x : ℕ × Logged) (xs : List (ℕ × Logged)) → AreLeft start t done (x ∷ xs) → AreLeft start t (done ++ x ∷ []) xs
-left_behind start t done x xs h = elim (cases_eq x.0 t) [
+left_after : (start t : ℕ) (done : List (ℕ × Logged)) (x : ℕ × Logged) (xs : List (ℕ × Logged))
+    → AreLeft start t done (x ∷ xs) → AreLeft start t (done ++ x ∷ []) xs
+left_after start t done x xs h = elim (cases_eq x.0 t) [
   | inl is ↦
-      let k : AreDraws (first_draw start t) (draws_by t done) (x.1 ∷ of_thread t xs) = subst (AreDraws (first_draw start t) (draws_by t done)) (own_left t x xs is) h in
+      let k : AreDraws (first_draw start t) (draws_by t done) (x.1 ∷ of_thread t xs) =
+      subst (AreDraws (first_draw start t) (draws_by t done)) (own_left t x xs is) h in
       subst (λ n. AreDraws (first_draw start t) n (of_thread t xs)) (sym (done_own t done x is)) k.1
   | inr other ↦
-      let k : AreDraws (first_draw start t) (draws_by t done) (of_thread t xs) = subst (AreDraws (first_draw start t) (draws_by t done)) (other_left t x xs other) h in
+      let k : AreDraws (first_draw start t) (draws_by t done) (of_thread t xs) =
+      subst (AreDraws (first_draw start t) (draws_by t done)) (other_left t x xs other) h in
       subst (λ n. AreDraws (first_draw start t) n (of_thread t xs)) (sym (done_other t done x other)) k
 ]
 
@@ -162,9 +166,10 @@ all_right start o done (x ∷ xs) h =
     subst (AreDraws (first_draw start x.0) (draws_by x.0 done)) (own_left x.0 x xs refl) (h x.0) in
     let right = is_next_right start x.0 (draws_by x.0 done) x.1.entry k.0 in
     either_and (not (is_draw_of o x.1.entry)) (is_right start x.0 (draws_by x.0 done) x.1.entry) (are_right start o (done ++ x ∷ []) xs) right
-    (all_right start o (done ++ x ∷ []) xs (λ t. left_behind start t done x xs (h t)))
+    (all_right start o (done ++ x ∷ []) xs (λ t. left_after start t done x xs (h t)))
 
-pub hashes_fit : (start : ℕ) (logs : List (List Logged)) (first last : PlainMachine) → AllByRecursion (RisesAbove 0) logs → behind_all first (order logs) ≡ Some last
+pub hashes_fit : (start : ℕ) (logs : List (List Logged)) (first last : PlainMachine)
+    → AllByRecursion (RisesAbove 0) logs → after_all first (order logs) ≡ Some last
     → HasDraws start logs → (o : ℕ) → hash_fits start (order logs) o ≡ true
 hashes_fit start logs first last rises under h o = by_test (has_none (hashes_of o (order logs))) refl
   where
@@ -177,5 +182,6 @@ hashes_fit start logs first last rises under h o = by_test (has_none (hashes_of 
     by_test false is =
         let seen = seen_of o logs (order logs) (all_placed logs) is in
         let one = drawn_in_all o logs ∙ h.one o seen.0 seen.1 in
-        all_true (all_same (hashes_of o (order logs))) (drawn_of o (order logs) == 1) (are_right start o [] (order logs)) (one_value first (order logs) last o under)
+        all_true (all_same (hashes_of o (order logs))) (drawn_of o (order logs) == 1)
+        (are_right start o [] (order logs)) (one_value first (order logs) last o under)
         (eq-eqb (drawn_of o (order logs)) 1 one) (all_right start o [] (order logs) left)

@@ -1,5 +1,6 @@
 -- All hashes of an object have one value, where a machine takes them.
-use Rattle.std.proofs.Common.{◌≡◌, ◌⊎◌, inl, inr, ℕ, ◌==◌, ◌&&◌, ◌^◌, nat_le, nat_lt, true, List, [], ◌∷◌, slice_get, slice_set, Option, Some, None, refl, sym, ap, ◌∙◌, subst, eqb-true, eq-eqb}
+use Rattle.std.proofs.Common.{◌≡◌, ◌⊎◌, inl, inr, ℕ, ◌==◌, ◌&&◌, ◌^◌, nat_le, nat_lt, true, List, [], ◌∷◌, slice_get}
+use Rattle.std.proofs.Common.{slice_set, Option, Some, None, refl, sym, ap, ◌∙◌, subst, eqb-true, eq-eqb}
 use Rattle.std.specs.List.{list_all}
 use Rattle.std.proofs.lemmas.Bool.{cases_eq}
 use Rattle.std.proofs.lemmas.Option.{cond_some, none-some, same_Some}
@@ -10,7 +11,7 @@ use Rattle.plain_monitor.specs.Objects.{PlainObject, hashed, named, take_at, tak
 use Rattle.plain_monitor.proofs.Lists.{get_set_same, get_set_other}
 use Rattle.plain_history.proofs.Joined.{first_some}
 use Rattle.plain_history.proofs.Swaps.{IsHash, IsPlain, hash_taken, plain_or_hash, rehashed, taken_at}
-use Rattle.plain_machine.specs.Legal.{behind_all}
+use Rattle.plain_machine.specs.Legal.{after_all}
 use Rattle.plain_machine.specs.Machine.{PlainMachine, take}
 use Rattle.machine_laws.proofs.ReachedAsked.{taken}
 use Rattle.lock_journal.specs.Hashes.{all_same, hash_in, hashes_of}
@@ -27,9 +28,9 @@ one_hash objects o v w a b =
     same_Some v w (sym a.hash ∙ ap (λ (x : PlainObject). x.hash) same ∙ b.hash)
 
 -- a hash that an object takes is then its hash
-hash_behind : (old : Option ℕ) (v : ℕ) (k : Option ℕ) → hashed old v ≡ Some k → k ≡ Some v
-hash_behind None v k h = sym (cond_some (nat_le 1 v && nat_lt v (2 ^ 31)) (Some v) k h).1
-hash_behind (Some w) v k h =
+hash_after : (old : Option ℕ) (v : ℕ) (k : Option ℕ) → hashed old v ≡ Some k → k ≡ Some v
+hash_after None v k h = sym (cond_some (nat_le 1 v && nat_lt v (2 ^ 31)) (Some v) k h).1
+hash_after (Some w) v k h =
     let r = cond_some (w == v) (Some w) k h in
     sym r.1 ∙ ap Some (eqb-true w v r.0)
 
@@ -68,7 +69,8 @@ keeps objects after t o w e h step = by_name (named e) step
               let same : h.object ≡ r.x = same_Some h.object r.x (sym h.there ∙ was) in
               record {
                 object = r.y;
-                there = ap (λ (xs : List PlainObject). slice_get xs o) r.is ∙ ap (slice_get (slice_set objects k r.y)) (sym q) ∙ get_set_same objects k r.x r.y r.was;
+                there = ap (λ (xs : List PlainObject). slice_get xs o) r.is
+                    ∙ ap (slice_get (slice_set objects k r.y)) (sym q) ∙ get_set_same objects k r.x r.y r.was;
                 hash = object_keeps r.x r.y t w e (ap (λ (x : PlainObject). x.hash) (sym same) ∙ h.hash) r.step;
               }
           | inr d ↦
@@ -100,7 +102,7 @@ gives objects after t o v e h step =
     record {
       object = r.y;
       there = ap (λ (xs : List PlainObject). slice_get xs o) r.is ∙ get_set_same objects o r.x r.y r.was;
-      hash = ap (λ (z : PlainObject). z.hash) (sym taken.2) ∙ hash_behind r.x.hash v taken.0 taken.1;
+      hash = ap (λ (z : PlainObject). z.hash) (sym taken.2) ∙ hash_after r.x.hash v taken.0 taken.1;
     }
 
 -- MACHINES
@@ -116,24 +118,26 @@ machine_gives : (m next : PlainMachine) (t o v : ℕ) (e : Entry) → hash_in o 
 machine_gives m next t o v e h step = gives m.objects next.objects t o v e h (objects_take m next t e step)
 
 -- where the object has a hash already, all further ones are that
-all_equal : (m : PlainMachine) (xs : List (ℕ × Logged)) (last : PlainMachine) (o w : ℕ) → behind_all m xs ≡ Some last → IsHashed m.objects o w
+all_equal : (m : PlainMachine) (xs : List (ℕ × Logged)) (last : PlainMachine) (o w : ℕ) → after_all m xs ≡ Some last → IsHashed m.objects o w
     → list_all (λ v. w == v) (hashes_of o xs) ≡ true
 all_equal m [] last o w e h = refl
 all_equal m (x ∷ xs) last o w e h =
-    let next = first_some (λ z. behind_all z xs) (take m x.0 x.1.entry) last e in
+    let next = first_some (λ z. after_all z xs) (take m x.0 x.1.entry) last e in
     let kept = machine_keeps m next.0 x.0 o w x.1.entry h next.1 in
-    by_entry (hash_in o x.1.entry) (λ v is. one_hash next.0.objects o w v kept (machine_gives m next.0 x.0 o v x.1.entry is next.1)) (all_equal next.0 xs last o w next.2 kept) refl
+    by_entry (hash_in o x.1.entry) (λ v is. one_hash next.0.objects o w v kept (machine_gives m next.0 x.0 o v x.1.entry is next.1))
+    (all_equal next.0 xs last o w next.2 kept) refl
   where
     by_entry : (a : Option ℕ) → ((v : ℕ) → hash_in o x.1.entry ≡ Some v → w ≡ v) → list_all (λ v. w == v) (hashes_of o xs) ≡ true → hash_in o x.1.entry ≡ a
         → list_all (λ v. w == v) (hashes_of o (x ∷ xs)) ≡ true
     by_entry None same rest is = rw is rest
     by_entry (Some v) same rest is = rw (is, eq-eqb w v (same v is)) rest
 
-pub one_value : (m : PlainMachine) (xs : List (ℕ × Logged)) (last : PlainMachine) (o : ℕ) → behind_all m xs ≡ Some last → all_same (hashes_of o xs) ≡ true
+pub one_value : (m : PlainMachine) (xs : List (ℕ × Logged)) (last : PlainMachine) (o : ℕ) → after_all m xs ≡ Some last → all_same (hashes_of o xs) ≡ true
 one_value m [] last o e = refl
 one_value m (x ∷ xs) last o e =
-    let next = first_some (λ z. behind_all z xs) (take m x.0 x.1.entry) last e in
-    by_entry (hash_in o x.1.entry) (λ v is. all_equal next.0 xs last o v next.2 (machine_gives m next.0 x.0 o v x.1.entry is next.1)) (one_value next.0 xs last o next.2) refl
+    let next = first_some (λ z. after_all z xs) (take m x.0 x.1.entry) last e in
+    by_entry (hash_in o x.1.entry) (λ v is. all_equal next.0 xs last o v next.2 (machine_gives m next.0 x.0 o v x.1.entry is next.1))
+    (one_value next.0 xs last o next.2) refl
   where
     by_entry : (a : Option ℕ) → ((v : ℕ) → hash_in o x.1.entry ≡ Some v → list_all (λ w. v == w) (hashes_of o xs) ≡ true) → all_same (hashes_of o xs) ≡ true
         → hash_in o x.1.entry ≡ a → all_same (hashes_of o (x ∷ xs)) ≡ true

@@ -17,7 +17,8 @@ pub the_some : {A : Type 0} (o : Option A) → IsSome o → (x : A) × (o ≡ So
 the_some None h = absurd (false≢true h)
 the_some (Some x) h = (x, refl)
 
-pub legal_hashes_fit : (p : ProgramText) (fuel start : ℕ) (logs : List (List Logged)) → IsLegal p fuel logs → HasDraws start logs → (o : ℕ) → hash_fits start (order logs) o ≡ true
+pub legal_hashes_fit : (p : ProgramText) (fuel start : ℕ) (logs : List (List Logged))
+    → IsLegal p fuel logs → HasDraws start logs → (o : ℕ) → hash_fits start (order logs) o ≡ true
 legal_hashes_fit p fuel start logs legal draws o =
     let m = the_some (machine_after p fuel logs) legal.taken in
     hashes_fit start logs (new_machine p fuel) m.0 legal.rises m.1 draws o

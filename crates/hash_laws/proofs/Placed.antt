@@ -8,7 +8,7 @@ use Rattle.plain_monitor.proofs.Lists.{all_append}
 use Rattle.plain_monitor.proofs.Orders.{all_ordered}
 use Rattle.plain_monitor.proofs.Threads.{thread_kept}
 
--- what stands before the entry and behind it in its thread's log
+-- what stands before the entry and after it in its thread's log
 pub record IsPlaced (logs : List (List Logged)) (x : ℕ × Logged) : Type 0 where
   pub before : List Logged
   pub later : List Logged

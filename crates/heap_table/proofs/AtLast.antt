@@ -7,14 +7,14 @@ use lib.ListN.{get_elem?}
 use Rattle.atomic_table.specs.Table.{Final, Seen}
 use Rattle.core_law.specs.HeapLaw.{HeapLaw}
 use Rattle.core_law.specs.Logic.{Heap}
-use Rattle.core_world.specs.Threads.Known.{Known}
+use Rattle.core_world.specs.Threads.ThreadView.{ThreadView}
 use Rattle.heap_table.specs.Layout.{place_of, word_count}
 use Rattle.heap_table.specs.Ruled.{heap_in}
 use Rattle.heap_table.specs.inner.Ruled.{Each, Rules, Ruled}
 use Rattle.heap_table.specs.declared.setting.Setting.{Setting}
 use Rattle.std.specs.List.{All}
 use Rattle.heap_table.specs.Seen.{HeapSeen, PassSeen, IsOf, LastWorld, given_of, page_of, pages_of, logs_of}
-use Rattle.heap_table.specs.Kept.{Follows}
+use Rattle.heap_table.specs.Kept.{Mirrors}
 use Rattle.heap_table.specs.declared.mirror.Mirror.{Mirror}
 use Rattle.heap_table.specs.inner.Seen.{AllOf}
 
@@ -26,12 +26,13 @@ at_place (y ∷ ys) (suc i) x e = let h = at_place ys i x e in (omega (arith, h.
 pub copies : (xs copy : List ℕ) (i x : ℕ) → get_elem? xs i ≡ some x → copy ≡ take i xs → copy ++ x ∷ [] ≡ take (i + 1) xs
 copies xs copy i x e c = let h = at_place xs i x e in (λ j. c j ++ sym h.1 j ∷ []) ∙ sym (take_more xs i 0 h.0)
 
-each_at : (P : Known → Type 0) (v : List Known) (i : ℕ) (k : Known) → Each P v → slice_get v i ≡ Some k → P k
+each_at : (P : ThreadView → Type 0) (v : List ThreadView) (i : ℕ) (k : ThreadView) → Each P v → slice_get v i ≡ Some k → P k
 each_at P [] i k h e = absurd (cc)
 each_at P (x ∷ xs) zero k h e = let s : x ≡ k = cc in subst P s h.0
 each_at P (x ∷ xs) (suc i) k h e = each_at P xs i k h.1 e
 
-pub final : {S : Type 0} (b : Heap) (id : ℕ) (v : List Known) (ws copy : List ℕ) (xs : List S) (n : ℕ) → Final (Seen (Rules {S = S} b) id v) ws xs → n ≡ word_count b.shape → copy ≡ take n ws → LastWorld b copy v
+pub final : {S : Type 0} (b : Heap) (id : ℕ) (v : List ThreadView) (ws copy : List ℕ) (xs : List S) (n : ℕ)
+    → Final (Seen (Rules {S = S} b) id v) ws xs → n ≡ word_count b.shape → copy ≡ take n ws → LastWorld b copy v
 final b id v ws copy xs n ((s, ((w, who, sh, sound, came), at), words, count, slots)) e c =
     let same : copy ≡ s.words = c ∙ ap (take n) (sym words) ∙ take_all n s.words (omega (arith, sh.wide, e)) in
     let mine = sh.knows id v at in
@@ -41,16 +42,18 @@ final b id v ws copy xs n ((s, ((w, who, sh, sound, came), at), words, count, sl
       sound = sound;
       comes = came.comes;
       words_are = λ m here. ap (λ (l : List ℕ). slice_index l (place_of b.shape m)) same ∙ sh.words_are m here;
-      knows = λ i k there. (each_at (λ (k : Known). (w.known k.thread ≡ k) × (who k.thread ≡ id)) v i k mine.0 there).0;
+      knows = λ i k there. (each_at (λ (k : ThreadView). (w.known k.thread ≡ k) × (who k.thread ≡ id)) v i k mine.0 there).0;
     }
 
-pub final_as : {S : Type 0} (b : Heap) (key : Setting) (id : ℕ) (v u : List Known) (ws copy : List ℕ) (xs : List S) (n : ℕ) → heap_in key ≡ b → v ≡ u → Final (Seen (Ruled {S = S} key) id v) ws xs → n ≡ word_count b.shape → copy ≡ take n ws → LastWorld b copy u
+pub final_as : {S : Type 0} (b : Heap) (key : Setting) (id : ℕ) (v u : List ThreadView) (ws copy : List ℕ) (xs : List S) (n : ℕ)
+    → heap_in key ≡ b → v ≡ u → Final (Seen (Ruled {S = S} key) id v) ws xs → n ≡ word_count b.shape → copy ≡ take n ws → LastWorld b copy u
 final_as {S} b key id v u ws copy xs n k e f c t =
-    let P : Heap × List Known → Type 0 = λ z. Final (Seen (Rules {S = S} z.0) id z.1) ws xs in
+    let P : Heap × List ThreadView → Type 0 = λ z. Final (Seen (Rules {S = S} z.0) id z.1) ws xs in
     final {S = S} b id u ws copy xs n (subst P (λ j. (k j, e j)) f) c t
 
 -- and the heap has its law
-pub law_as : {S : Type 0} (b : Heap) (key : Setting) (id : ℕ) (v : List Known) (ws : List ℕ) (xs : List S) → heap_in key ≡ b → Final (Seen (Ruled {S = S} key) id v) ws xs → HeapLaw b
+pub law_as : {S : Type 0} (b : Heap) (key : Setting) (id : ℕ) (v : List ThreadView) (ws : List ℕ) (xs : List S)
+    → heap_in key ≡ b → Final (Seen (Ruled {S = S} key) id v) ws xs → HeapLaw b
 law_as b key id v ws xs k ((s, ((w, who, sh, sound, came), at), words, count, slots)) = subst HeapLaw k came.law
 
 pub all_yielded : {A : Type 0} (xs ys zs : List A) → xs ++ ys ≡ zs → length ys ≡ 0 → xs ≡ zs
@@ -62,7 +65,7 @@ all_of h [] f = tt
 all_of h (p ∷ ps) f = ((f 0 p (omega arith)).table, all_of h ps (λ k d lt. f (suc k) d (omega arith)))
 
 -- the page that a pass keeps is what its log has besides the pages that were handed out
-pub page_is : (m : Mirror) (p : PassSeen) → Follows m p.known → p.limit ≡ m.given + m.room → p.room ≡ m.room → page_of p ≡ m.log.items
+pub page_is : (m : Mirror) (p : PassSeen) → Mirrors m p.known → p.limit ≡ m.given + m.room → p.room ≡ m.room → page_of p ≡ m.log.items
 page_is m p f limit room =
     let given : given_of p ≡ m.given = omega (arith, limit, room) in
     ap (λ n. drop n p.known.log) given ∙ f.log.entries

@@ -1,5 +1,6 @@
 -- Counts of verdicts and of holds.
-use Rattle.std.proofs.Common.{◌≡◌, ℕ, zero, suc, ◌+◌, ◌<◌, ◌≤◌, ◌==◌, eq-eqb, ne_eqb, List, [], ◌∷◌, ◌++◌, length, get_or, take, Bool, true, false, cond, refl, sym, ap, arith}
+use Rattle.std.proofs.Common.{◌≡◌, ℕ, zero, suc, ◌+◌, ◌<◌, ◌≤◌, ◌==◌, eq-eqb, ne_eqb, List, [], ◌∷◌, ◌++◌}
+use Rattle.std.proofs.Common.{length, get_or, take, Bool, true, false, cond, refl, sym, ap, arith}
 use Rattle.std.specs.Prelude.{slice_set}
 use Rattle.lock_policy.specs.declared.policy.Verdict.{Verdict}
 use Rattle.core_world.specs.Threads.Counts.{CountedVerdict, counts_of, with_verdict_counted, with_reset, with_verdict}
@@ -19,7 +20,8 @@ counts_above i (suc n) c v r k h =
     let e : (i == c) ≡ false = ne_eqb i c (λ e. omega (arith, h, e)) in
     λ j. capped_counts (cond (e j) (with_reset (with_verdict (counts_of k i) v) r) (counts_of k i)) ∷ counts_above (suc i) n c v r k (omega (arith, h)) j
 
-pub counts_below : (i n c : ℕ) (v : Verdict) (r : Bool) (k : List CountedVerdict) → i + n ≤ c → counts_shown i n (with_verdict_counted k c v r) ≡ counts_shown i n k
+pub counts_below : (i n c : ℕ) (v : Verdict) (r : Bool) (k : List CountedVerdict)
+    → i + n ≤ c → counts_shown i n (with_verdict_counted k c v r) ≡ counts_shown i n k
 counts_below i zero c v r k h = refl
 counts_below i (suc n) c v r k h =
     let e : (i == c) ≡ false = ne_eqb i c (λ e. omega (arith, h, e)) in
@@ -31,7 +33,8 @@ counts_set i zero j c v r k h = refl
 counts_set i (suc n) zero c v r k h =
     let e : (i == c) ≡ true = eq-eqb i c (omega (arith, h)) in
     let f : c ≡ i = omega (arith, h) in
-    λ x. capped_counts (cond (sym e x) (with_reset (with_verdict (counts_of k (f x)) v) r) (counts_of k i)) ∷ sym (counts_above (suc i) n c v r k (omega (arith, h))) x
+    λ x. capped_counts (cond (sym e x) (with_reset (with_verdict (counts_of k (f x)) v) r) (counts_of k i))
+    ∷ sym (counts_above (suc i) n c v r k (omega (arith, h))) x
 counts_set i (suc n) (suc j) c v r k h =
     let e : (i == c) ≡ false = ne_eqb i c (λ e. omega (arith, h, e)) in
     λ x. capped_counts (cond (sym e x) (with_reset (with_verdict (counts_of k i) v) r) (counts_of k i)) ∷ counts_set (suc i) n j c v r k (omega (arith, h)) x
@@ -47,7 +50,8 @@ counts_more i zero j k e = let f : j ≡ i = omega (arith, e) in ap (λ x. cappe
 counts_more i (suc n) j k e = ap (λ (l : List ClassCounts). capped_counts (counts_of k i) ∷ l) (counts_more (suc i) n j k (omega (arith, e)))
 
 -- a word more
-pub number_more : (test : ℕ → ℕ → Bool) (p i : ℕ) (xs : List ℕ) → i < length xs → count_where test p (take (suc i) xs) ≡ count_where test p (take i xs) + one_if (test (p + i) (get_or xs i 0))
+pub number_more : (test : ℕ → ℕ → Bool) (p i : ℕ) (xs : List ℕ) → i < length xs
+    → count_where test p (take (suc i) xs) ≡ count_where test p (take i xs) + one_if (test (p + i) (get_or xs i 0))
 number_more test p i [] h = absurd (omega (arith, h))
 number_more test p zero (x ∷ xs) h = let e : p + 0 ≡ p = omega arith in omega (arith, ap (λ q. one_if (test q x)) e)
 number_more test p (suc i) (x ∷ xs) h =

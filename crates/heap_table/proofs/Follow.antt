@@ -1,5 +1,6 @@
 -- What a pass keeps follows its thread's step, where the step hits.
-use Rattle.std.proofs.Common.{◌≡◌, ℕ, ◌+◌, ◌≤◌, length, length-append, append-nil, arith, ◌==◌, Bool, true, false, cond, List, [], ◌∷◌, ◌++◌, Option, Some, None, refl, sym, ap, ◌∙◌, subst}
+use Rattle.std.proofs.Common.{◌≡◌, ℕ, ◌+◌, ◌≤◌, length, length-append, append-nil, arith, ◌==◌, Bool, true, false}
+use Rattle.std.proofs.Common.{cond, List, [], ◌∷◌, ◌++◌, Option, Some, None, refl, sym, ap, ◌∙◌, subst}
 use Rattle.plain_monitor.specs.declared.entry.Entry.{Entry}
 use Rattle.plain_monitor.specs.declared.entry.Entry.TheVariants as entry
 use Rattle.plain_monitor.specs.declared.entry.Logged.{Logged}
@@ -8,19 +9,20 @@ use Rattle.plain_monitor.specs.ValueWords.{read_value}
 use Rattle.core_world.specs.Trees.Operations.{value_found}
 use Rattle.core_world.specs.declared.act.Act.{Act as ActOf}
 use Rattle.core_world.specs.declared.act.Act.TheVariants as act
-use Rattle.core_world.specs.declared.name.Name.{Name}
-use Rattle.core_world.specs.declared.name.Name.TheVariants as name
-use Rattle.core_world.specs.declared.plan.Note.{Note}
-use Rattle.core_world.specs.declared.plan.Note.TheVariants.{Quiet, Log, LogGet, LogHash}
+use Rattle.core_world.specs.declared.word_id.WordId.{WordId}
+use Rattle.core_world.specs.declared.word_id.WordId.TheVariants as id
+use Rattle.core_world.specs.declared.plan.LogEffect.{LogEffect}
+use Rattle.core_world.specs.declared.plan.LogEffect.TheVariants.{Quiet, Log, LogGet, LogHash}
 use Rattle.core_world.specs.declared.plan.StepPlan.{StepPlan}
 use Rattle.core_world.specs.Words.Acts.{word_after, hits}
 use Rattle.core_world.specs.Words.Forms.{hash_in}
-use Rattle.core_world.specs.Threads.Known.{Known}
+use Rattle.core_world.specs.Threads.ThreadView.{ThreadView}
 use Rattle.core_world.specs.Words.Shape.{Shape}
-use Rattle.core_world.specs.Steps.{known_after, known_hit, known_miss, log_after, with_entry, stamp_by, runs_after, asks_after, reached_after, halted_after, kept_after, saved_after, holds_after, wait_after, published_after, unfinished_after}
-use Rattle.core_world.specs.declared.plan.Own.{Own}
-use Rattle.core_world.specs.declared.plan.Own.TheVariants as own
-use Rattle.core_world.specs.Threads.Known.{DumpShot}
+use Rattle.core_world.specs.Steps.{known_after, known_hit, known_miss, log_after, with_entry, stamp_by, runs_after, asks_after, reached_after}
+use Rattle.core_world.specs.Steps.{halted_after, kept_after, saved_after, holds_after, wait_after, published_after, unfinished_after}
+use Rattle.core_world.specs.declared.plan.LocalEffect.{LocalEffect}
+use Rattle.core_world.specs.declared.plan.LocalEffect.TheVariants as own
+use Rattle.core_world.specs.Threads.ThreadView.{DumpShot}
 use Rattle.core_world.specs.Steps.{shots_after}
 use Rattle.heap_table.specs.Cells.{cells_shown}
 use Rattle.heap_table.specs.Drafts.{IsDrafted}
@@ -31,19 +33,20 @@ use Rattle.lock_policy.specs.Draws.{state_after}
 use Rattle.heap_table.specs.Tallies.{counts_shown}
 use Rattle.heap_table.specs.declared.afters.Stand.{Stand}
 use Rattle.heap_table.specs.declared.mirror.Mirror.{Mirror}
-use Rattle.heap_table.specs.Kept.{Follows, HasRoom, IsPageFrom}
+use Rattle.heap_table.specs.Kept.{Mirrors, LogHasRoom, IsPageFrom}
 use Rattle.heap_table.specs.inner.Kept.{entry_after, with_any_entry, stand_after, made_after}
 use Rattle.std.proofs.lemmas.List.{drop-append-le}
 use Rattle.plain_history.specs.Known.{news, class_made}
 use Rattle.plain_monitor.specs.Made.{creates}
 
-pub log_is : (note : Note) (found : ℕ) (log : List Logged) → log_after note found log ≡ with_any_entry (entry_after note found) found log
+pub log_is : (note : LogEffect) (found : ℕ) (log : List Logged) → log_after note found log ≡ with_any_entry (entry_after note found) found log
 log_is Quiet found log = refl
 log_is (Log e) found log = refl
 log_is (LogGet o slot) found log = refl
 log_is (LogHash o) found log = cases (hash_in found == 0)
   where
-    cases : (b : Bool) → cond b log (with_entry (entry.Hash o (hash_in found) None) found log) ≡ with_any_entry (cond b None (Some (entry.Hash o (hash_in found) None))) found log
+    cases : (b : Bool) → cond b log (with_entry (entry.Hash o (hash_in found) None) found log)
+        ≡ with_any_entry (cond b None (Some (entry.Hash o (hash_in found) None))) found log
     cases true = refl
     cases false = refl
 
@@ -51,7 +54,7 @@ pub last_end : (n : ℕ) (log : List Logged) (l : Logged) → last_above n (log 
 last_end n [] l = refl
 last_end n (x ∷ log) l = last_end x.stamp log l
 
--- an entry behind the page stands behind the log
+-- an entry after the page stands after the log
 page_grows : (given : ℕ) (log page : List Logged) (l : Logged) → IsPageFrom given log page → IsPageFrom given (log ++ l ∷ []) (page ++ l ∷ [])
 page_grows given log page l p =
     let whole = p.whole in let longer = length-append log (l ∷ []) in let more = length-append page (l ∷ []) in record {
@@ -59,65 +62,75 @@ page_grows given log page l p =
       whole = omega (arith, whole, longer, more);
     }
 
-pub noted : (note : Note) (found last stamp : ℕ) (page next : List Logged) (e : Entry) → entry_after note found ≡ Some e → stamp ≡ stamp_by e found last
+pub noted : (note : LogEffect) (found last stamp : ℕ) (page next : List Logged) (e : Entry) → entry_after note found ≡ Some e → stamp ≡ stamp_by e found last
     → next ≡ page ++ record { stamp = stamp; entry = e } ∷ [] → (given : ℕ) (log : List Logged) → IsPageFrom given log page → last_stamp log ≡ last
     → IsPageFrom given (log_after note found log) next × (last_stamp (log_after note found log) ≡ stamp)
 noted note found last stamp page next e is by more given log p same =
     let l : Logged = record { stamp = stamp; entry = e } in
     let s : stamp ≡ stamp_by e found (last_stamp log) = by ∙ ap (stamp_by e found) (sym same) in
     let b : log ++ l ∷ [] ≡ log_after note found log =
-    ap (λ (x : ℕ). log ++ record { stamp = x; entry = e } ∷ []) s ∙ ap (λ (x : Option Entry). with_any_entry x found log) (sym is) ∙ sym (log_is note found log) in
+    ap (λ (x : ℕ). log ++ record { stamp = x; entry = e } ∷ []) s
+    ∙ ap (λ (x : Option Entry). with_any_entry x found log) (sym is) ∙ sym (log_is note found log) in
     let grown : IsPageFrom given (log ++ l ∷ []) next = subst (IsPageFrom given (log ++ l ∷ [])) (sym more) (page_grows given log page l p) in
     (subst (λ (x : List Logged). IsPageFrom given x next) b grown, ap last_stamp (sym b) ∙ last_end 0 log l)
 
-pub unnoted : (note : Note) (found last : ℕ) (page : List Logged) → entry_after note found ≡ None → (given : ℕ) (log : List Logged) → IsPageFrom given log page
+pub unnoted : (note : LogEffect) (found last : ℕ) (page : List Logged)
+    → entry_after note found ≡ None → (given : ℕ) (log : List Logged) → IsPageFrom given log page
     → last_stamp log ≡ last → IsPageFrom given (log_after note found log) page × (last_stamp (log_after note found log) ≡ last)
 unnoted note found last page is given log p same =
     let b : log ≡ log_after note found log = ap (λ (x : Option Entry). with_any_entry x found log) (sym is) ∙ sym (log_is note found log) in
     (subst (λ (x : List Logged). IsPageFrom given x page) b p, ap last_stamp (sym b) ∙ same)
 
 -- what has room in the log has room in the page
-pub room_in_page : (note : Note) (given room : ℕ) (log page : List Logged) → IsPageFrom given log page → HasRoom note log (given + room) → HasRoom note page room
+pub room_in_page : (note : LogEffect) (given room : ℕ) (log page : List Logged)
+    → IsPageFrom given log page → LogHasRoom note log (given + room) → LogHasRoom note page room
 room_in_page Quiet given room log page p h = tt
 room_in_page (Log e) given room log page p h = let whole = p.whole in omega (arith, whole, h)
 room_in_page (LogGet o slot) given room log page p h = let whole = p.whole in omega (arith, whole, h)
 room_in_page (LogHash o) given room log page p h = let whole = p.whole in omega (arith, whole, h)
 
-abbrev stand_of : Known → Stand
+abbrev stand_of : ThreadView → Stand
 stand_of k = record { running = k.running; requesting = k.requesting; reached = k.reached; halted = k.halted }
 
-abbrev stand_known : Name → ActOf → ℕ → Known → Stand
-stand_known at a word k = record { running = runs_after at a word k; requesting = asks_after at a word k; reached = reached_after at a word k; halted = halted_after at word k }
+abbrev stand_known : WordId → ActOf → ℕ → ThreadView → Stand
+stand_known at a word k = record {
+  running = runs_after at a word k;
+  requesting = asks_after at a word k;
+  reached = reached_after at a word k;
+  halted = halted_after at word k;
+}
 
-known_stand : (a : Name) (c : ActOf) (word : ℕ) (k : Known) (s : Stand) → k.running ≡ s.running → k.requesting ≡ s.requesting → k.reached ≡ s.reached → k.halted ≡ s.halted
+known_stand : (a : WordId) (c : ActOf) (word : ℕ) (k : ThreadView) (s : Stand)
+    → k.running ≡ s.running → k.requesting ≡ s.requesting → k.reached ≡ s.reached → k.halted ≡ s.halted
     → stand_known a c word k ≡ stand_after a c word k.thread s
-known_stand a c word k s r q e h = same a c word k ∙ ap (stand_after a c word k.thread) (λ i. record { running = r i; requesting = q i; reached = e i; halted = h i })
+known_stand a c word k s r q e h =
+    same a c word k ∙ ap (stand_after a c word k.thread) (λ i. record { running = r i; requesting = q i; reached = e i; halted = h i })
   where
-    same : (a : Name) (c : ActOf) (word : ℕ) (k : Known) → stand_known a c word k ≡ stand_after a c word k.thread (stand_of k)
-    same name.Safepoint act.Load word k = refl
-    same name.Safepoint (act.Store x) word k = refl
-    same name.Safepoint (act.Swap x y) word k = refl
-    same name.Safepoint (act.Raise x) word k = refl
-    same name.Safepoint (act.Mask x) word k = refl
-    same name.Safepoint act.Count word k = refl
-    same (name.Prototype x) c word k = refl
-    same (name.Revocations x) c word k = refl
-    same (name.LastBulk x) c word k = refl
-    same (name.Mark x) c word k = refl
-    same (name.Stamp x) c word k = refl
-    same (name.Slot x y) c word k = refl
-    same (name.Class x) c word k = refl
-    same (name.Hold x y) c word k = refl
-    same (name.Displaced x y) c word k = refl
-    same (name.Waiting x) c word k = refl
-    same (name.Length x) c word k = refl
-    same (name.Owner x) c word k = refl
-    same (name.Recursions x) c word k = refl
-    same (name.Header x) c word k = refl
-    same (name.Object x) c word k = refl
-    same name.Claim c word k = refl
-    same name.End c word k = refl
-    same (name.Ring x) c word k = refl
+    same : (a : WordId) (c : ActOf) (word : ℕ) (k : ThreadView) → stand_known a c word k ≡ stand_after a c word k.thread (stand_of k)
+    same id.Safepoint act.Load word k = refl
+    same id.Safepoint (act.Store x) word k = refl
+    same id.Safepoint (act.CompareExchange x y) word k = refl
+    same id.Safepoint (act.FetchMax x) word k = refl
+    same id.Safepoint (act.FetchAnd x) word k = refl
+    same id.Safepoint act.FetchAdd word k = refl
+    same (id.Prototype x) c word k = refl
+    same (id.Revocations x) c word k = refl
+    same (id.LastBulk x) c word k = refl
+    same (id.Mark x) c word k = refl
+    same (id.Stamp x) c word k = refl
+    same (id.Slot x y) c word k = refl
+    same (id.Class x) c word k = refl
+    same (id.Hold x y) c word k = refl
+    same (id.Displaced x y) c word k = refl
+    same (id.Waiting x) c word k = refl
+    same (id.Length x) c word k = refl
+    same (id.Owner x) c word k = refl
+    same (id.Recursions x) c word k = refl
+    same (id.Header x) c word k = refl
+    same (id.Object x) c word k = refl
+    same id.Claim c word k = refl
+    same id.End c word k = refl
+    same (id.Ring x) c word k = refl
 
 most_draws : (e : Entry) (draws : ℕ) → draws_after (Log e) draws ≤ draws + 1
 most_draws (entry.Hash o value (Some number)) draws = omega arith
@@ -125,12 +138,13 @@ most_draws (entry.Hash o value None) draws = omega arith
 most_draws e draws = omega arith
 
 -- each draw that is installed is logged
-few_draws : (note : Note) (found : ℕ) (log : List Logged) (draws : ℕ) → draws ≤ length log → draws_after note draws ≤ length (log_after note found log)
+few_draws : (note : LogEffect) (found : ℕ) (log : List Logged) (draws : ℕ) → draws ≤ length log → draws_after note draws ≤ length (log_after note found log)
 few_draws Quiet found log draws h = h
 few_draws (Log e) found log draws h =
     let n = length-append log (record { stamp = stamp_by e found (last_stamp log); entry = e } ∷ []) in
     let d = most_draws e draws in omega (arith, n, d, h)
-few_draws (LogGet o slot) found log draws h = let n = length-append log (record { stamp = last_stamp log + 1; entry = entry.Get o slot (value_found (read_value found)) } ∷ []) in omega (arith, n, h)
+few_draws (LogGet o slot) found log draws h = let n =
+    length-append log (record { stamp = last_stamp log + 1; entry = entry.Get o slot (value_found (read_value found)) } ∷ []) in omega (arith, n, h)
 few_draws (LogHash o) found log draws h = cases (hash_in found == 0)
   where
     cases : (b : Bool) → draws ≤ length (cond b log (with_entry (entry.Hash o (hash_in found) None) found log))
@@ -163,13 +177,13 @@ few_news (x ∷ log) =
     at_most_one (entry.New o class) = omega arith
     at_most_one e = omega arith
 
-pub few_made : (m : Mirror) (k : Known) → Follows m k → m.made ≤ m.given + length m.log.items
+pub few_made : (m : Mirror) (k : ThreadView) → Mirrors m k → m.made ≤ m.given + length m.log.items
 few_made m k f = let few = few_news k.log in let made = f.made in let whole = f.log.whole in omega (arith, few, made, whole)
 
-pub few_installed : (m : Mirror) (k : Known) → Follows m k → m.drawing.installed ≤ m.given + length m.log.items
+pub few_installed : (m : Mirror) (k : ThreadView) → Mirrors m k → m.drawing.installed ≤ m.given + length m.log.items
 few_installed m k f = let few = f.few in let draws = f.draws in let whole = f.log.whole in omega (arith, few, draws, whole)
 
-news_follow : (note : Note) (found : ℕ) (log : List Logged) → length (news (log_after note found log)) ≡ made_after note (length (news log))
+news_follow : (note : LogEffect) (found : ℕ) (log : List Logged) → length (news (log_after note found log)) ≡ made_after note (length (news log))
 news_follow Quiet found log = refl
 news_follow (Log e) found log = news_grow log (record { stamp = stamp_by e found (last_stamp log); entry = e }) ∙ news_of e (length (news log))
 news_follow (LogGet o slot) found log =
@@ -181,28 +195,29 @@ news_follow (LogHash o) found log = cases (hash_in found == 0)
     cases false = let a = news_grow log (record { stamp = last_stamp log + 1; entry = entry.Hash o (hash_in found) None }) in omega (arith, a)
 
 -- the shots that are taken are those that the thread knows
-shots_follow : (o : Own) (s : Shape) (k : Known) (taken : List DumpShot) (cut : List ℕ) (cells : List (Option ℕ × ℕ)) → k.shots ≡ taken → IsDrafted o s k cut cells
+shots_follow : (o : LocalEffect) (s : Shape) (k : ThreadView) (taken : List DumpShot) (cut : List ℕ) (cells : List (Option ℕ × ℕ))
+    → k.shots ≡ taken → IsDrafted o s k cut cells
     → shots_after o s k ≡ taken_after o taken cut cells
 shots_follow own.TakeShot s k taken cut cells e d = λ i. e i ++ record { number = length (e i) + 1; cut = sym d.0 i; cells = sym d.1 i } ∷ []
-shots_follow own.Same s k taken cut cells e d = e
+shots_follow own.Unchanged s k taken cut cells e d = e
 shots_follow own.Position s k taken cut cells e d = e
 shots_follow own.Claim s k taken cut cells e d = e
 shots_follow (own.Detach m) s k taken cut cells e d = e
 shots_follow own.Enqueue s k taken cut cells e d = e
-shots_follow own.Spend s k taken cut cells e d = e
-shots_follow own.Save s k taken cut cells e d = e
+shots_follow own.DropClaim s k taken cut cells e d = e
+shots_follow own.SaveRecursions s k taken cut cells e d = e
 shots_follow (own.CountVerdict class verdict reset) s k taken cut cells e d = e
 
-pub follow_hit : (s : Shape) (start : ℕ) (p : StepPlan) (n : ℕ) (k : Known) (m l : Mirror) → hits p.act n ≡ true → Follows m k
+pub follow_hit : (s : Shape) (start : ℕ) (p : StepPlan) (n : ℕ) (k : ThreadView) (m l : Mirror) → hits p.act n ≡ true → Mirrors m k
     → l.thread ≡ m.thread
     → ((given : ℕ) (all : List Logged) → IsPageFrom given all m.log.items → last_stamp all ≡ m.last
     → IsPageFrom given (log_after p.note n all) l.log.items × (last_stamp (log_after p.note n all) ≡ l.last))
     → l.stand ≡ stand_after p.at p.act (word_after p.act n) m.thread m.stand
     → l.kept ≡ kept_after p.own n m.kept
     → l.saved ≡ saved_after p.own n m.saved
-    → ((k : Known) → k.holds ≡ m.holds.words → l.holds.words ≡ holds_after p.at p.act k)
-    → ((k : Known) → k.thread ≡ m.thread → k.wait ≡ m.wait → l.wait ≡ wait_after p.at p.act k)
-    → ((k : Known) → k.published ≡ m.published → l.published ≡ published_after p.at p.act k)
+    → ((k : ThreadView) → k.holds ≡ m.holds.words → l.holds.words ≡ holds_after p.at p.act k)
+    → ((k : ThreadView) → k.thread ≡ m.thread → k.wait ≡ m.wait → l.wait ≡ wait_after p.at p.act k)
+    → ((k : ThreadView) → k.published ≡ m.published → l.published ≡ published_after p.at p.act k)
     → l.unfinished ≡ unfinished_after p.note n p.after
     → l.checking ≡ p.check
     → (l.room ≡ m.room) × (l.given ≡ m.given) × (l.classes ≡ m.classes) × (l.first ≡ m.first)
@@ -212,11 +227,12 @@ pub follow_hit : (s : Shape) (start : ℕ) (p : StepPlan) (n : ℕ) (k : Known) 
     → l.made ≡ made_after p.note m.made
     → l.shots.taken.items ≡ taken_after p.own m.shots.taken.items m.shots.draft.cut.items (cells_shown m.shots.draft.cells.items)
     → IsDrafted p.own s k m.shots.draft.cut.items (cells_shown m.shots.draft.cells.items)
-    → Follows l (known_after s start p n k)
+    → Mirrors l (known_after s start p n k)
 follow_hit s start p n k m l hit f thread log stand kept saved holds wait published unfinished checking fixed counts draws generator made shots drafted =
     let g = log m.given k.log f.log f.last in
-    let st : stand_known p.at p.act (word_after p.act n) k ≡ l.stand = known_stand p.at p.act (word_after p.act n) k m.stand f.running f.requesting f.reached f.halted ∙ ap (λ (t : ℕ). stand_after p.at p.act (word_after p.act n) t m.stand) f.thread ∙ sym stand in
-    let here : Follows l (known_hit s start p n k) = record {
+    let st : stand_known p.at p.act (word_after p.act n) k ≡ l.stand = known_stand p.at p.act (word_after p.act n) k m.stand f.running
+    f.requesting f.reached f.halted ∙ ap (λ (t : ℕ). stand_after p.at p.act (word_after p.act n) t m.stand) f.thread ∙ sym stand in
+    let here : Mirrors l (known_hit s start p n k) = record {
       thread = f.thread ∙ sym thread;
       log = subst (λ (given : ℕ). IsPageFrom given (log_after p.note n k.log) l.log.items) (sym fixed.1) g.0;
       last = g.1;
@@ -236,6 +252,7 @@ follow_hit s start p n k m l hit f thread log stand kept saved holds wait publis
       draws = ap (draws_after p.note) f.draws ∙ sym draws;
       made = news_follow p.note n k.log ∙ ap (made_after p.note) f.made ∙ sym made;
       few = few_draws p.note n k.log k.draws f.few;
-      generator = generator m.first (f.generator ∙ ap (λ n. state_after m.first (n + 1)) f.draws) ∙ (λ i. state_after (sym fixed.3 i) ((draws ∙ ap (draws_after p.note) (sym f.draws)) i + 1));
+      generator = generator m.first (f.generator ∙ ap (λ n. state_after m.first (n + 1)) f.draws)
+          ∙ (λ i. state_after (sym fixed.3 i) ((draws ∙ ap (draws_after p.note) (sym f.draws)) i + 1));
     } in
-    subst (λ (b : Bool). Follows l (cond b (known_hit s start p n k) (known_miss s start p n k))) (sym hit) here
+    subst (λ (b : Bool). Mirrors l (cond b (known_hit s start p n k) (known_miss s start p n k))) (sym hit) here

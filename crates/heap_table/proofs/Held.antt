@@ -1,5 +1,6 @@
 -- Hold words of which only the first are in use, and the objects that they name.
-use Rattle.std.proofs.Common.{◌≡◌, ◌≢◌, ℕ, zero, suc, ◌+◌, ◌*◌, ◌/◌, ◌%◌, ◌^◌, ◌<◌, ◌≤◌, ◌==◌, ◌&&◌, nat_lt, nat_le, eq-eqb, ne_eqb, List, [], ◌∷◌, length, get_or, take, replicate, Bool, true, false, refl, sym, ap, ◌∙◌, arith}
+use Rattle.std.proofs.Common.{◌≡◌, ◌≢◌, ℕ, zero, suc, ◌+◌, ◌*◌, ◌/◌, ◌%◌, ◌^◌, ◌<◌, ◌≤◌, ◌==◌, ◌&&◌, nat_lt, nat_le, eq-eqb, ne_eqb}
+use Rattle.std.proofs.Common.{List, [], ◌∷◌, length, get_or, take, replicate, Bool, true, false, refl, sym, ap, ◌∙◌, arith}
 use Rattle.std.proofs.lemmas.Bool.{cond_both, false≢true}
 use Rattle.std.proofs.lemmas.Bool.Decides.{nat_tests}
 use Rattle.std.proofs.lemmas.List.Sums.{position_or_len_is, fails_before_first}
@@ -20,7 +21,8 @@ none_used (suc n) zero = refl
 none_used (suc n) (suc i) = none_used n i
 
 -- a test that fails of the empty word is asked only of the words in use
-pub number_used : (test : ℕ → Bool) (p n : ℕ) (xs : List ℕ) → test 0 ≡ false → IsEmptyFrom n xs → count_where (λ q h. test h) p (take n xs) ≡ count_where (λ q h. test h) p xs
+pub number_used : (test : ℕ → Bool) (p n : ℕ) (xs : List ℕ) → test 0 ≡ false → IsEmptyFrom n xs
+    → count_where (λ q h. test h) p (take n xs) ≡ count_where (λ q h. test h) p xs
 number_used test p zero [] fails empty = refl
 number_used test p (suc n) [] fails empty = refl
 number_used test p zero (x ∷ xs) fails empty =
@@ -30,17 +32,19 @@ number_used test p zero (x ∷ xs) fails empty =
     omega (arith, rest, first)
 number_used test p (suc n) (x ∷ xs) fails empty = ap (λ c. one_if (test x) + c) (number_used test (p + 1) n xs fails (λ i l. empty (suc i) (omega (arith, l))))
 
--- a word that no place in use has: the empty word stands behind them, and any other nowhere
-pub unused : (word n : ℕ) (xs : List ℕ) → n ≤ length xs → IsEmptyFrom n xs → ((k : ℕ) → k < n → (get_or xs k 0 == word) ≡ false) → word ≡ 0 → position_or_len (λ h. h == word) xs ≡ n
+-- a word that no place in use has: the empty word stands after them, and any other nowhere
+pub unused : (word n : ℕ) (xs : List ℕ) → n ≤ length xs → IsEmptyFrom n xs
+    → ((k : ℕ) → k < n → (get_or xs k 0 == word) ≡ false) → word ≡ 0 → position_or_len (λ h. h == word) xs ≡ n
 unused word n xs within empty none zero_is = position_or_len_is (λ h. h == word) xs n 0 within none (λ l. eq-eqb _ _ (empty n (omega arith) ∙ sym zero_is))
 
-pub nowhere : (word n : ℕ) (xs : List ℕ) → IsEmptyFrom n xs → ((k : ℕ) → k < n → (get_or xs k 0 == word) ≡ false) → word ≢ 0 → position_or_len (λ h. h == word) xs ≡ length xs
+pub nowhere : (word n : ℕ) (xs : List ℕ) → IsEmptyFrom n xs → ((k : ℕ) → k < n → (get_or xs k 0 == word) ≡ false)
+    → word ≢ 0 → position_or_len (λ h. h == word) xs ≡ length xs
 nowhere word n xs empty none nonzero =
-    position_or_len_is (λ h. h == word) xs (length xs) 0 (omega arith) (λ k l. behind k (nat_lt k n) refl) (λ l. absurd (omega (arith, l)))
+    position_or_len_is (λ h. h == word) xs (length xs) 0 (omega arith) (λ k l. after k (nat_lt k n) refl) (λ l. absurd (omega (arith, l)))
   where
-    behind : (k : ℕ) (b : Bool) → nat_lt k n ≡ b → (get_or xs k 0 == word) ≡ false
-    behind k true e = none k (grind (arith, nat_tests))
-    behind k false e = let l : n ≤ k = grind (arith, nat_tests) in ne_eqb _ _ (λ same. nonzero (sym same ∙ empty k l))
+    after : (k : ℕ) (b : Bool) → nat_lt k n ≡ b → (get_or xs k 0 == word) ≡ false
+    after k true e = none k (grind (arith, nat_tests))
+    after k false e = let l : n ≤ k = grind (arith, nat_tests) in ne_eqb _ _ (λ same. nonzero (sym same ∙ empty k l))
 
 -- the lowest empty place is no later than the one past the last in use
 pub place_left : (n : ℕ) (xs : List ℕ) → IsEmptyFrom n xs → position_or_len (λ h. h == 0) xs ≤ n
@@ -67,5 +71,6 @@ pub named_as : (o word : ℕ) → IsNamed o word ≡ names o word
 unfolding read_hold
 named_as o word =
     cond_both (word == 0) _ _ (λ f. IsNamed o word ≡ names_form f o) (λ h. grind (arith, nat_tests)) (λ _.
-    cond_both (nat_lt 0 (word / 128) && nat_lt (word / 128) (2 ^ 15 + 1) && nat_lt 0 (word % 128) && nat_lt (word % 128) 65) _ _ (λ f. IsNamed o word ≡ names_form f o)
+    cond_both (nat_lt 0 (word / 128) && nat_lt (word / 128) (2 ^ 15 + 1) && nat_lt 0 (word % 128) && nat_lt (word % 128) 65) _ _
+    (λ f. IsNamed o word ≡ names_form f o)
     (λ h. grind (arith, nat_tests)) (λ h. grind (arith, nat_tests)))

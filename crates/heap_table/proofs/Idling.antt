@@ -20,6 +20,6 @@ read_idle word h =
     let whole : word % 2 ^ 32 ≡ word = mod-eq_of_lt h in
     rw (below, third, fifth, whole) refl
 
--- who asks for nothing knows as much behind it as before
+-- who asks for nothing knows as much after it as before
 pub looked_idle : (word : ℕ) (s : Stand) → word < 2 ^ 32 → s.requesting ≡ false → looked (read_safe word) s ≡ s
 looked_idle word s h e = rw (read_idle word h, e, or_false s.reached, or_false s.halted) refl

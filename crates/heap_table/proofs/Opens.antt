@@ -1,5 +1,6 @@
 -- The world at the start is sound, and the first seat knows all of it.
-use Rattle.std.proofs.Common.{append_assoc, replicate, ◌≡◌, ◌≢◌, ℕ, zero, suc, ◌+◌, ◌*◌, ◌-◌, ◌<◌, ◌≤◌, nat_lt, ◌&&◌, Bool, true, false, List, [], ◌∷◌, ◌++◌, length, get_or, refl, sym, ap, ◌∙◌, subst, arith, inl, inr, add-one, append-nil}
+use Rattle.std.proofs.Common.{append_assoc, replicate, ◌≡◌, ◌≢◌, ℕ, zero, suc, ◌+◌, ◌*◌, ◌-◌, ◌<◌, ◌≤◌, nat_lt, ◌&&◌, Bool, true, false}
+use Rattle.std.proofs.Common.{List, [], ◌∷◌, ◌++◌, length, get_or, refl, sym, ap, ◌∙◌, subst, arith, inl, inr, add-one, append-nil}
 use Rattle.std.proofs.Math.Nat.{mul-suc}
 use Rattle.std.specs.Prelude.{All, map, slice_index}
 use Rattle.std.specs.List.{AllByRecursion}
@@ -10,8 +11,9 @@ use Rattle.plain_monitor.specs.Limits.{most_threads, most_classes, most_slots, m
 use mathlib.Core.Option.{some, some-injective, some-ne-none}
 use lib.ListN.{get_elem?}
 use Rattle.atomic_table.specs.Table.{Me, opening as opening_state}
-use Rattle.core_world.specs.declared.name.Name.{Name}
-use Rattle.core_world.specs.declared.name.Name.TheVariants.{Safepoint, Prototype, Revocations, LastBulk, Mark, Stamp, Slot, Hold, Displaced, Waiting, Length, Owner, Recursions, Header, Object, Claim, End, Ring, Class}
+use Rattle.core_world.specs.declared.word_id.WordId.{WordId}
+use Rattle.core_world.specs.declared.word_id.WordId.TheVariants.{Safepoint, Prototype, Revocations, LastBulk, Mark, Stamp, Slot, Hold, Displaced}
+use Rattle.core_world.specs.declared.word_id.WordId.TheVariants.{Waiting, Length, Owner, Recursions, Header, Object, Claim, End, Ring, Class}
 use Rattle.core_world.specs.Opening.{first_mark, first_word, first_known, opening}
 use Rattle.core_world.specs.Words.Shape.{Shape, IsInLimits, ring_places}
 use Rattle.core_world.specs.World.{World}
@@ -20,11 +22,11 @@ use Rattle.core_law.specs.Logic.{Heap}
 use Rattle.core_law.specs.Reached.{opens as at_opening}
 use Rattle.core_world.specs.There.{IsIn}
 use Rattle.heap_table.specs.Layout.{place_of, word_count, many, object_size, objects_from, threads_from}
-use Rattle.core_world.specs.Threads.Known.{Known}
+use Rattle.core_world.specs.Threads.ThreadView.{ThreadView}
 use Rattle.heap_table.specs.Fresh.{IsFresh}
 use Rattle.heap_table.specs.inner.Firsts.{first_knowns}
 use Rattle.heap_table.specs.inner.Openings.{copies, spread, object_words, opening_groups, numbers, opening_words}
-use Rattle.heap_table.specs.Kept.{Follows}
+use Rattle.heap_table.specs.Kept.{Mirrors}
 use Rattle.heap_table.specs.declared.mirror.Mirror.{Mirror}
 use Rattle.heap_table.specs.Ruled.{heap_in, only}
 use Rattle.heap_table.specs.inner.Ruled.{Each, Differ, Ruled, others}
@@ -53,19 +55,20 @@ in_front [] ys i h = absurd (omega (arith, h))
 in_front (x ∷ xs) ys zero h = refl
 in_front (x ∷ xs) ys (suc i) h = in_front xs ys i (omega (arith, h))
 
-behind : (xs ys : List ℕ) (i j : ℕ) → i ≡ length xs + j → get_or (xs ++ ys) i 0 ≡ get_or ys j 0
-behind [] ys i j e = let f : i ≡ j = omega (arith, e) in ap (λ (x : ℕ). get_or ys x 0) f
-behind (x ∷ xs) ys zero j e = absurd (omega (arith, e))
-behind (x ∷ xs) ys (suc i) j e = behind xs ys i j (omega (arith, e))
+after : (xs ys : List ℕ) (i j : ℕ) → i ≡ length xs + j → get_or (xs ++ ys) i 0 ≡ get_or ys j 0
+after [] ys i j e = let f : i ≡ j = omega (arith, e) in ap (λ (x : ℕ). get_or ys x 0) f
+after (x ∷ xs) ys zero j e = absurd (omega (arith, e))
+after (x ∷ xs) ys (suc i) j e = after xs ys i j (omega (arith, e))
 
 in_copies : (n : ℕ) (g ys : List ℕ) (a i at : ℕ) → at ≡ length g * a + i → a < n → i < length g → get_or (copies n g ++ ys) at 0 ≡ get_or g i 0
 in_copies zero g ys a i at e h l = absurd (omega (arith, h))
 in_copies (suc n) g ys zero i at e h l =
     let f : at ≡ i = omega (arith, e) in
-    ap (λ (z : List ℕ). get_or z at 0) (append_append g (copies n g) ys) ∙ ap (λ (x : ℕ). get_or (g ++ (copies n g ++ ys)) x 0) f ∙ in_front g (copies n g ++ ys) i l
+    ap (λ (z : List ℕ). get_or z at 0) (append_append g (copies n g) ys)
+    ∙ ap (λ (x : ℕ). get_or (g ++ (copies n g ++ ys)) x 0) f ∙ in_front g (copies n g ++ ys) i l
 in_copies (suc n) g ys (suc a) i at e h l =
     let d : length g * suc a ≡ length g * a + length g = mul-suc (length g) a in
-    ap (λ (z : List ℕ). get_or z at 0) (append_append g (copies n g) ys) ∙ behind g (copies n g ++ ys) at (length g * a + i) (omega (arith, e, d))
+    ap (λ (z : List ℕ). get_or z at 0) (append_append g (copies n g) ys) ∙ after g (copies n g ++ ys) at (length g * a + i) (omega (arith, e, d))
     ∙ in_copies n g ys a i (length g * a + i) refl (omega (arith, h)) l
 
 length_append : (xs ys : List ℕ) → length (xs ++ ys) ≡ length xs + length ys
@@ -74,31 +77,35 @@ length_append (x ∷ xs) ys = let h = length_append xs ys in omega (arith, h)
 
 length_copies : (n : ℕ) (g : List ℕ) → length (copies n g) ≡ length g * n
 length_copies zero g = let e : length g * 0 ≡ 0 = omega arith in sym e
-length_copies (suc n) g = let a = length_append g (copies n g) in let b = length_copies n g in let d : length g * suc n ≡ length g * n + length g = mul-suc (length g) n in omega (arith, a, b, d)
+length_copies (suc n) g = let a = length_append g (copies n g) in let b = length_copies n g in
+    let d : length g * suc n ≡ length g * n + length g = mul-suc (length g) n in omega (arith, a, b, d)
 
-in_run : (k : ℕ) (rs : List (ℕ × List ℕ)) (ws : List ℕ) (a i at : ℕ) → at ≡ begins k rs + (length (run k rs).1 * a + i) → a < (run k rs).0 → i < length (run k rs).1
+in_run : (k : ℕ) (rs : List (ℕ × List ℕ)) (ws : List ℕ) (a i at : ℕ)
+    → at ≡ begins k rs + (length (run k rs).1 * a + i) → a < (run k rs).0 → i < length (run k rs).1
     → get_or (spread rs ws) at 0 ≡ get_or (run k rs).1 i 0
 in_run zero [] ws a i at e h l = absurd (omega (arith, h))
 in_run (suc k) [] ws a i at e h l = absurd (omega (arith, h))
 in_run zero (r ∷ rs) ws a i at e h l = in_copies r.0 r.1 (spread rs ws) a i at (omega (arith, e)) h l
 in_run (suc k) (r ∷ rs) ws a i at e h l =
     let w = length_copies r.0 r.1 in
-    behind (copies r.0 r.1) (spread rs ws) at (begins k rs + (length (run k rs).1 * a + i)) (omega (arith, e, w)) ∙ in_run k rs ws a i (begins k rs + (length (run k rs).1 * a + i)) refl h l
+    after (copies r.0 r.1) (spread rs ws) at (begins k rs + (length (run k rs).1 * a + i)) (omega (arith, e, w))
+    ∙ in_run k rs ws a i (begins k rs + (length (run k rs).1 * a + i)) refl h l
 
 found : (s : Shape) (biasing : Bool) (k a i at : ℕ) → at ≡ begins k (opening_groups s biasing) + (length (run k (opening_groups s biasing)).1 * a + i)
-    → a < (run k (opening_groups s biasing)).0 → i < length (run k (opening_groups s biasing)).1 → get_or (opening_words s biasing) at 0 ≡ get_or (run k (opening_groups s biasing)).1 i 0
+    → a < (run k (opening_groups s biasing)).0 → i < length (run k (opening_groups s biasing)).1
+    → get_or (opening_words s biasing) at 0 ≡ get_or (run k (opening_groups s biasing)).1 i 0
 found s biasing k a i at e h l = in_run k (opening_groups s biasing) (numbers (ring_places s)) a i at e h l
 
 abbrev total : List (ℕ × List ℕ) → ℕ
 total [] = 0
 total (r ∷ rs) = length r.1 * r.0 + total rs
 
--- behind the groups
+-- after the groups
 in_rest : (rs : List (ℕ × List ℕ)) (ws : List ℕ) (i at : ℕ) → at ≡ total rs + i → get_or (spread rs ws) at 0 ≡ get_or ws i 0
 in_rest [] ws i at e = let same : at ≡ i = omega (arith, e) in ap (λ (x : ℕ). get_or ws x 0) same
 in_rest (r ∷ rs) ws i at e =
     let w = length_copies r.0 r.1 in
-    behind (copies r.0 r.1) (spread rs ws) at (total rs + i) (omega (arith, e, w)) ∙ in_rest rs ws i (total rs + i) refl
+    after (copies r.0 r.1) (spread rs ws) at (total rs + i) (omega (arith, e, w)) ∙ in_rest rs ws i (total rs + i) refl
 
 length_numbers : (n : ℕ) → length (numbers n) ≡ n
 length_numbers zero = refl
@@ -110,7 +117,7 @@ in_numbers (suc n) i h =
     let long = length_numbers n in
     elim (cases_lt i n) [
       | inl low ↦ in_front (numbers n) (n ∷ []) i (omega (arith, long, low)) ∙ in_numbers n i low
-      | inr top ↦ let last : n ≡ i = omega (arith, h, top) in behind (numbers n) (n ∷ []) i 0 (omega (arith, long, last)) ∙ last
+      | inr top ↦ let last : n ≡ i = omega (arith, h, top) in after (numbers n) (n ∷ []) i 0 (omega (arith, long, last)) ∙ last
     ]
 
 in_singles : (n x i : ℕ) → i < n → get_or (copies n (x ∷ [])) i 0 ≡ x
@@ -120,7 +127,7 @@ in_singles (suc n) x (suc i) h = in_singles n x i (omega (arith, h))
 
 slot_word : (size mark i : ℕ) → 3 + i < size → get_or (object_words size mark) (3 + i) 0 ≡ 9223372036854775809
 slot_word size mark i h =
-    behind (mark ∷ 0 ∷ 0 ∷ []) (copies (size - 3) (9223372036854775809 ∷ [])) (3 + i) i (omega arith)
+    after (mark ∷ 0 ∷ 0 ∷ []) (copies (size - 3) (9223372036854775809 ∷ [])) (3 + i) i (omega arith)
     ∙ in_singles (size - 3) 9223372036854775809 i (omega (arith, h))
 
 object_long : (s : Shape) (mark : ℕ) → length (object_words (object_size s) mark) ≡ object_size s
@@ -146,20 +153,21 @@ and_false false = refl
 
 -- the word at this place of the group of an object, which is declared or not
 object_word : (s : Shape) (biasing : Bool) (o i at : ℕ) (b : Bool) → nat_lt o s.declared ≡ b → s.declared ≤ many s → o < many s → i < object_size s
-    → at ≡ objects_from s + (object_size s * o + i) → get_or (opening_words s biasing) at 0 ≡ get_or (object_words (object_size s) (first_mark (biasing && b))) i 0
+    → at ≡ objects_from s + (object_size s * o + i)
+    → get_or (opening_words s biasing) at 0 ≡ get_or (object_words (object_size s) (first_mark (biasing && b))) i 0
 object_word s biasing o i at true e few h l is =
     let low : o < s.declared = grind (arith, nat_tests, e) in
     let long = object_long s (first_mark biasing) in
-    let behind_them = objects_long s (first_mark biasing) o in
-    found s biasing 2 o i at (omega (arith, is, behind_them)) low (omega (arith, l, long))
+    let after_them = objects_long s (first_mark biasing) o in
+    found s biasing 2 o i at (omega (arith, is, after_them)) low (omega (arith, l, long))
     ∙ ap (λ (z : Bool). get_or (object_words (object_size s) (first_mark z)) i 0) (sym (and_true biasing))
 object_word s biasing o i at false e few h l is =
     let high : s.declared ≤ o = grind (arith, nat_tests, e) in
     let long = object_long s (first_mark false) in
     let first = objects_long s (first_mark biasing) s.declared in
-    let behind_them = objects_long s (first_mark false) (o - s.declared) in
+    let after_them = objects_long s (first_mark false) (o - s.declared) in
     let split = rows_split (object_size s) s.declared o high in
-    found s biasing 3 (o - s.declared) i at (omega (arith, is, first, behind_them, split)) (omega (arith, high, h)) (omega (arith, l, long))
+    found s biasing 3 (o - s.declared) i at (omega (arith, is, first, after_them, split)) (omega (arith, high, h)) (omega (arith, l, long))
     ∙ ap (λ (z : Bool). get_or (object_words (object_size s) (first_mark z)) i 0) (sym (and_false biasing))
 
 -- the words of threads and monitors are 0
@@ -168,7 +176,8 @@ zero_word : (s : Shape) (biasing : Bool) (i at : ℕ) → s.declared ≤ many s 
 zero_word s biasing i at few is h =
     let long = all_long s (first_mark biasing) (first_mark false) few in found s biasing 4 i 0 at (omega (arith, is, long)) h (omega arith)
 
-words_at : (s : Shape) (biasing : Bool) → s.declared ≤ many s → (n : Name) → IsIn s n → get_or (opening_words s biasing) (place_of s n) 0 ≡ first_word s biasing n
+words_at : (s : Shape) (biasing : Bool) → s.declared ≤ many s → (n : WordId) → IsIn s n
+    → get_or (opening_words s biasing) (place_of s n) 0 ≡ first_word s biasing n
 words_at s biasing few Safepoint h = found s biasing 0 0 0 (place_of s Safepoint) (omega arith) (omega arith) (omega arith)
 words_at s biasing few Claim h = found s biasing 0 0 8 (place_of s Claim) (omega arith) (omega arith) (omega arith)
 words_at s biasing few End h = found s biasing 0 0 7 (place_of s End) (omega arith) (omega arith) (omega arith)
@@ -208,7 +217,7 @@ opening_count s biasing ws few e =
     let g : length ws ≡ length (spread (opening_groups s biasing) (numbers (ring_places s))) = ap length e in
     let long = all_long s (first_mark biasing) (first_mark false) few in omega (arith, h, n, g, long)
 
--- five kinds of group that were put behind one another, and the ring behind them
+-- five kinds of group that were put one after another, and the ring after them
 pub chained : (w x y z v u t a b c d k r : List ℕ) → w ≡ [] → x ≡ w ++ a → y ≡ x ++ b → z ≡ y ++ c → v ≡ z ++ d → u ≡ v ++ k → t ≡ u ++ r
     → t ≡ a ++ (b ++ (c ++ (d ++ (k ++ r))))
 chained w x y z v u t a b c d k r e f g h i j l =
@@ -230,7 +239,8 @@ objects_few : (slots classes : List ℕ) → length {A = ℕ × ℕ} (map (λ c.
 objects_few slots [] = refl
 objects_few slots (c ∷ cs) = let h = objects_few slots cs in omega (arith, h)
 
-pub shape_fits : (threads : ℕ) (slots classes : List ℕ) (declared : ℕ) (objects : List (ℕ × ℕ)) → (threads ≤ most_threads) × (length slots ≤ most_classes) × (length classes ≤ most_in_all)
+pub shape_fits : (threads : ℕ) (slots classes : List ℕ) (declared : ℕ) (objects : List (ℕ × ℕ))
+    → (threads ≤ most_threads) × (length slots ≤ most_classes) × (length classes ≤ most_in_all)
     → declared ≤ length classes → All (λ n. n ≤ most_slots) slots → All (λ c. c < length slots) classes → objects ≡ map (λ c. (c, slice_index slots c)) classes
     → IsInLimits (record { threads = threads; classes = length slots; declared = declared; objects = objects })
 shape_fits threads slots classes declared objects few within h g e =
@@ -275,11 +285,12 @@ made_fits s slots objects limits few class low e =
 abbrev nobody_else : ℕ → ℕ
 nobody_else t = 0
 
-knowns_each : (w : World) → ((t : ℕ) → w.known t ≡ first_known t) → (t n : ℕ) → Each (λ (k : Known). (w.known k.thread ≡ k) × (nobody_else k.thread ≡ 0)) (first_knowns t n)
+knowns_each : (w : World) → ((t : ℕ) → w.known t ≡ first_known t) → (t n : ℕ)
+    → Each (λ (k : ThreadView). (w.known k.thread ≡ k) × (nobody_else k.thread ≡ 0)) (first_knowns t n)
 knowns_each w e t zero = tt
 knowns_each w e t (suc n) = ((e t, refl), knowns_each w e (suc t) n)
 
-knowns_above : (u t n : ℕ) → u < t → Each (λ (k : Known). k.thread ≢ u) (first_knowns t n)
+knowns_above : (u t n : ℕ) → u < t → Each (λ (k : ThreadView). k.thread ≢ u) (first_knowns t n)
 knowns_above u t zero h = tt
 knowns_above u t (suc n) h = ((λ e. omega arith), knowns_above u (suc t) n (omega arith))
 
@@ -290,7 +301,8 @@ knowns_differ t (suc n) = (knowns_above t (suc t) n (omega arith), knowns_differ
 abbrev first_of : Heap → World
 first_of b = opening b.shape b.start b.biasing
 
-pub opens : {S : Type 0} (b : Setting) (ws : List ℕ) → b.shape.declared ≤ many b.shape → HeapLaw (heap_in b) → ws ≡ opening_words b.shape b.biasing → Ruled {S = S} b (opening_state ws [] (first_knowns 0 b.shape.threads))
+pub opens : {S : Type 0} (b : Setting) (ws : List ℕ) → b.shape.declared ≤ many b.shape → HeapLaw (heap_in b)
+    → ws ≡ opening_words b.shape b.biasing → Ruled {S = S} b (opening_state ws [] (first_knowns 0 b.shape.threads))
 opens {S} b ws few law e = (
   first_of (heap_in b),
   nobody_else,
@@ -304,8 +316,11 @@ opens {S} b ws few law e = (
   record { comes = at_opening; law = law },
 )
   where
-    one : (id : ℕ) (v : List Known) → get_elem? (first_knowns 0 b.shape.threads ∷ []) id ≡ some v → Each (λ (k : Known). ((first_of (heap_in b)).known k.thread ≡ k) × (nobody_else k.thread ≡ id)) v × Differ v
-    one zero v at = subst (λ (u : List Known). Each (λ (k : Known). ((first_of (heap_in b)).known k.thread ≡ k) × (nobody_else k.thread ≡ 0)) u × Differ u) (some-injective _ _ at) (knowns_each (first_of (heap_in b)) (λ t. refl) 0 b.shape.threads, knowns_differ 0 b.shape.threads)
+    one : (id : ℕ) (v : List ThreadView) → get_elem? (first_knowns 0 b.shape.threads ∷ []) id ≡ some v
+        → Each (λ (k : ThreadView). ((first_of (heap_in b)).known k.thread ≡ k) × (nobody_else k.thread ≡ id)) v × Differ v
+    one zero v at =
+        subst (λ (u : List ThreadView). Each (λ (k : ThreadView). ((first_of (heap_in b)).known k.thread ≡ k) × (nobody_else k.thread ≡ 0)) u
+        × Differ u) (some-injective _ _ at) (knowns_each (first_of (heap_in b)) (λ t. refl) 0 b.shape.threads, knowns_differ 0 b.shape.threads)
     one (suc id) v at = absurd (some-ne-none v (sym at))
 
 -- the first of the threads from t on, and the others
@@ -319,28 +334,29 @@ passes_suc h limit t (suc n) j e = ap (λ (ps : List PassSeen). first_pass h lim
 pub passes_more : (h : HeapSeen) (limit n : ℕ) → first_passes h limit 0 n ++ first_pass h limit n ∷ [] ≡ first_passes h limit 0 (n + 1)
 passes_more h limit n = passes_suc h limit 0 n n (omega arith) ∙ ap (first_passes h limit 0) (sym (add-one n))
 
-pub others_next : (t n : ℕ) (v : List Known) → t < n → v ≡ first_knowns t (n - t) → others v ≡ first_knowns (t + 1) (n - (t + 1))
+pub others_next : (t n : ℕ) (v : List ThreadView) → t < n → v ≡ first_knowns t (n - t) → others v ≡ first_knowns (t + 1) (n - (t + 1))
 others_next t n v h e = ap others (e ∙ knowns_next t n h) ∙ rw (add-one t) refl
 
 copies_more : (n : ℕ) (g : List ℕ) → copies n g ++ g ≡ copies (suc n) g
 copies_more zero g = sym (append-nil g)
 copies_more (suc n) g = append_append g (copies n g) g ∙ ap (λ (l : List ℕ). g ++ l) (copies_more n g)
 
--- one more number behind those that were put there
+-- one more number after those that were put there
 pub numbers_more : (ws xs : List ℕ) (n : ℕ) → ws ≡ xs ++ numbers n → ws ++ n ∷ [] ≡ xs ++ numbers (n + 1)
 numbers_more ws xs n e = ap (λ (l : List ℕ). l ++ n ∷ []) e ∙ append_append xs (numbers n) (n ∷ []) ∙ ap (λ (k : ℕ). xs ++ numbers k) (sym (add-one n))
 
--- one more copy behind those that were put there
+-- one more copy after those that were put there
 pub one_more : (ws xs g : List ℕ) (n : ℕ) → ws ≡ xs ++ copies n g → ws ++ g ≡ xs ++ copies (n + 1) g
-one_more ws xs g n e = ap (λ (l : List ℕ). l ++ g) e ∙ append_append xs (copies n g) g ∙ ap (λ (l : List ℕ). xs ++ l) (copies_more n g ∙ ap (λ (k : ℕ). copies k g) (sym (add-one n)))
+one_more ws xs g n e = ap (λ (l : List ℕ). l ++ g) e ∙ append_append xs (copies n g) g
+    ∙ ap (λ (l : List ℕ). xs ++ l) (copies_more n g ∙ ap (λ (k : ℕ). copies k g) (sym (add-one n)))
 
--- one more object behind those that were put there
+-- one more object after those that were put there
 pub one_made_more : (xs ys : List (ℕ × ℕ)) (n slots : ℕ) → xs ≡ ys ++ replicate n (0, slots) → xs ++ (0, slots) ∷ [] ≡ ys ++ replicate (n + 1) (0, slots)
 one_made_more xs ys n slots e =
     ap (λ (l : List (ℕ × ℕ)). l ++ (0, slots) ∷ []) e ∙ append_assoc ys (replicate n (0, slots)) ((0, slots) ∷ [])
     ∙ ap (λ (l : List (ℕ × ℕ)). ys ++ l) (replicate_more n (0, slots))
 
--- the words of one more object behind those that were put there
+-- the words of one more object after those that were put there
 pub one_object_more : (ws xs more all : List ℕ) (size mark n : ℕ) → ws ≡ xs ++ copies n (object_words size mark) → more ≡ ws ++ (mark ∷ 0 ∷ 0 ∷ [])
     → all ≡ more ++ copies (size - 3) (9223372036854775809 ∷ []) → all ≡ xs ++ copies (n + 1) (object_words size mark)
 one_object_more ws xs more all size mark n e f g =
@@ -349,11 +365,12 @@ one_object_more ws xs more all size mark n e f g =
     ∙ one_more ws xs (object_words size mark) n e
 
 -- what `first_pass` makes is a pass
-pub own_pass : (m : Mirror) (me old : Me (Unit {0}) (List Known)) (t n : ℕ) → me ≡ (only old.0 ∷ [], []) → old.0 ≡ first_knowns t (n - t) → t < n → Follows m (first_known t)
-    → (me ≡ (only me.0 ∷ [], [])) × Follows m ((only me.0))
+pub own_pass : (m : Mirror) (me old : Me (Unit {0}) (List ThreadView)) (t n : ℕ)
+    → me ≡ (only old.0 ∷ [], []) → old.0 ≡ first_knowns t (n - t) → t < n → Mirrors m (first_known t)
+    → (me ≡ (only me.0 ∷ [], [])) × Mirrors m ((only me.0))
 own_pass m me old t n e is lt f =
-    let same : only me.0 ≡ first_known t = ap (λ (x : Me (Unit {0}) (List Known)). only x.0) e ∙ ap only (is ∙ knowns_next t n lt) in
-    (e ∙ sym (ap (λ (x : Me (Unit {0}) (List Known)). (only x.0 ∷ [], [])) e), subst (λ (k : Known). Follows m (k)) (sym same) f)
+    let same : only me.0 ≡ first_known t = ap (λ (x : Me (Unit {0}) (List ThreadView)). only x.0) e ∙ ap only (is ∙ knowns_next t n lt) in
+    (e ∙ sym (ap (λ (x : Me (Unit {0}) (List ThreadView)). (only x.0 ∷ [], [])) e), subst (λ (k : ThreadView). Mirrors m (k)) (sym same) f)
 
 -- and the pass of each thread is fresh
 pub fresh : (h : HeapSeen) (limit t : ℕ) → HeapLaw h.heap → t < h.heap.shape.threads → IsFresh h t (first_pass h limit t)

@@ -1,9 +1,11 @@
 -- No two names have one place.
-use Rattle.std.proofs.Common.{◌≡◌, ◌⊎◌, ℕ, zero, suc, ◌+◌, ◌-◌, ◌*◌, ◌<◌, ◌≤◌, ◌==◌, ◌&&◌, nat_lt, List, [], ◌∷◌, true, false, cond, if◌then◌else◌, true≢false, eq-eqb, inl, inr, ⊎_elim, ◌≢◌, refl, sym, ap, ◌∙◌, arith}
+use Rattle.std.proofs.Common.{◌≡◌, ◌⊎◌, ℕ, zero, suc, ◌+◌, ◌-◌, ◌*◌, ◌<◌, ◌≤◌, ◌==◌, ◌&&◌, nat_lt, List, [], ◌∷◌, true, false}
+use Rattle.std.proofs.Common.{cond, if◌then◌else◌, true≢false, eq-eqb, inl, inr, ⊎_elim, ◌≢◌, refl, sym, ap, ◌∙◌, arith}
 use Rattle.std.proofs.Math.Nat.{mul_comm}
 use Rattle.std.proofs.lemmas.Nat.{same_from_place}
-use Rattle.core_world.specs.declared.name.Name.{Name}
-use Rattle.core_world.specs.declared.name.Name.TheVariants.{Safepoint, Prototype, Revocations, LastBulk, Mark, Stamp, Slot, Hold, Displaced, Waiting, Length, Owner, Recursions, Header, Object, Claim, End, Ring, Class}
+use Rattle.core_world.specs.declared.word_id.WordId.{WordId}
+use Rattle.core_world.specs.declared.word_id.WordId.TheVariants.{Safepoint, Prototype, Revocations, LastBulk, Mark, Stamp, Slot, Hold, Displaced}
+use Rattle.core_world.specs.declared.word_id.WordId.TheVariants.{Waiting, Length, Owner, Recursions, Header, Object, Claim, End, Ring, Class}
 use Rattle.core_world.specs.Words.Names.{kind_of, first_index, second_index, same_name}
 use Rattle.core_world.specs.Words.Shape.{Shape, ring_places}
 use Rattle.core_world.proofs.Naming.{same_named}
@@ -13,7 +15,7 @@ use Rattle.heap_table.specs.inner.Layout.{IsPlaced}
 use Rattle.heap_table.proofs.Sizes.{size_room, size_some, next_row}
 
 -- where it lies in its group; here each place of the ring is a group of one word
-abbrev pub offset : Name → ℕ
+abbrev pub offset : WordId → ℕ
 offset Safepoint = 0
 offset Claim = 8
 offset End = 7
@@ -39,7 +41,7 @@ abbrev width : Shape → ℕ → ℕ
 width s g = if g == 2 then object_size s else if g == 3 then 144 else if g == 4 then 11 else if g == 5 then 1 else 16
 
 -- how many words its group has at least from it on
-abbrev room : Name → ℕ
+abbrev room : WordId → ℕ
 room (Ring p) = 1
 room _ = 8
 
@@ -59,13 +61,13 @@ rising (x ∷ xs) zero (suc b) h = omega arith
 rising (x ∷ xs) (suc a) (suc b) h = let r = rising xs a b (omega (arith, h)) in omega (arith, r)
 
 -- a word lies within the groups of its kind, and outside the ring not in the last 8 words of its group but for the first of these
-record Lies (s : Shape) (n : Name) : Type 0 where
+record Lies (s : Shape) (n : WordId) : Type 0 where
   from : before (group n) (sizes s) ≤ place_of s n
   to : place_of s n + room n ≤ before (suc (group n)) (sizes s)
   at : place_of s n ≡ before (group n) (sizes s) + (width s (group n) * first_index n + offset n)
   low : offset n + room n ≤ width s (group n)
 
-lies : (s : Shape) (n : Name) → IsIn s n → Lies s n
+lies : (s : Shape) (n : WordId) → IsIn s n → Lies s n
 lies s Safepoint h = record { from = omega arith; to = omega arith; at = omega arith; low = omega arith }
 lies s Claim h = record { from = omega arith; to = omega arith; at = omega arith; low = omega arith }
 lies s End h = record { from = omega arith; to = omega arith; at = omega arith; low = omega arith }
@@ -98,25 +100,25 @@ lies s (Header m) h = record { from = omega (arith, h); to = omega (arith, h); a
 lies s (Object m) h = record { from = omega (arith, h); to = omega (arith, h); at = omega arith; low = omega arith }
 lies s (Ring p) h = record { from = omega (arith, h); to = omega (arith, h); at = omega arith; low = omega arith }
 
-some_room : (n : Name) → 1 ≤ room n
+some_room : (n : WordId) → 1 ≤ room n
 some_room (Ring p) = omega arith
 some_room _ = omega arith
 
 -- but for the words of the ring
-much_room : (n : Name) → group n < 5 → room n ≡ 8
+much_room : (n : WordId) → group n < 5 → room n ≡ 8
 much_room (Ring p) h = absurd (omega (arith, h))
 much_room _ h = refl
 
-number_is : (n : Name) → group n < 5 → number n ≡ first_index n
+number_is : (n : WordId) → group n < 5 → number n ≡ first_index n
 number_is (Ring p) h = absurd (omega (arith, h))
 number_is _ h = refl
 
 -- there is one ring
-one_ring : (n : Name) → 0 < number n → group n < 5
+one_ring : (n : WordId) → 0 < number n → group n < 5
 one_ring (Ring p) h = absurd (omega (arith, h))
 one_ring _ h = omega arith
 
-few_groups : (n : Name) → group n ≤ 5
+few_groups : (n : WordId) → group n ≤ 5
 few_groups Safepoint = omega arith
 few_groups Claim = omega arith
 few_groups End = omega arith
@@ -140,7 +142,7 @@ few_groups (Ring p) = omega arith
 all_before : (s : Shape) → before 6 (sizes s) ≡ word_count s
 all_before s = omega arith
 
-pub within : (s : Shape) (n : Name) → IsIn s n → place_of s n < word_count s
+pub within : (s : Shape) (n : WordId) → IsIn s n → place_of s n < word_count s
 within s n h =
     let a = lies s n h in
     let b = rising (sizes s) (group n) 6 (let f = few_groups n in omega (arith, f)) in
@@ -170,11 +172,11 @@ not_lower i = search arith
 middle : (i : ℕ) → i < 64 → nat_lt (64 + i) 128 ≡ true
 middle i h = search (arith, h)
 
-record Told (n : Name) : Type 0 where
+record Told (n : WordId) : Type 0 where
   kind_is : kind_of n ≡ kind_in (group n) (offset n)
   second_is : second_index n ≡ second_in (group n) (offset n)
 
-told : (s : Shape) (n : Name) → IsIn s n → Told n
+told : (s : Shape) (n : WordId) → IsIn s n → Told n
 told s Safepoint h = record { kind_is = refl; second_is = refl }
 told s Claim h = record { kind_is = refl; second_is = refl }
 told s End h = record { kind_is = refl; second_is = refl }
@@ -216,7 +218,7 @@ told s (Ring p) h = record { kind_is = refl; second_is = refl }
 parts : (d a i b j : ℕ) → i < d → j < d → d * a + i ≡ d * b + j → (a ≡ b) × (i ≡ j)
 parts d a i b j p q h = same_from_place a i b j d p q (ap (λ (x : ℕ). x + i) (mul_comm a d) ∙ h ∙ ap (λ (x : ℕ). x + j) (mul_comm d b))
 
-one_group : (s : Shape) (m n : Name) → IsIn s m → IsIn s n → place_of s m ≡ place_of s n → group m ≡ group n
+one_group : (s : Shape) (m n : WordId) → IsIn s m → IsIn s n → place_of s m ≡ place_of s n → group m ≡ group n
 one_group s m n h g e =
     let a = lies s m h in
     let b = lies s n g in
@@ -226,7 +228,7 @@ one_group s m n h g e =
     let down : group n < group m → ⊥ = λ lt. let r = rising (sizes s) (group n) (group m) lt in omega (arith, r, b.to, a.from, too, e) in
     grind (arith, up, down)
 
-pub same_place : (s : Shape) (m n : Name) → IsIn s m → IsIn s n → place_of s m ≡ place_of s n → same_name m n ≡ true
+pub same_place : (s : Shape) (m n : WordId) → IsIn s m → IsIn s n → place_of s m ≡ place_of s n → same_name m n ≡ true
 same_place s m n h g e =
     let a = lies s m h in
     let b = lies s n g in
@@ -235,10 +237,12 @@ same_place s m n h g e =
     let k = one_group s m n h g e in
     let wide : width s (group m) ≡ width s (group n) = ap (width s) k in
     let low : before (group m) (sizes s) ≡ before (group n) (sizes s) = ap (λ (x : ℕ). before x (sizes s)) k in
-    let at : place_of s n ≡ before (group n) (sizes s) + (width s (group m) * first_index n + offset n) = b.at ∙ ap (λ (x : ℕ). before (group n) (sizes s) + (x * first_index n + offset n)) (sym wide) in
+    let at : place_of s n ≡ before (group n) (sizes s) + (width s (group m) * first_index n + offset n) =
+    b.at ∙ ap (λ (x : ℕ). before (group n) (sizes s) + (x * first_index n + offset n)) (sym wide) in
     let some = some_room m in
     let too = some_room n in
-    let x = parts (width s (group m)) (first_index m) (offset m) (first_index n) (offset n) (omega (arith, a.low, some)) (omega (arith, b.low, too, wide)) (omega (arith, a.at, at, low, e)) in
+    let x = parts (width s (group m)) (first_index m) (offset m) (first_index n) (offset n)
+    (omega (arith, a.low, some)) (omega (arith, b.low, too, wide)) (omega (arith, a.at, at, low, e)) in
     let f : (kind_of m == kind_of n) ≡ true = eq-eqb _ _ (c.kind_is ∙ (λ i. kind_in (k i) (x.1 i)) ∙ sym d.kind_is) in
     let t : (second_index m == second_index n) ≡ true = eq-eqb _ _ (c.second_is ∙ (λ i. second_in (k i) (x.1 i)) ∙ sym d.second_is) in
     let u : (first_index m == first_index n) ≡ true = eq-eqb _ _ x.0 in
@@ -249,7 +253,8 @@ far : (d a i b j : ℕ) → i + 8 ≤ d → a < b → d * a + i + 8 ≤ d * b + 
 far d a i b j p h = let next = next_row d a b h in omega (arith, p, next)
 
 -- the words of a group lie 8 words or more before those of a later one
-before_by_8 : (s : Shape) (m n : Name) → IsIn s m → IsIn s n → (group m < group n) ⊎ ((group m ≡ group n) × (number m < number n)) → place_of s m + 8 ≤ place_of s n
+before_by_8 : (s : Shape) (m n : WordId) → IsIn s m → IsIn s n
+    → (group m < group n) ⊎ ((group m ≡ group n) × (number m < number n)) → place_of s m + 8 ≤ place_of s n
 before_by_8 s m n h g (inl lt) =
     let a = lies s m h in
     let b = lies s n g in
@@ -260,7 +265,8 @@ before_by_8 s m n h g (inr (k, lt)) =
     let a = lies s m h in
     let b = lies s n g in
     let low : before (group m) (sizes s) ≡ before (group n) (sizes s) = ap (λ (x : ℕ). before x (sizes s)) k in
-    let at : place_of s n ≡ before (group n) (sizes s) + (width s (group m) * first_index n + offset n) = b.at ∙ ap (λ (x : ℕ). before (group n) (sizes s) + (width s x * first_index n + offset n)) (sym k) in
+    let at : place_of s n ≡ before (group n) (sizes s) + (width s (group m) * first_index n + offset n) =
+    b.at ∙ ap (λ (x : ℕ). before (group n) (sizes s) + (width s x * first_index n + offset n)) (sym k) in
     let no_ring : group n < 5 = one_ring n (omega (arith, lt)) in
     let nor_there : group m < 5 = omega (arith, k, no_ring) in
     let much = much_room m nor_there in
@@ -273,9 +279,11 @@ order : (a b : ℕ) → (a < b) ⊎ (b < a) ⊎ (a ≡ b)
 order zero zero = inr (inr refl)
 order zero (suc b) = inl (omega arith)
 order (suc a) zero = inr (inl (omega arith))
-order (suc a) (suc b) = elim (order a b) [ inl h ↦ inl (omega (arith, h)) | inr r ↦ elim r [ inl h ↦ inr (inl (omega (arith, h))) | inr e ↦ inr (inr (ap suc e)) ] ]
+order (suc a) (suc b) =
+    elim (order a b) [ inl h ↦ inl (omega (arith, h)) | inr r ↦ elim r [ inl h ↦ inr (inl (omega (arith, h))) | inr e ↦ inr (inr (ap suc e)) ] ]
 
-pub apart_by_8 : (s : Shape) (m n : Name) → IsIn s m → IsIn s n → (group m ≢ group n) ⊎ (number m ≢ number n) → (place_of s m + 8 ≤ place_of s n) ⊎ (place_of s n + 8 ≤ place_of s m)
+pub apart_by_8 : (s : Shape) (m n : WordId) → IsIn s m → IsIn s n → (group m ≢ group n) ⊎ (number m ≢ number n)
+    → (place_of s m + 8 ≤ place_of s n) ⊎ (place_of s n + 8 ≤ place_of s m)
 apart_by_8 s m n h g d = elim (order (group m) (group n)) [
   | inl lt ↦ inl (before_by_8 s m n h g (inl lt))
   | inr r ↦ elim r [
@@ -284,18 +292,19 @@ apart_by_8 s m n h g d = elim (order (group m) (group n)) [
   ]
 ]
   where
-    by_number : group m ≡ group n → (number m < number n) ⊎ (number n < number m) ⊎ (number m ≡ number n) → (place_of s m + 8 ≤ place_of s n) ⊎ (place_of s n + 8 ≤ place_of s m)
+    by_number : group m ≡ group n → (number m < number n) ⊎ (number n < number m) ⊎ (number m ≡ number n)
+        → (place_of s m + 8 ≤ place_of s n) ⊎ (place_of s n + 8 ≤ place_of s m)
     by_number e (inl lt) = inl (before_by_8 s m n h g (inr (e, lt)))
     by_number e (inr (inl lt)) = inr (before_by_8 s n m g h (inr (sym e, lt)))
     by_number e (inr (inr same)) = absurd (⊎_elim (λ f. f e) (λ f. f same) d)
 
-pub one_name : (s : Shape) (m n : Name) → IsIn s m → IsIn s n → place_of s m ≡ place_of s n → m ≡ n
+pub one_name : (s : Shape) (m n : WordId) → IsIn s m → IsIn s n → place_of s m ≡ place_of s n → m ≡ n
 one_name s m n h g e = same_named m n (same_place s m n h g e)
 
-pub apart : (s : Shape) (m n : Name) → IsIn s m → IsIn s n → same_name m n ≡ false → place_of s m ≡ place_of s n → ⊥
+pub apart : (s : Shape) (m n : WordId) → IsIn s m → IsIn s n → same_name m n ≡ false → place_of s m ≡ place_of s n → ⊥
 apart s m n h g e p = true≢false (sym (same_place s m n h g p) ∙ e)
 
-pub placed : (s : Shape) (n : Name) → IsIn s n → IsPlaced n
+pub placed : (s : Shape) (n : WordId) → IsIn s n → IsPlaced n
 placed s Safepoint h = tt
 placed s (Prototype c) h = tt
 placed s (Revocations c) h = tt

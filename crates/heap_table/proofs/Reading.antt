@@ -31,20 +31,28 @@ read_ok : {A E : Type 0} (read : Option A) (Spells : A → Type 0) (r : Result A
 read_ok read Spells (Ok a) to back found none = sym (to a found)
 read_ok read Spells (Err e) to back found none = none_of read (λ a e. none a (back a e))
 
-pub mark_read : (word : ℕ) (r : Result MarkForm BadMark) → IfOk r (λ f. SpellsMark f word) → OnErr r ((f : MarkForm) → SpellsMark f word → ⊥) → result_ok r ≡ read_mark word
+pub mark_read : (word : ℕ) (r : Result MarkForm BadMark) → IfOk r (λ f. SpellsMark f word)
+    → OnErr r ((f : MarkForm) → SpellsMark f word → ⊥) → result_ok r ≡ read_mark word
 mark_read word r = read_ok (read_mark word) (λ f. SpellsMark f word) r (λ f h. ap read_mark h.1 ∙ read_mark-mark_of f h.0) (λ f e. read_mark-spells word f e)
 
-pub safe_read : (word : ℕ) (r : Result SafeForm BadMark) → IfOk r (λ f. SpellsSafe f word) → OnErr r ((f : SafeForm) → SpellsSafe f word → ⊥) → result_ok r ≡ read_safe word
+pub safe_read : (word : ℕ) (r : Result SafeForm BadMark) → IfOk r (λ f. SpellsSafe f word)
+    → OnErr r ((f : SafeForm) → SpellsSafe f word → ⊥) → result_ok r ≡ read_safe word
 safe_read word r = read_ok (read_safe word) (λ f. SpellsSafe f word) r (λ f h. ap read_safe h.1 ∙ read_safe-safe_of f h.0) (λ f e. read_safe-spells word f e)
 
-pub value_read_as : (word : ℕ) (r : Result Value BadWord) → IfOk r (λ v. SpellsValue v word) → OnErr r ((v : Value) → SpellsValue v word → ⊥) → result_ok r ≡ read_value word
-value_read_as word r = read_ok (read_value word) (λ v. SpellsValue v word) r (λ v h. ap read_value (word_of-only v word h) ∙ read_value-word_of v h.0) (λ v e. read_value-spells word v e)
+pub value_read_as : (word : ℕ) (r : Result Value BadWord) → IfOk r (λ v. SpellsValue v word)
+    → OnErr r ((v : Value) → SpellsValue v word → ⊥) → result_ok r ≡ read_value word
+value_read_as word r = read_ok (read_value word) (λ v. SpellsValue v word) r
+    (λ v h. ap read_value (word_of-only v word h) ∙ read_value-word_of v h.0) (λ v e. read_value-spells word v e)
 
-pub owner_read : (word : ℕ) (r : Result OwnerForm BadMark) → IfOk r (λ f. SpellsOwner f word) → OnErr r ((f : OwnerForm) → SpellsOwner f word → ⊥) → result_ok r ≡ read_owner word
-owner_read word r = read_ok (read_owner word) (λ f. SpellsOwner f word) r (λ f h. ap read_owner h.1 ∙ read_owner-owner_of f h.0) (λ f e. read_owner-spells word f e)
+pub owner_read : (word : ℕ) (r : Result OwnerForm BadMark) → IfOk r (λ f. SpellsOwner f word)
+    → OnErr r ((f : OwnerForm) → SpellsOwner f word → ⊥) → result_ok r ≡ read_owner word
+owner_read word r = read_ok (read_owner word) (λ f. SpellsOwner f word) r
+    (λ f h. ap read_owner h.1 ∙ read_owner-owner_of f h.0) (λ f e. read_owner-spells word f e)
 
-pub wait_read : (word : ℕ) (r : Result WaitForm BadMark) → IfOk r (λ f. SpellsWait f word) → OnErr r ((f : WaitForm) → SpellsWait f word → ⊥) → result_ok r ≡ read_wait word
+pub wait_read : (word : ℕ) (r : Result WaitForm BadMark) → IfOk r (λ f. SpellsWait f word)
+    → OnErr r ((f : WaitForm) → SpellsWait f word → ⊥) → result_ok r ≡ read_wait word
 wait_read word r = read_ok (read_wait word) (λ f. SpellsWait f word) r (λ f h. ap read_wait h.1 ∙ read_wait-wait_of f h.0) (λ f e. read_wait-spells word f e)
 
-pub hold_read : (word : ℕ) (r : Result HoldForm BadMark) → IfOk r (λ f. SpellsHold f word) → OnErr r ((f : HoldForm) → SpellsHold f word → ⊥) → result_ok r ≡ read_hold word
+pub hold_read : (word : ℕ) (r : Result HoldForm BadMark) → IfOk r (λ f. SpellsHold f word)
+    → OnErr r ((f : HoldForm) → SpellsHold f word → ⊥) → result_ok r ≡ read_hold word
 hold_read word r = read_ok (read_hold word) (λ f. SpellsHold f word) r (λ f h. ap read_hold h.1 ∙ read_hold-hold_of f h.0) (λ f e. read_hold-spells word f e)

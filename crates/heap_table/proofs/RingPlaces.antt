@@ -6,7 +6,7 @@ use Rattle.std.proofs.lemmas.Bool.{cases_lt}
 use Rattle.std.proofs.lemmas.Bool.Decides.{nat_tests}
 use lib.Pow.{pow_mono}
 use Rattle.core_world.specs.Words.Shape.{Shape, IsInLimits, monitor_count, bits_for, ring_bits}
-use Rattle.core_world.proofs.Rings.{ring_few, ring_enough}
+use Rattle.core_world.proofs.deflation.Rings.{ring_few, ring_enough}
 
 -- a test that fails at b says that no power up to 2 ^ b is large enough
 least_of : (c : Bool) (b k m n : ℕ) → nat_le n (2 ^ b) ≡ c → n ≤ 2 ^ k → b ≤ k → (b + 1 ≤ k → m ≤ k) → cond c b m ≤ k

@@ -1,5 +1,6 @@
 -- How many words the group of each object has: room for each slot that the object has, and few in the limits; and products with such a number.
-use Rattle.std.proofs.Common.{◌≡◌, ◌⊎◌, ℕ, zero, suc, ◌+◌, ◌-◌, ◌*◌, ◌/◌, ◌<◌, ◌≤◌, ◌==◌, nat_lt, max, Bool, true, false, cond, Less, Equal, Greater, List, [], ◌∷◌, length, refl, sym, ap, ◌∙◌, arith, inl, inr}
+use Rattle.std.proofs.Common.{◌≡◌, ◌⊎◌, ℕ, zero, suc, ◌+◌, ◌-◌, ◌*◌, ◌/◌, ◌<◌, ◌≤◌, ◌==◌, nat_lt, max, Bool, true, false}
+use Rattle.std.proofs.Common.{cond, Less, Equal, Greater, List, [], ◌∷◌, length, refl, sym, ap, ◌∙◌, arith, inl, inr}
 use Rattle.std.specs.Prelude.{take, get_or}
 use Rattle.std.specs.List.{AllByRecursion}
 use Rattle.std.specs.Ordering.{is_lt, ord_max, nat_cmp}
@@ -75,13 +76,13 @@ larger_by a b false false e = let high : a ≤ b = grind (arith, nat_tests, e) i
 pub larger_is : (a b : ℕ) → ord_max nat_cmp a b ≡ max a b
 larger_is a b = larger_by a b (nat_lt b a) (b == a) refl
 
--- the next group begins where this one ends, or behind
+-- the next group begins where this one ends, or after that
 pub next_row : (d a b : ℕ) → a < b → d * a + d ≤ d * b
 next_row d a b h =
     let up : suc a ≤ b = omega (arith, h) in
     let most : d * suc a ≤ d * b = mul-le-mul_left d up in
     let is : d * suc a ≡ d * a + d = mul-suc d a in omega (arith, most, is)
 
--- the words of the first groups, and of those behind them
+-- the words of the first groups, and of those after them
 pub rows_split : (d a n : ℕ) → a ≤ n → d * a + d * (n - a) ≡ d * n
 rows_split d a n h = sym (mul-add d a (n - a)) ∙ ap (λ (x : ℕ). d * x) (omega (arith, h))

@@ -7,7 +7,7 @@ pub record IsFresh (h : HeapSeen) (t : ℕ) (p : PassSeen) : Type 0 where
   pub is_of : IsOf h p
   pub knows : p.known ≡ first_known t
 
-pub record IsStill (h : HeapSeen) (t : ℕ) (p : PassSeen) : Type 0 where
+pub record IsStoppedPass (h : HeapSeen) (t : ℕ) (p : PassSeen) : Type 0 where
   pub is_of : IsOf h p
   pub thread : p.known.thread ≡ t
   pub stopped : p.known.running ≡ false

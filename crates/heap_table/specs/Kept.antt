@@ -3,9 +3,9 @@ use Rattle.std.specs.Prelude.{◌≡◌, ℕ, ◌+◌, ◌<◌, ◌≤◌, ◌==
 use Rattle.plain_monitor.specs.declared.entry.Logged.{Logged}
 use Rattle.plain_monitor.specs.History.{last_stamp}
 use Rattle.plain_history.specs.Known.{news}
-use Rattle.core_world.specs.declared.plan.Note.{Note}
-use Rattle.core_world.specs.declared.plan.Note.TheVariants.{Quiet}
-use Rattle.core_world.specs.Threads.Known.{Known}
+use Rattle.core_world.specs.declared.plan.LogEffect.{LogEffect}
+use Rattle.core_world.specs.declared.plan.LogEffect.TheVariants.{Quiet}
+use Rattle.core_world.specs.Threads.ThreadView.{ThreadView}
 use Rattle.core_world.specs.Locks.{count_where}
 use Rattle.lock_policy.specs.Draws.{state_after}
 use Rattle.heap_table.specs.Tallies.{counts_shown}
@@ -20,7 +20,7 @@ pub record IsPageFrom (given : ℕ) (log page : List Logged) : Type 0 where
   pub entries : drop given log ≡ page
   pub whole : given + length page ≡ length log
 
-pub record Follows (m : Mirror) (k : Known) : Type 0 where
+pub record Mirrors (m : Mirror) (k : ThreadView) : Type 0 where
   pub thread : k.thread ≡ m.thread
   pub log : IsPageFrom m.given k.log m.log.items
   pub last : last_stamp k.log ≡ m.last
@@ -42,6 +42,6 @@ pub record Follows (m : Mirror) (k : Known) : Type 0 where
   pub few : k.draws ≤ length k.log
   pub generator : m.drawing.generator ≡ state_after m.first (k.draws + 1)
 
-abbrev pub HasRoom : Note → List Logged → ℕ → Type 0
-HasRoom Quiet log room = Unit {0}
-HasRoom _ log room = length log < room
+abbrev pub LogHasRoom : LogEffect → List Logged → ℕ → Type 0
+LogHasRoom Quiet log room = Unit {0}
+LogHasRoom _ log room = length log < room

@@ -1,8 +1,9 @@
 -- Where each word lies.
 use Rattle.std.specs.Prelude.{ℕ, ◌+◌, ◌*◌, ◌/◌, ◌++◌, max, List, [], ◌∷◌, length, map, replicate, slice_index}
 use Rattle.plain_monitor.specs.Limits.{most_made}
-use Rattle.core_world.specs.declared.name.Name.{Name}
-use Rattle.core_world.specs.declared.name.Name.TheVariants.{Safepoint, Prototype, Revocations, LastBulk, Mark, Stamp, Slot, Hold, Displaced, Waiting, Length, Owner, Recursions, Header, Object, Claim, End, Ring, Class}
+use Rattle.core_world.specs.declared.word_id.WordId.{WordId}
+use Rattle.core_world.specs.declared.word_id.WordId.TheVariants.{Safepoint, Prototype, Revocations, LastBulk, Mark, Stamp, Slot, Hold, Displaced}
+use Rattle.core_world.specs.declared.word_id.WordId.TheVariants.{Waiting, Length, Owner, Recursions, Header, Object, Claim, End, Ring, Class}
 use Rattle.core_world.specs.Words.Names.{first_index}
 use Rattle.core_world.specs.Words.Shape.{Shape, ring_places}
 
@@ -16,7 +17,7 @@ shape_of threads slots classes declared =
       objects = map (λ c. (c, slice_index slots c)) classes;
     }
 
--- this shape, and behind its objects as many numbers as its threads may make objects, each of them with so many slots. Their class counts for nothing.
+-- this shape, and after its objects as many numbers as its threads may make objects, each of them with so many slots. Their class counts for nothing.
 abbrev pub with_made : Shape → ℕ → Shape
 with_made s slots = record s { objects = s.objects ++ replicate (most_made * s.threads) (0, slots) }
 
@@ -30,7 +31,7 @@ widest [] = 0
 widest (x ∷ xs) = max x.1 (widest xs)
 
 -- How many words the group of each object has: three, one for each slot of the object with the most of them, and seven
--- that lie free behind, rounded up to whole lines of 8 words. In the limits these are 16 where no object has more than 6
+-- that lie free after them, rounded up to whole lines of 8 words. In the limits these are 16 where no object has more than 6
 -- slots, 24 where one has more and none more than 14, and else 32.
 unfoldable pub object_size : Shape → ℕ
 object_size s = 8 * ((widest s.objects + 10 + 7) / 8)
@@ -61,7 +62,7 @@ word_count s = ring_from s + ring_places s
 -- different lines of a cache, wherever the table begins. So do the safepoint word and the claim word, and a thread's waiting word and its other
 -- words. The ring's end lies beside the claim word, and in the line of the safepoint word where the table begins at a line; the words of the ring
 -- lie side by side. These are stored only at a reached safepoint, where nobody runs, and a claim only loads one.
-abbrev pub place_of : Shape → Name → ℕ
+abbrev pub place_of : Shape → WordId → ℕ
 place_of s Safepoint = 0
 place_of s Claim = 8
 place_of s End = 7
@@ -83,7 +84,7 @@ place_of s (Object m) = monitors_from s + 11 * m + 3
 place_of s (Ring p) = ring_from s + p
 
 -- the kind of group that a word is in: the heap's, a class's, an object's, a thread's, a monitor's, the ring
-abbrev pub group : Name → ℕ
+abbrev pub group : WordId → ℕ
 group Safepoint = 0
 group Claim = 0
 group End = 0
@@ -105,6 +106,6 @@ group (Object m) = 4
 group (Ring p) = 5
 
 -- and the number of its group among those of that kind
-abbrev pub number : Name → ℕ
+abbrev pub number : WordId → ℕ
 number (Ring p) = 0
 number n = first_index n

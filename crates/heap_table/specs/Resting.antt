@@ -1,8 +1,8 @@
 -- A thread between two calls, and what its next call asks.
 use Rattle.std.specs.Prelude.{◌≡◌, ◌+◌, ◌≤◌, true, length}
-use Rattle.core_world.specs.declared.task.Task.{Task}
+use Rattle.core_world.specs.declared.heap_call.HeapCall.{HeapCall}
 use Rattle.core_world.specs.Steps.{is_idle}
-use Rattle.core_world.specs.Threads.Known.{Start, start_of}
+use Rattle.core_world.specs.Threads.ThreadView.{Start, start_of}
 use Rattle.core_world.specs.Trees.Calls.{may_begin, most_logged}
 use Rattle.heap_table.specs.Seen.{HeapSeen, PassSeen, IsOf}
 
@@ -12,12 +12,12 @@ pub record Rests (h : HeapSeen) (p : PassSeen) : Type 0 where
   pub over : is_idle h.heap.shape p.known ≡ true
 
 -- A call of this task may begin: the thread rests, and the call's own conditions hold.
-pub record MayCall (h : HeapSeen) (p : PassSeen) (t : Task) : Type 0 where
+pub record MayCall (h : HeapSeen) (p : PassSeen) (t : HeapCall) : Type 0 where
   pub rests : Rests h p
   pub may : may_begin h.heap.shape h.heap.biasing p.known t ≡ true
 
 -- So may an operation: the log has room for the entries that it logs at most.
-pub record MayOperate (h : HeapSeen) (p : PassSeen) (t : Task) : Type 0 where
+pub record MayOperate (h : HeapSeen) (p : PassSeen) (t : HeapCall) : Type 0 where
   pub call : MayCall h p t
   pub room : length p.known.log + most_logged p.known t ≤ p.limit
 

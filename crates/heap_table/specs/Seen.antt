@@ -2,12 +2,12 @@
 use Rattle.std.specs.Prelude.{◌≡◌, ℕ, zero, suc, ◌+◌, ◌-◌, ◌%◌, ◌^◌, ◌<◌, List, [], ◌∷◌, length, map, slice_index, Option, Some, slice_get, drop}
 use Rattle.atomic_table.specs.Seated.{TableId}
 use Rattle.plain_monitor.specs.declared.entry.Logged.{Logged}
-use Rattle.core_world.specs.declared.name.Name.{Name}
-use Rattle.core_world.specs.Threads.Known.{Known, DumpShot}
+use Rattle.core_world.specs.declared.word_id.WordId.{WordId}
+use Rattle.core_world.specs.Threads.ThreadView.{ThreadView, DumpShot}
 use Rattle.core_world.specs.Opening.{first_known}
 use Rattle.core_world.specs.World.{World}
 use Rattle.core_law.specs.Logic.{Heap, heap_of}
-use Rattle.core_law.specs.Reached.{Comes}
+use Rattle.core_law.specs.Reached.{IsReachable}
 use Rattle.core_law.specs.Sound.{Sound}
 use Rattle.heap_table.specs.declared.counts.ClassCounts.{ClassCounts}
 use Rattle.core_world.specs.There.{IsIn}
@@ -23,7 +23,7 @@ pub record HeapSeen : Type 0 where
 
 pub record PassSeen : Type 0 where
   pub table : TableId
-  pub known : Known
+  pub known : ThreadView
   -- how many entries its log may have before it hands out its next page
   pub limit : ℕ
   -- how many a page of it may have
@@ -72,7 +72,7 @@ abbrev pub first_passes : HeapSeen → ℕ → ℕ → ℕ → List PassSeen
 first_passes h limit t zero = []
 first_passes h limit t (suc n) = first_pass h limit t ∷ first_passes h limit (suc t) n
 
-abbrev pub knowns : List PassSeen → List Known
+abbrev pub knowns : List PassSeen → List ThreadView
 knowns ps = map (λ (p : PassSeen). p.known) ps
 
 abbrev pub logs_of : List PassSeen → List (List Logged)
@@ -96,18 +96,18 @@ abbrev pub counts_of_all : List PassSeen → List (List ClassCounts)
 counts_of_all ps = map (λ (p : PassSeen). counts_shown 0 p.classes p.known.counts) ps
 
 -- these are what the threads from t on know, in their order
-abbrev pub InOrder : ℕ → List Known → Type 0
+abbrev pub InOrder : ℕ → List ThreadView → Type 0
 InOrder t [] = Unit {0}
 InOrder t (k ∷ ks) = (k.thread ≡ t) × InOrder (t + 1) ks
 
 -- the words and what these threads know are those of one sound world, which the heap comes to
-pub record LastWorld (heap : Heap) (words : List ℕ) (ks : List Known) : Type 0 where
+pub record LastWorld (heap : Heap) (words : List ℕ) (ks : List ThreadView) : Type 0 where
   pub world : World
   pub is_of : heap_of world ≡ heap
   pub sound : Sound world
-  pub comes : Comes heap world
-  pub words_are : (n : Name) → IsIn heap.shape n → slice_index words (place_of heap.shape n) ≡ world.words n
-  pub knows : (i : ℕ) (k : Known) → slice_get ks i ≡ Some k → world.known k.thread ≡ k
+  pub comes : IsReachable heap world
+  pub words_are : (n : WordId) → IsIn heap.shape n → slice_index words (place_of heap.shape n) ≡ world.words n
+  pub knows : (i : ℕ) (k : ThreadView) → slice_get ks i ≡ Some k → world.known k.thread ≡ k
 
 -- what is left of a heap at its end
 pub record ClosedSeen : Type 0 where

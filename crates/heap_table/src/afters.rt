@@ -2,18 +2,18 @@
 ghost use Rattle.std.specs.Prelude.{◌≡◌, ◌<◌, ◌≤◌, ℕ, List, vec_capacity, vec_len};
 ghost use Rattle.plain_monitor.specs.declared.entry.Logged.{Logged as LoggedSeen};
 ghost use Rattle.mark_word.specs.Safe.{read_safe};
-ghost use Rattle.core_world.specs.Threads.Known.{Known};
+ghost use Rattle.core_world.specs.Threads.ThreadView.{ThreadView};
 ghost use Rattle.core_world.specs.Steps.{kept_after, saved_after, unfinished_after, runs_after, asks_after, reached_after, halted_after, is_taking, stamp_by, holds_after, wait_after, published_after, log_after};
 ghost use Rattle.plain_monitor.specs.Limits.{most_threads};
 ghost use Rattle.plain_monitor.specs.Monitor.{is_thread};
 ghost use Rattle.plain_monitor.specs.History.{last_stamp};
-ghost use Rattle.heap_table.specs.Kept.{HasRoom, IsPageFrom};
+ghost use Rattle.heap_table.specs.Kept.{LogHasRoom, IsPageFrom};
 ghost use Rattle.heap_table.specs.inner.Kept.{StampFits, entry_after, looked, left, stand_after};
 ghost use Rattle.heap_table.specs.inner.Layout.{IsPlaced};
 
 use crate::holds::Holds;
 use crate::reads::{has_running_bits_alone, hash_of_word, safe_of_word, value_of_word};
-use core_world::{Act, Name, Note, Own, Unfinished};
+use core_world::{Act, LocalEffect, LogEffect, Unfinished, WordId};
 use mark_word::SafeForm;
 use plain_monitor::{Entry, Logged};
 
@@ -28,41 +28,41 @@ pub struct Stand {
 
 /// Keeps the monitor found, or none any more, as the step says.
 #[inline(always)]
-pub fn keep_next(kept: &mut Option<u64>, own: &Own, found: u64)
+pub fn keep_next(kept: &mut Option<u64>, own: &LocalEffect, found: u64)
     ensures { kept.new ≡ kept_after own.now found kept.old }
 {
     match *own {
-        Own::Claim => *kept = Some(found),
-        Own::Spend => *kept = None,
+        LocalEffect::Claim => *kept = Some(found),
+        LocalEffect::DropClaim => *kept = None,
         _ => {}
     }
 }
 
-/// The recursions that the thread has saved behind a step that hit and found this word.
+/// The recursions that the thread has saved after a step that hit and found this word.
 #[inline(always)]
-pub fn saved_next(own: &Own, found: u64, saved: u64) -> u64
+pub fn saved_next(own: &LocalEffect, found: u64, saved: u64) -> u64
     ensures { result ≡ saved_after own.now found saved }
 {
     match *own {
-        Own::Save => found,
+        LocalEffect::SaveRecursions => found,
         _ => saved,
     }
 }
 
 /// The entry that such a step logs, if it logs one, where it found this word.
 #[inline(always)]
-pub fn entry_next(note: &Note, found: u64) -> Option<Entry>
+pub fn entry_next(note: &LogEffect, found: u64) -> Option<Entry>
     ensures { result ≡ entry_after note.now found }
 {
     match *note {
-        Note::Quiet => None,
-        Note::Log { entry } => Some(entry),
-        Note::LogGet { object, slot } => Some(Entry::Get {
+        LogEffect::Quiet => None,
+        LogEffect::Log { entry } => Some(entry),
+        LogEffect::LogGet { object, slot } => Some(Entry::Get {
             object,
             slot,
             value: value_of_word(found),
         }),
-        Note::LogHash { object } => {
+        LogEffect::LogHash { object } => {
             let value = hash_of_word(found);
             if value == 0 {
                 None
@@ -77,13 +77,17 @@ pub fn entry_next(note: &Note, found: u64) -> Option<Entry>
     }
 }
 
-/// The operation that is unfinished behind the step: a hash that is found ends its own.
+/// The operation that is unfinished after the step: a hash that is found ends its own.
 #[inline(always)]
-pub fn unfinished_next(note: &Note, found: u64, after: Option<Unfinished>) -> Option<Unfinished>
+pub fn unfinished_next(
+    note: &LogEffect,
+    found: u64,
+    after: Option<Unfinished>,
+) -> Option<Unfinished>
     ensures { result ≡ unfinished_after note.now found after }
 {
     match *note {
-        Note::LogHash { object: _ } => if hash_of_word(found) == 0 {
+        LogEffect::LogHash { object: _ } => if hash_of_word(found) == 0 {
             after
         } else {
             None
@@ -121,7 +125,7 @@ fn looked_next(form: Option<SafeForm>, stand: Stand) -> Stand
     }
 }
 
-/// Follows what the thread knows behind a load that found this word. One with running bits alone tells nothing new to a thread that asks for no safepoint: then nothing is written.
+/// Follows what the thread knows after a load that found this word. One with running bits alone tells nothing new to a thread that asks for no safepoint: then nothing is written.
 #[inline(always)]
 #[tactic(auto, using(crate::proofs::Idling::looked_idle))]
 fn looked_at(word: u64, stand: &mut Stand)
@@ -168,14 +172,14 @@ fn left_next(form: Option<SafeForm>, thread: u32, stand: Stand) -> Stand
     }
 }
 
-/// Follows what the thread knows of the safepoint word, behind an act that hit and left this word.
+/// Follows what the thread knows of the safepoint word, after an act that hit and left this word.
 #[inline(always)]
-pub fn stand_next(at: Name, act: &Act, word: u64, thread: u32, stand: &mut Stand)
+pub fn stand_next(at: WordId, act: &Act, word: u64, thread: u32, stand: &mut Stand)
     requires { thread < most_threads }
     ensures { stand.new ≡ stand_after at act.now word thread stand.old }
 {
     match at {
-        Name::Safepoint => match *act {
+        WordId::Safepoint => match *act {
             Act::Load => looked_at(word, stand),
             _ => *stand = left_next(safe_of_word(word), thread, *stand),
         },
@@ -185,11 +189,11 @@ pub fn stand_next(at: Name, act: &Act, word: u64, thread: u32, stand: &mut Stand
 
 /// Whether the thread knows of the halt, after an exchange that found this word and missed.
 #[inline(always)]
-pub fn halted_next(at: Name, word: u64, halted: bool) -> bool
-    ensures { (k : Known) → k.halted ≡ halted → result ≡ halted_after at word k }
+pub fn halted_next(at: WordId, word: u64, halted: bool) -> bool
+    ensures { (k : ThreadView) → k.halted ≡ halted → result ≡ halted_after at word k }
 {
     match at {
-        Name::Safepoint => match safe_of_word(word) {
+        WordId::Safepoint => match safe_of_word(word) {
             None => halted,
             Some(form) => halted || form.halted,
         },
@@ -197,13 +201,13 @@ pub fn halted_next(at: Name, word: u64, halted: bool) -> bool
     }
 }
 
-/// What the thread last stored in its waiting word, behind this act.
+/// What the thread last stored in its waiting word, after this act.
 #[inline(always)]
-pub fn wait_next(at: Name, act: &Act, thread: u32, wait: u64) -> u64
-    ensures { (k : Known) → k.thread ≡ thread → k.wait ≡ wait → result ≡ wait_after at act.now k }
+pub fn wait_next(at: WordId, act: &Act, thread: u32, wait: u64) -> u64
+    ensures { (k : ThreadView) → k.thread ≡ thread → k.wait ≡ wait → result ≡ wait_after at act.now k }
 {
     match at {
-        Name::Waiting { thread: of } => match *act {
+        WordId::Waiting { thread: of } => match *act {
             Act::Store { word } if of == thread => word,
             _ => wait,
         },
@@ -211,13 +215,13 @@ pub fn wait_next(at: Name, act: &Act, thread: u32, wait: u64) -> u64
     }
 }
 
-/// What the thread last stored in its length word, behind this act.
+/// What the thread last stored in its length word, after this act.
 #[inline(always)]
-pub fn published_next(at: Name, act: &Act, published: u64) -> u64
-    ensures { (k : Known) → k.published ≡ published → result ≡ published_after at act.now k }
+pub fn published_next(at: WordId, act: &Act, published: u64) -> u64
+    ensures { (k : ThreadView) → k.published ≡ published → result ≡ published_after at act.now k }
 {
     match at {
-        Name::Length { thread: _ } => match *act {
+        WordId::Length { thread: _ } => match *act {
             Act::Store { word } => word,
             _ => published,
         },
@@ -227,11 +231,11 @@ pub fn published_next(at: Name, act: &Act, published: u64) -> u64
 
 /// Follows what the thread last stored in its hold words.
 #[inline(always)]
-pub fn store_hold(holds: &mut Holds, at: Name, act: &Act)
+pub fn store_hold(holds: &mut Holds, at: WordId, act: &Act)
     requires { IsPlaced at }
-    ensures { (k : Known) → k.holds ≡ holds.old.words → holds.new.words ≡ holds_after at act.now k }
+    ensures { (k : ThreadView) → k.holds ≡ holds.old.words → holds.new.words ≡ holds_after at act.now k }
 {
-    if let Name::Hold { thread: _, place } = at {
+    if let WordId::Hold { thread: _, place } = at {
         if let Act::Store { word } = *act {
             holds.store(place, word);
         }
@@ -241,14 +245,14 @@ pub fn store_hold(holds: &mut Holds, at: Name, act: &Act)
 /// Adds the entry that the step logs, if it logs one, to the page of the log, and keeps its stamp as the log's last
 /// one.
 #[inline(always)]
-pub fn note_entry(log: &mut Vec<Logged>, last: &mut u64, note: &Note, found: u64)
-    requires room { HasRoom note.now log.old.items (vec_capacity log.old) }
+pub fn note_entry(log: &mut Vec<Logged>, last: &mut u64, note: &LogEffect, found: u64)
+    requires room { LogHasRoom note.now log.old.items (vec_capacity log.old) }
     requires stamp { StampFits note.now found last.old }
     ensures log { (given : ℕ) (all : List LoggedSeen) → IsPageFrom given all log.old.items → last_stamp all ≡ last.old
         → IsPageFrom given (log_after note.now found all) log.new.items
         × (last_stamp (log_after note.now found all) ≡ last.new) }
     ensures room { vec_capacity log.new ≡ vec_capacity log.old }
-    ensures within { (limit : ℕ) → HasRoom note.now log.old.items limit → vec_len log.old ≤ limit
+    ensures within { (limit : ℕ) → LogHasRoom note.now log.old.items limit → vec_len log.old ≤ limit
         → vec_len log.new ≤ limit }
 {
     if let Some(entry) = entry_next(note, found) {

@@ -5,7 +5,7 @@ ghost use Rattle.core_world.specs.Threads.Counts as known;
 ghost use Rattle.core_world.specs.Steps.{counts_after};
 ghost use Rattle.heap_table.specs.Tallies.{capped_counts, counts_shown};
 
-use core_world::Own;
+use core_world::LocalEffect;
 use lock_policy::Verdict;
 
 /// The verdicts that a thread carried out on a class. At its greatest number a count stays, so that counting has no condition.
@@ -70,11 +70,11 @@ fn next_counts(counts: ClassCounts, verdict: Verdict, reset: bool) -> ClassCount
 
 /// Counts the verdict that a step which hit tells, if it tells one.
 #[inline(always)]
-pub fn count_next(counts: &mut Vec<ClassCounts>, own: &Own)
+pub fn count_next(counts: &mut Vec<ClassCounts>, own: &LocalEffect)
     ensures { (n : ℕ) (k : List CountedVerdict) → counts.old.items ≡ counts_shown 0 n k
         → counts.new.items ≡ counts_shown 0 n (counts_after own.now k) }
 {
-    if let Own::CountVerdict {
+    if let LocalEffect::CountVerdict {
         class,
         verdict,
         reset,

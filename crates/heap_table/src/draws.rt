@@ -3,7 +3,7 @@ ghost use Rattle.std.specs.Prelude.{◌≡◌, ℕ, ◌+◌, ◌<◌, ◌^◌};
 ghost use Rattle.lock_policy.specs.Draws.{state_after, value_of};
 ghost use Rattle.core_world.specs.Steps.{draws_after};
 
-use core_world::Note;
+use core_world::LogEffect;
 use lock_policy::Draw;
 use plain_monitor::Entry;
 
@@ -37,13 +37,13 @@ impl Drawing {
 
 /// Counts the draw that a step which hit logs, if it logs one, and makes the next.
 #[inline(always)]
-pub fn draw_next(drawing: &mut Drawing, note: &Note)
+pub fn draw_next(drawing: &mut Drawing, note: &LogEffect)
     requires { drawing.old.installed + 1 < 2 ^ 64 }
     ensures installed { drawing.new.installed ≡ draws_after note.now drawing.old.installed }
     ensures generator { (first : ℕ) → drawing.old.generator ≡ state_after first (drawing.old.installed + 1)
         → drawing.new.generator ≡ state_after first (drawing.new.installed + 1) }
 {
-    if let Note::Log {
+    if let LogEffect::Log {
         entry: Entry::Hash { drawn: Some(_), .. },
     } = *note
     {

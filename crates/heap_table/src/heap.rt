@@ -11,7 +11,7 @@ use crate::rule::Words;
 use crate::setting::Setting;
 use crate::shape::HeapShape;
 use crate::shots::Shot;
-use crate::steps::step;
+use crate::steps::step_in_table;
 use core_world::StepPlan;
 use plain_monitor::{List, Logged};
 use std::marker::Model;
@@ -89,7 +89,7 @@ impl Heap {
         requires { CanStep self.now pass.old plan }
         ensures { HasStepped self.now pass.old pass.new plan result }
     {
-        let found = step(&self.words, &self.setting, &mut pass.seat, plan);
+        let found = step_in_table(&self.words, &self.setting, &mut pass.seat, plan);
         pass.mirror.follow(&plan, found);
         found
     }

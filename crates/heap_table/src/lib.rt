@@ -6,37 +6,37 @@
 //! the next one of its thread, and needs no law of its own. `HeapShape` says where each word lies, and `close` what is left at the end.
 #![tactic(auto)]
 
-mod acts;
 mod afters;
-mod begins;
+mod call_context;
 mod choice;
 mod classes;
+mod closing;
 mod counts;
 mod draws;
-mod ends;
 mod entries;
 mod heap;
 mod holds;
-mod keeps;
 mod made;
 mod mirror;
 mod opening;
+mod opening_conditions;
 mod pass;
 mod plans;
-mod purpose;
 mod reads;
 mod rule;
 mod setting;
 mod shape;
 mod shots;
 mod steps;
+mod steps_keeping;
+mod steps_quiet;
 
+pub use call_context::CallContext;
+pub use closing::{Closed, close};
 pub use counts::ClassCounts;
-pub use ends::{Closed, close};
 pub use heap::Heap;
 pub use holds::{PLACES, names};
 pub use pass::Pass;
-pub use purpose::Purpose;
 pub use reads::{
     class_epoch, hash_of_word, hold_of_word, is_biased, mark_of_word, owner_of_word, safe_of_word,
     value_of_word, wait_of_word,

@@ -16,7 +16,7 @@ use crate::draws::{Drawing, draw_next};
 use crate::holds::Holds;
 use crate::made::made_next;
 use crate::shots::Shots;
-use core_world::{Own, StepPlan, Unfinished, apply};
+use core_world::{LocalEffect, StepPlan, Unfinished, apply};
 use plain_monitor::Logged;
 use std::alloc::{AllocError, Global};
 
@@ -53,9 +53,9 @@ pub struct Mirror {
     pub ghost low: { thread < most_threads },
 }
 
-// The shots behind a step that hit.
+// The shots after a step that hit.
 #[inline(always)]
-fn shoot(shots: &mut Shots, own: &Own)
+fn shoot(shots: &mut Shots, own: &LocalEffect)
     requires { HasPlace own.now (length shots.old.taken.items) }
     ensures fixed { (shots.new.threads ≡ shots.old.threads) × (shots.new.objects ≡ shots.old.objects) }
     ensures taken { shots.new.taken.items
@@ -63,7 +63,7 @@ fn shoot(shots: &mut Shots, own: &Own)
     ensures draft { IsLeft own.now shots.old.draft.cut.items (cells_shown shots.old.draft.cells.items)
         shots.new.draft.cut.items (cells_shown shots.new.draft.cells.items) }
 {
-    if let Own::TakeShot = *own {
+    if let LocalEffect::TakeShot = *own {
         shots.take();
     }
 }
@@ -83,11 +83,11 @@ impl Mirror {
     ghost use Rattle.std.specs.Prelude.{replicate};
     ghost use Rattle.plain_monitor.specs.History.{last_stamp};
     ghost use Rattle.core_world.specs.Words.Acts.{word_after, hits};
-    ghost use Rattle.core_world.specs.Threads.Known.{Known};
+    ghost use Rattle.core_world.specs.Threads.ThreadView.{ThreadView};
     ghost use Rattle.core_world.specs.Opening.{first_known};
     ghost use Rattle.core_world.specs.Words.Shape.{Shape};
     ghost use Rattle.core_world.specs.Steps.{known_after, with_entry, stamp_by};
-    ghost use Rattle.heap_table.specs.Kept.{Follows, HasRoom};
+    ghost use Rattle.heap_table.specs.Kept.{Mirrors, LogHasRoom};
     ghost use Rattle.heap_table.specs.inner.Kept.{StampFits, with_any_entry, entry_after};
     ghost use Rattle.heap_table.specs.inner.Layout.{IsPlaced};
 
@@ -107,7 +107,7 @@ impl Mirror {
     ) -> Result<Mirror, AllocError>
         requires thread { thread < most_threads }
         requires shots { shots.taken.items ≡ [] }
-        ensures follows { IfOk result (λ m. Follows m (first_known thread)) }
+        ensures follows { IfOk result (λ m. Mirrors m (first_known thread)) }
         ensures fixed { IfOk result (λ m. (m.room ≡ room) × (m.given ≡ 0) × (m.classes ≡ classes) × (m.first ≡ first)
             × (m.shots ≡ shots)) }
     {
@@ -143,14 +143,14 @@ impl Mirror {
     #[inline(always)]
     pub fn follow(&mut self, step: &StepPlan, found: u64)
         requires at { IsPlaced step.now.at }
-        requires room { HasRoom step.now.note self.old.log.items self.old.room }
+        requires room { LogHasRoom step.now.note self.old.log.items self.old.room }
         requires shots { HasPlace step.now.own (length self.old.shots.taken.items) }
         requires draws { self.old.drawing.installed ≤ self.old.given + length self.old.log.items }
         requires made { self.old.made ≤ self.old.given + length self.old.log.items }
         requires stamp { hits step.now.act found ≡ true → StampFits step.now.note found self.old.last }
-        ensures follows { (s : Shape) (start : ℕ) (k : Known) → Follows self.old k
+        ensures follows { (s : Shape) (start : ℕ) (k : ThreadView) → Mirrors self.old k
             → IsDrafted step.now.own s k self.old.shots.draft.cut.items (cells_shown self.old.shots.draft.cells.items)
-            → Follows self.new (known_after s start step.now found k) }
+            → Mirrors self.new (known_after s start step.now found k) }
         ensures fixed { (self.new.room ≡ self.old.room) × (self.new.given ≡ self.old.given)
             × (self.new.classes ≡ self.old.classes) × (self.new.first ≡ self.old.first) × (self.new.shots.threads ≡ self.old.shots.threads)
             × (self.new.shots.objects ≡ self.old.shots.objects) }

@@ -10,7 +10,7 @@ use std::alloc::{AllocError, Global};
 /// Each slot's word at first, that of the number 0.
 const ZERO: u64 = (1 << 63) + 1;
 
-// Puts so many copies of the group behind the words.
+// Puts so many copies of the group after the words.
 fn push_copies(words: &mut Vec<u64>, count: usize, group: &[u64]) -> Result<(), AllocError>
     ensures { IfOk result (λ _. words.new.items ≡ words.old.items ++ copies count group.now) }
 {
@@ -20,7 +20,7 @@ fn push_copies(words: &mut Vec<u64>, count: usize, group: &[u64]) -> Result<(), 
     Ok(())
 }
 
-// Puts the numbers below this behind the words.
+// Puts the numbers below this after the words.
 fn push_numbers(words: &mut Vec<u64>, count: u32) -> Result<(), AllocError>
     ensures { IfOk result (λ _. words.new.items ≡ words.old.items ++ numbers count) }
 {
@@ -37,7 +37,7 @@ fn mark_word(biasing: bool) -> u64
     if biasing { 5 } else { 1 }
 }
 
-// Puts the words of so many objects with this mark behind the words, in groups of this size.
+// Puts the words of so many objects with this mark after the words, in groups of this size.
 fn push_objects(
     words: &mut Vec<u64>,
     count: usize,

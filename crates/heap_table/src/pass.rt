@@ -34,7 +34,7 @@ impl Model for Pass {
     ghost use Rattle.heap_table.specs.Cells.{cells_shown};
     ghost use Rattle.heap_table.specs.Ruled.{only};
     ghost use Rattle.heap_table.specs.Seen.{PassSeen};
-    ghost use Rattle.heap_table.specs.Kept.{Follows};
+    ghost use Rattle.heap_table.specs.Kept.{Mirrors};
 
     ghost Value = { PassSeen };
 
@@ -51,7 +51,7 @@ impl Model for Pass {
       cells = cells_shown p.mirror.shots.draft.cells.items;
     } };
 
-    ghost invariant = { λ p. (p.seat.me ≡ (only p.seat.me.0 ∷ [], [])) × Follows p.mirror ((only p.seat.me.0)) };
+    ghost invariant = { λ p. (p.seat.me ≡ (only p.seat.me.0 ∷ [], [])) × Mirrors p.mirror ((only p.seat.me.0)) };
 }
 
 impl Pass {

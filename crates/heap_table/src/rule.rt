@@ -9,9 +9,9 @@ pub struct Knows {}
 
 impl Model for Knows {
     ghost use Rattle.std.specs.Prelude.{List, []};
-    ghost use Rattle.core_world.specs.Threads.Known.{Known};
+    ghost use Rattle.core_world.specs.Threads.ThreadView.{ThreadView};
 
-    ghost Value = { List Known };
+    ghost Value = { List ThreadView };
 
     ghost view = { λ m. [] };
 }

@@ -1,11 +1,11 @@
 //! How many there are of everything, and where each word lies.
 ghost use Rattle.std.specs.Prelude.{◌≡◌, ◌≢◌, ◌⊎◌, ◌<◌, ◌≤◌, ◌+◌, ◌*◌, ◌/◌, ◌++◌, All, IfOk, length, map, replicate, slice_index};
 ghost use Rattle.plain_monitor.specs.Limits.{most_threads, most_classes, most_slots, most_objects, most_in_all, most_holds};
-ghost use Rattle.core_world.specs.Words.Shape.{Shape, IsInLimits, class_of, slots_of, ring_places};
+ghost use Rattle.core_world.specs.Words.Shape.{Shape, IsInLimits, class_in_shape, slots_of, ring_places};
 ghost use Rattle.core_world.specs.There.{IsIn};
 ghost use Rattle.heap_table.specs.Layout.{group, number, place_of, word_count, many, shape_of, with_made, widest, object_size, classes_from, objects_from, threads_from, monitors_from, ring_from};
 
-use core_world::Name;
+use core_world::WordId;
 use plain_monitor::NoMemory;
 use plain_monitor::limits::MADE;
 use std::alloc::{AllocError, Global};
@@ -49,7 +49,7 @@ impl HeapShape {
     /// The safepoint word.
     #[inline(always)]
     pub fn safe_at(&self) -> usize
-        ensures { result ≡ place_of self.now Name.Safepoint }
+        ensures { result ≡ place_of self.now WordId.Safepoint }
     {
         0
     }
@@ -57,26 +57,26 @@ impl HeapShape {
     /// How many ring positions have been claimed.
     #[inline(always)]
     pub fn claim_at(&self) -> usize
-        ensures { result ≡ place_of self.now Name.Claim }
+        ensures { result ≡ place_of self.now WordId.Claim }
     {
         8
     }
 
-    /// The ring position behind the last monitor in the ring. It lies beside the claim word, and may lie in the line of
+    /// The ring position after the last monitor in the ring. It lies beside the claim word, and may lie in the line of
     /// the safepoint word: it is stored only at a reached safepoint, where nobody runs.
     #[inline(always)]
     pub fn end_at(&self) -> usize
-        ensures { result ≡ place_of self.now Name.End }
+        ensures { result ≡ place_of self.now WordId.End }
     {
         7
     }
 
-    /// The monitor at the ring's positions of this remainder. The ring's words lie side by side behind all others: a
+    /// The monitor at the ring's positions of this remainder. The ring's words lie side by side after all others: a
     /// claim only loads one, so that threads that claim don't take lines of a cache from one another.
     #[inline(always)]
     pub fn ring_at(&self, place: u32) -> usize
         requires { place < ring_places self.now }
-        ensures { result ≡ place_of self.now (Name.Ring place) }
+        ensures { result ≡ place_of self.now (WordId.Ring place) }
     {
         self.ring_from() + place as usize
     }
@@ -85,7 +85,7 @@ impl HeapShape {
     #[inline(always)]
     pub fn prototype_at(&self, class: u32) -> usize
         requires { class < self.now.classes }
-        ensures { result ≡ place_of self.now (Name.Prototype class) }
+        ensures { result ≡ place_of self.now (WordId.Prototype class) }
     {
         self.class_group_at(class)
     }
@@ -94,7 +94,7 @@ impl HeapShape {
     #[inline(always)]
     pub fn count_at(&self, class: u32) -> usize
         requires { class < self.now.classes }
-        ensures { result ≡ place_of self.now (Name.Revocations class) }
+        ensures { result ≡ place_of self.now (WordId.Revocations class) }
     {
         self.class_group_at(class) + 1
     }
@@ -103,7 +103,7 @@ impl HeapShape {
     #[inline(always)]
     pub fn last_at(&self, class: u32) -> usize
         requires { class < self.now.classes }
-        ensures { result ≡ place_of self.now (Name.LastBulk class) }
+        ensures { result ≡ place_of self.now (WordId.LastBulk class) }
     {
         self.class_group_at(class) + 2
     }
@@ -112,7 +112,7 @@ impl HeapShape {
     #[inline(always)]
     pub fn mark_at(&self, object: u32) -> usize
         requires { object < many self.now }
-        ensures { result ≡ place_of self.now (Name.Mark object) }
+        ensures { result ≡ place_of self.now (WordId.Mark object) }
     {
         self.group_at(object)
     }
@@ -121,7 +121,7 @@ impl HeapShape {
     #[inline(always)]
     pub fn stamp_at(&self, object: u32) -> usize
         requires { object < many self.now }
-        ensures { result ≡ place_of self.now (Name.Stamp object) }
+        ensures { result ≡ place_of self.now (WordId.Stamp object) }
     {
         self.group_at(object) + 1
     }
@@ -130,7 +130,7 @@ impl HeapShape {
     #[inline(always)]
     pub fn class_at(&self, object: u32) -> usize
         requires { object < many self.now }
-        ensures { result ≡ place_of self.now (Name.Class object) }
+        ensures { result ≡ place_of self.now (WordId.Class object) }
     {
         self.group_at(object) + 2
     }
@@ -139,7 +139,7 @@ impl HeapShape {
     #[inline(always)]
     pub fn slot_at(&self, object: u32, slot: u32) -> usize
         requires { object < many self.now }
-        ensures { result ≡ place_of self.now (Name.Slot object slot) }
+        ensures { result ≡ place_of self.now (WordId.Slot object slot) }
     {
         self.group_at(object) + 3 + slot as usize
     }
@@ -148,7 +148,7 @@ impl HeapShape {
     #[inline(always)]
     pub fn hold_at(&self, thread: u32, place: u32) -> usize
         requires { (thread < self.now.threads) × (place < most_holds) }
-        ensures { result ≡ place_of self.now (Name.Hold thread place) }
+        ensures { result ≡ place_of self.now (WordId.Hold thread place) }
     {
         self.thread_at(thread) + place as usize
     }
@@ -157,7 +157,7 @@ impl HeapShape {
     #[inline(always)]
     pub fn displaced_at(&self, thread: u32, place: u32) -> usize
         requires { (thread < self.now.threads) × (place < most_holds) }
-        ensures { result ≡ place_of self.now (Name.Displaced thread place) }
+        ensures { result ≡ place_of self.now (WordId.Displaced thread place) }
     {
         self.thread_at(thread) + 64 + place as usize
     }
@@ -166,7 +166,7 @@ impl HeapShape {
     #[inline(always)]
     pub fn wait_at(&self, thread: u32) -> usize
         requires { thread < self.now.threads }
-        ensures { result ≡ place_of self.now (Name.Waiting thread) }
+        ensures { result ≡ place_of self.now (WordId.Waiting thread) }
     {
         self.thread_at(thread) + 136
     }
@@ -175,7 +175,7 @@ impl HeapShape {
     #[inline(always)]
     pub fn length_at(&self, thread: u32) -> usize
         requires { thread < self.now.threads }
-        ensures { result ≡ place_of self.now (Name.Length thread) }
+        ensures { result ≡ place_of self.now (WordId.Length thread) }
     {
         self.thread_at(thread) + 128
     }
@@ -184,7 +184,7 @@ impl HeapShape {
     #[inline(always)]
     pub fn owner_at(&self, monitor: u32) -> usize
         requires { monitor < many self.now + self.now.threads }
-        ensures { result ≡ place_of self.now (Name.Owner monitor) }
+        ensures { result ≡ place_of self.now (WordId.Owner monitor) }
     {
         self.monitor_at(monitor)
     }
@@ -193,7 +193,7 @@ impl HeapShape {
     #[inline(always)]
     pub fn recursions_at(&self, monitor: u32) -> usize
         requires { monitor < many self.now + self.now.threads }
-        ensures { result ≡ place_of self.now (Name.Recursions monitor) }
+        ensures { result ≡ place_of self.now (WordId.Recursions monitor) }
     {
         self.monitor_at(monitor) + 1
     }
@@ -202,7 +202,7 @@ impl HeapShape {
     #[inline(always)]
     pub fn header_at(&self, monitor: u32) -> usize
         requires { monitor < many self.now + self.now.threads }
-        ensures { result ≡ place_of self.now (Name.Header monitor) }
+        ensures { result ≡ place_of self.now (WordId.Header monitor) }
     {
         self.monitor_at(monitor) + 2
     }
@@ -211,38 +211,38 @@ impl HeapShape {
     #[inline(always)]
     pub fn object_at(&self, monitor: u32) -> usize
         requires { monitor < many self.now + self.now.threads }
-        ensures { result ≡ place_of self.now (Name.Object monitor) }
+        ensures { result ≡ place_of self.now (WordId.Object monitor) }
     {
         self.monitor_at(monitor) + 3
     }
 
     /// The word of this name.
     #[inline(always)]
-    pub fn place(&self, at: Name) -> usize
+    pub fn place(&self, at: WordId) -> usize
         requires { IsIn self.now at }
         ensures place { result ≡ place_of self.now at }
         ensures within { result < word_count self.now }
     {
         match at {
-            Name::Safepoint => self.safe_at(),
-            Name::Prototype { class } => self.prototype_at(class),
-            Name::Revocations { class } => self.count_at(class),
-            Name::LastBulk { class } => self.last_at(class),
-            Name::Mark { object } => self.mark_at(object),
-            Name::Stamp { object } => self.stamp_at(object),
-            Name::Class { object } => self.class_at(object),
-            Name::Slot { object, slot } => self.slot_at(object, slot),
-            Name::Hold { thread, place } => self.hold_at(thread, place),
-            Name::Displaced { thread, place } => self.displaced_at(thread, place),
-            Name::Waiting { thread } => self.wait_at(thread),
-            Name::Length { thread } => self.length_at(thread),
-            Name::Owner { monitor } => self.owner_at(monitor),
-            Name::Recursions { monitor } => self.recursions_at(monitor),
-            Name::Header { monitor } => self.header_at(monitor),
-            Name::Object { monitor } => self.object_at(monitor),
-            Name::Claim => self.claim_at(),
-            Name::End => self.end_at(),
-            Name::Ring { place } => self.ring_at(place),
+            WordId::Safepoint => self.safe_at(),
+            WordId::Prototype { class } => self.prototype_at(class),
+            WordId::Revocations { class } => self.count_at(class),
+            WordId::LastBulk { class } => self.last_at(class),
+            WordId::Mark { object } => self.mark_at(object),
+            WordId::Stamp { object } => self.stamp_at(object),
+            WordId::Class { object } => self.class_at(object),
+            WordId::Slot { object, slot } => self.slot_at(object, slot),
+            WordId::Hold { thread, place } => self.hold_at(thread, place),
+            WordId::Displaced { thread, place } => self.displaced_at(thread, place),
+            WordId::Waiting { thread } => self.wait_at(thread),
+            WordId::Length { thread } => self.length_at(thread),
+            WordId::Owner { monitor } => self.owner_at(monitor),
+            WordId::Recursions { monitor } => self.recursions_at(monitor),
+            WordId::Header { monitor } => self.header_at(monitor),
+            WordId::Object { monitor } => self.object_at(monitor),
+            WordId::Claim => self.claim_at(),
+            WordId::End => self.end_at(),
+            WordId::Ring { place } => self.ring_at(place),
         }
     }
 }
@@ -430,7 +430,7 @@ impl HeapShape {
         }
     }
 
-    /// Adds numbers for the objects that threads make: 1,024 for each thread, behind the objects that are there,
+    /// Adds numbers for the objects that threads make: 1,024 for each thread, after the objects that are there,
     /// which are at most 4,096. Each has `slots` slots, at most 16, whatever its class, which it gets when it is
     /// made. Without a class nothing could be made.
     ///
@@ -498,7 +498,7 @@ impl HeapShape {
     /// The class of a declared object. Of another, the shape tells only the number of slots.
     pub fn class_of(&self, object: u32) -> u32
         requires { object < many self.now }
-        ensures class { result ≡ class_of self.now object }
+        ensures class { result ≡ class_in_shape self.now object }
         ensures within { result < self.now.classes }
     {
         self.objects[object as usize].0
@@ -516,13 +516,13 @@ impl HeapShape {
 
 /// No two names have one place.
 pub fn no_two_names_have_one_place()
-    ensures { (s : Shape) (m n : Name) → IsIn s m → IsIn s n → place_of s m ≡ place_of s n → m ≡ n }
+    ensures { (s : Shape) (m n : WordId) → IsIn s m → IsIn s n → place_of s m ≡ place_of s n → m ≡ n }
 {}
 
 /// The words of two groups, which different threads may store, lie 8 words or more apart, and so in different lines of
 /// a cache of 64 bytes a line. A group is that of one class, object, thread or monitor, or has the words of the heap, or
 /// those of the ring.
 pub fn words_of_two_groups_lie_apart()
-    ensures { (s : Shape) (m n : Name) → IsIn s m → IsIn s n → (group m ≢ group n) ⊎ (number m ≢ number n)
+    ensures { (s : Shape) (m n : WordId) → IsIn s m → IsIn s n → (group m ≢ group n) ⊎ (number m ≢ number n)
         → (place_of s m + 8 ≤ place_of s n) ⊎ (place_of s n + 8 ≤ place_of s m) }
 {}

@@ -23,7 +23,7 @@ pub struct Shot {
 }
 
 impl Model for Shot {
-    ghost use Rattle.core_world.specs.Threads.Known as known;
+    ghost use Rattle.core_world.specs.Threads.ThreadView as known;
     ghost use Rattle.heap_table.specs.Cells.{cells_shown};
 
     ghost Value = { known.DumpShot };

@@ -26,20 +26,20 @@ fn step_as<C: Chosen>(words: &Words, setting: &Setting, seat: &mut Place, plan: 
     match plan.act {
         Act::Load => words.shared.load::<Does<C>>(seat, at),
         Act::Store { word } => words.shared.swap::<Does<C>>(seat, at, word),
-        Act::Swap { expected, word } => {
+        Act::CompareExchange { expected, word } => {
             words
                 .shared
                 .compare_exchange::<Does<C>>(seat, at, expected, word)
         }
-        Act::Raise { word } => words.shared.fetch_max::<Does<C>>(seat, at, word),
-        Act::Mask { bits } => words.shared.fetch_and::<Does<C>>(seat, at, bits),
-        Act::Count => words.shared.fetch_add::<Does<C>>(seat, at, 1),
+        Act::FetchMax { word } => words.shared.fetch_max::<Does<C>>(seat, at, word),
+        Act::FetchAnd { bits } => words.shared.fetch_and::<Does<C>>(seat, at, bits),
+        Act::FetchAdd => words.shared.fetch_add::<Does<C>>(seat, at, 1),
     }
 }
 
 /// Makes one atomic act on the word of the plan. It answers the word that it found.
 #[inline(always)]
-pub fn step(words: &Words, setting: &Setting, seat: &mut Place, plan: StepPlan) -> u64
+pub fn step_in_table(words: &Words, setting: &Setting, seat: &mut Place, plan: StepPlan) -> u64
     requires setting { (words.now.shared.key ≡ setting.now)
         × (words.now.shared.table_id.words ≡ word_count setting.now.shape) }
     requires seat { (seat.old.table_id ≡ words.now.shared.table_id) × (seat.old.me ≡ (only seat.old.me.0 ∷ [], [])) }

@@ -4,15 +4,15 @@ use Rattle.mark_word.specs.Hold.{read_hold}
 use Rattle.mark_word.specs.Mark.{read_mark}
 use Rattle.mark_word.specs.Safe.{read_safe}
 use Rattle.mark_word.specs.Wait.{read_wait}
-use Rattle.core_world.specs.declared.name.Name.TheVariants.{Safepoint}
-use Rattle.core_world.specs.declared.plan.Own.{Own}
-use Rattle.core_world.specs.declared.plan.Own.TheVariants.{Same}
+use Rattle.core_world.specs.declared.word_id.WordId.TheVariants.{Safepoint}
+use Rattle.core_world.specs.declared.plan.LocalEffect.{LocalEffect}
+use Rattle.core_world.specs.declared.plan.LocalEffect.TheVariants.{Unchanged}
 use Rattle.core_world.specs.declared.plan.StepPlan.{StepPlan}
-use Rattle.core_world.specs.declared.task.Task.TheVariants as task
+use Rattle.core_world.specs.declared.heap_call.HeapCall.TheVariants as task
 use Rattle.core_world.specs.Due.{steps_due, IsNext, IsDue}
 use Rattle.core_world.specs.Opening.{first_known}
 use Rattle.core_world.specs.Steps.{known_after, is_idle}
-use Rattle.core_world.specs.Threads.Known.{Known, local_of, start_of}
+use Rattle.core_world.specs.Threads.ThreadView.{ThreadView, local_of, start_of}
 use Rattle.core_world.specs.Threads.Stages.{Revocation}
 use Rattle.core_world.specs.Trees.BiasSteps.{bias_enter_steps}
 use Rattle.core_world.specs.Trees.Calls.{steps_of, end}
@@ -21,7 +21,7 @@ use Rattle.core_world.specs.Trees.Plans.{load, swap}
 use Rattle.core_world.proofs.CallRests.{part_due}
 use Rattle.core_law.specs.Logic.{Heap}
 use Rattle.heap_table.specs.Drafts.{IsDrafted}
-use Rattle.heap_table.specs.Kept.{HasRoom}
+use Rattle.heap_table.specs.Kept.{LogHasRoom}
 use Rattle.heap_table.specs.Seen.{HeapSeen, PassSeen}
 use Rattle.heap_table.specs.Stepping.{CanStep, HasStepped}
 use Rattle.heap_tests.specs.Recorded.{two, resuming, looked, resumed}
@@ -40,7 +40,7 @@ pub second_next : IsNext two 7 true (looked 1 1) (swap resuming Safepoint 1 3)
 unfolding steps_due is_idle steps_of read_safe
 second_next = refl
 
-pub goes : (h : HeapSeen) (k : Known) (p q : PassSeen) (plan : StepPlan) (n m : ℕ) → Knows h k p → HasStepped h p q plan n → plan.own ≡ Same → n ≡ m
+pub goes : (h : HeapSeen) (k : ThreadView) (p q : PassSeen) (plan : StepPlan) (n m : ℕ) → Knows h k p → HasStepped h p q plan n → plan.own ≡ Unchanged → n ≡ m
     → Knows h (known_after two 7 plan m k) q
 goes h k p q plan n m a s own e =
     record {
@@ -50,18 +50,19 @@ goes h k p q plan n m a s own e =
       limit = s.limit ∙ a.limit;
     }
 
-pub can : (h : HeapSeen) (k : Known) (p : PassSeen) (plan : StepPlan) → Knows h k p → IsNext two 7 true k plan → HasRoom plan.note k.log 86 → plan.own ≡ Same
+pub can : (h : HeapSeen) (k : ThreadView) (p : PassSeen) (plan : StepPlan) → Knows h k p
+    → IsNext two 7 true k plan → LogHasRoom plan.note k.log 86 → plan.own ≡ Unchanged
     → CanStep h p plan
 can h k p plan a next room own =
     record {
       heap = a.is_of;
-      next = subst (λ (x : Heap × Known). IsNext x.0.shape x.0.start x.0.biasing x.1 plan) (λ i. (sym a.heap i, sym a.known i)) next;
-      room = subst (λ (x : Known × ℕ). HasRoom plan.note x.0.log x.1) (λ i. (sym a.known i, sym a.limit i)) room;
-      drafted = subst (λ (o : Own). IsDrafted o h.heap.shape p.known p.cut p.cells) (sym own) tt;
+      next = subst (λ (x : Heap × ThreadView). IsNext x.0.shape x.0.start x.0.biasing x.1 plan) (λ i. (sym a.heap i, sym a.known i)) next;
+      room = subst (λ (x : ThreadView × ℕ). LogHasRoom plan.note x.0.log x.1) (λ i. (sym a.known i, sym a.limit i)) room;
+      drafted = subst (λ (o : LocalEffect). IsDrafted o h.heap.shape p.known p.cut p.cells) (sym own) tt;
     }
 
 -- ENTERS
-abbrev Due : Known → Type 0
+abbrev Due : ThreadView → Type 0
 Due k = IsDue two 7 true k (task.Enter 0 0) (bias_enter_steps two entering (local_of k) 0)
 
 abbrev of_first : Revocation
@@ -83,15 +84,15 @@ second_due =
     (part_due two 7 true k (task.Enter 0 0) (enter_going two entering (start_of 7 k) of_first) answer
     (record { after = end; is = inr (record { over = refl; may = refl; is = refl }) }))
 
-may_enter : (h : HeapSeen) (k : Known) (p : PassSeen) → Knows h k p → Due k → length k.log < 86 → MayEnter h p
+may_enter : (h : HeapSeen) (k : ThreadView) (p : PassSeen) → Knows h k p → Due k → length k.log < 86 → MayEnter h p
 may_enter h k p a due room =
     record {
       is_of = a.is_of;
       object = subst (λ (x : Heap). 0 < length x.shape.objects) (sym a.heap) (omega arith);
       due =
-          subst (λ (x : Heap × Known). IsDue x.0.shape x.0.start x.0.biasing x.1 (task.Enter 0 0) (bias_enter_steps x.0.shape entering (local_of x.1) 0))
+          subst (λ (x : Heap × ThreadView). IsDue x.0.shape x.0.start x.0.biasing x.1 (task.Enter 0 0) (bias_enter_steps x.0.shape entering (local_of x.1) 0))
           (λ i. (sym a.heap i, sym a.known i)) due;
-      room = subst (λ (x : Known × ℕ). length x.0.log < x.1) (λ i. (sym a.known i, sym a.limit i)) room;
+      room = subst (λ (x : ThreadView × ℕ). length x.0.log < x.1) (λ i. (sym a.known i, sym a.limit i)) room;
     }
 
 pub first_enters : (h : HeapSeen) (p : PassSeen) → Knows h (resumed 0 0 1) p → MayEnter h p

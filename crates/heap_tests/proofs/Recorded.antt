@@ -6,30 +6,30 @@ use Rattle.mark_word.specs.Safe.{read_safe}
 use Rattle.mark_word.specs.Wait.{read_wait}
 use Rattle.plain_monitor.specs.declared.entry.Path.{Path}
 use Rattle.plain_monitor.specs.declared.entry.Path.TheVariants.{StackFirst}
-use Rattle.core_world.specs.declared.answer.Turn.{Turn}
-use Rattle.core_world.specs.declared.answer.Turn.TheVariants.{Done}
-use Rattle.core_world.specs.declared.answer.Why.TheVariants as why
-use Rattle.core_world.specs.declared.name.Name.TheVariants.{Safepoint}
-use Rattle.core_world.specs.declared.plan.Own.{Own}
-use Rattle.core_world.specs.declared.plan.Own.TheVariants.{Same}
+use Rattle.core_world.specs.declared.answer.Progress.{Progress}
+use Rattle.core_world.specs.declared.answer.Progress.TheVariants.{Done}
+use Rattle.core_world.specs.declared.answer.PendingCause.TheVariants as why
+use Rattle.core_world.specs.declared.word_id.WordId.TheVariants.{Safepoint}
+use Rattle.core_world.specs.declared.plan.LocalEffect.{LocalEffect}
+use Rattle.core_world.specs.declared.plan.LocalEffect.TheVariants.{Unchanged}
 use Rattle.core_world.specs.declared.plan.StepPlan.{StepPlan}
-use Rattle.core_world.specs.declared.stage.Stage.TheVariants.{Calm}
-use Rattle.core_world.specs.declared.task.Task.TheVariants as task
+use Rattle.core_world.specs.declared.stage.Stage.TheVariants.{Settled}
+use Rattle.core_world.specs.declared.heap_call.HeapCall.TheVariants as task
 use Rattle.core_world.specs.Due.{steps_due, IsNext, Runs}
 use Rattle.core_world.specs.Opening.{first_known}
 use Rattle.core_world.specs.Steps.{known_after, is_idle}
-use Rattle.core_world.specs.Threads.Known.{Known, local_of, start_of}
+use Rattle.core_world.specs.Threads.ThreadView.{ThreadView, local_of, start_of}
 use Rattle.core_world.specs.Threads.Stages.{is_calm}
 use Rattle.core_world.specs.Trees.Calls.{steps_of, may_begin, end}
 use Rattle.core_world.specs.Trees.LockSteps.{displace_plan, seize_plan, hold_plan, log_enter_plan, hold_steps, stack_enter_steps}
-use Rattle.core_world.specs.Trees.Operations.{lone_purpose}
-use Rattle.core_world.specs.Trees.Plans.{Purpose, load, swap, done_with, pending_for}
-use Rattle.core_world.specs.Trees.Todo.{◌>>=◌}
+use Rattle.core_world.specs.Trees.Operations.{lone_context}
+use Rattle.core_world.specs.Trees.Plans.{CallContext, load, swap, done_with, pending_for}
+use Rattle.core_world.specs.Trees.StepTree.{◌>>=◌}
 use Rattle.core_world.specs.Words.Shape.{Shape}
 use Rattle.core_law.specs.Logic.{Heap}
 use Rattle.heap_table.specs.Drafts.{IsDrafted}
-use Rattle.heap_table.specs.Kept.{HasRoom}
-use Rattle.heap_table.specs.Parts.{IsDueOn, HasRun}
+use Rattle.heap_table.specs.Kept.{LogHasRoom}
+use Rattle.heap_table.specs.Parts.{IsDueOn, HasMadeSteps}
 use Rattle.heap_table.specs.Seen.{HeapSeen, PassSeen}
 use Rattle.heap_table.specs.Stepping.{CanStep, HasStepped}
 use Rattle.heap_tests.specs.Recorded.{two, resuming, looked, resumed, Knows, MayEnter}
@@ -47,7 +47,8 @@ pub second_next : IsNext two 7 false (looked 1 1) (swap resuming Safepoint 1 3)
 unfolding steps_due is_idle steps_of read_safe
 second_next = refl
 
-pub goes : (h : HeapSeen) (k : Known) (p q : PassSeen) (plan : StepPlan) (n m : ℕ) → Knows h k p → HasStepped h p q plan n → plan.own ≡ Same → n ≡ m → Knows h (known_after two 7 plan m k) q
+pub goes : (h : HeapSeen) (k : ThreadView) (p q : PassSeen) (plan : StepPlan) (n m : ℕ) → Knows h k p
+    → HasStepped h p q plan n → plan.own ≡ Unchanged → n ≡ m → Knows h (known_after two 7 plan m k) q
 goes h k p q plan n m a s own e =
     record {
       is_of = s.heap;
@@ -56,27 +57,30 @@ goes h k p q plan n m a s own e =
       limit = s.limit ∙ a.limit;
     }
 
-pub can : (h : HeapSeen) (k : Known) (p : PassSeen) (plan : StepPlan) → Knows h k p → IsNext two 7 false k plan → HasRoom plan.note k.log 86 → plan.own ≡ Same → CanStep h p plan
+pub can : (h : HeapSeen) (k : ThreadView) (p : PassSeen) (plan : StepPlan) → Knows h k p
+    → IsNext two 7 false k plan → LogHasRoom plan.note k.log 86 → plan.own ≡ Unchanged → CanStep h p plan
 can h k p plan a next room own =
     record {
       heap = a.is_of;
-      next = subst (λ (x : Heap × Known). IsNext x.0.shape x.0.start x.0.biasing x.1 plan) (λ i. (sym a.heap i, sym a.known i)) next;
-      room = subst (λ (x : Known × ℕ). HasRoom plan.note x.0.log x.1) (λ i. (sym a.known i, sym a.limit i)) room;
-      drafted = subst (λ (o : Own). IsDrafted o h.heap.shape p.known p.cut p.cells) (sym own) tt;
+      next = subst (λ (x : Heap × ThreadView). IsNext x.0.shape x.0.start x.0.biasing x.1 plan) (λ i. (sym a.heap i, sym a.known i)) next;
+      room = subst (λ (x : ThreadView × ℕ). LogHasRoom plan.note x.0.log x.1) (λ i. (sym a.known i, sym a.limit i)) room;
+      drafted = subst (λ (o : LocalEffect). IsDrafted o h.heap.shape p.known p.cut p.cells) (sym own) tt;
     }
 
 -- ENTERS. What such a thread may begin is due.
-abbrev pub entering : ℕ → Purpose
-entering mark = lone_purpose (task.StackEnter 0 mark)
+abbrev pub entering : ℕ → CallContext
+entering mark = lone_context (task.StackEnter 0 mark)
 
-abbrev pub May : Known → ℕ → Type 0
+abbrev pub May : ThreadView → ℕ → Type 0
 May k mark = (is_idle two k ≡ true) × ((is_calm k.stage && may_begin two false k (task.StackEnter 0 mark)) ≡ true) × (length k.log < 86)
 
-steps_are : (s : Shape) (start : ℕ) (k : Known) (mark : ℕ) → steps_of s (task.StackEnter 0 mark) (start_of start k) ≡ (stack_enter_steps (entering mark) (local_of k) 0 mark >>= end)
+steps_are : (s : Shape) (start : ℕ) (k : ThreadView) (mark : ℕ)
+    → steps_of s (task.StackEnter 0 mark) (start_of start k) ≡ (stack_enter_steps (entering mark) (local_of k) 0 mark >>= end)
 unfolding steps_of
 steps_are s start k mark = refl
 
-pub due : (h : HeapSeen) (p : PassSeen) (mark : ℕ) → MayEnter h p mark → IsDueOn h p (task.StackEnter 0 mark) (stack_enter_steps (entering mark) (local_of p.known) 0 mark)
+pub due : (h : HeapSeen) (p : PassSeen) (mark : ℕ) → MayEnter h p mark
+    → IsDueOn h p (task.StackEnter 0 mark) (stack_enter_steps (entering mark) (local_of p.known) 0 mark)
 due h p mark a =
     record {
       after = end;
@@ -95,9 +99,9 @@ second_may : May (resumed 1 1 3) 1
 unfolding is_idle steps_of read_safe read_mark read_hold
 second_may = (refl, refl, omega arith)
 
-may_enter : (h : HeapSeen) (k : Known) (p : PassSeen) (mark : ℕ) → Knows h k p → May k mark → MayEnter h p mark
+may_enter : (h : HeapSeen) (k : ThreadView) (p : PassSeen) (mark : ℕ) → Knows h k p → May k mark → MayEnter h p mark
 may_enter h k p mark a may =
-    let there = subst (λ (x : Known). May x mark) (sym a.known) may in
+    let there = subst (λ (x : ThreadView). May x mark) (sym a.known) may in
     record { is_of = a.is_of; heap = a.heap; over = there.0; may = there.1; room = subst (λ n. length p.known.log < n) (sym a.limit) there.2 }
 
 pub first_enters : (h : HeapSeen) (p : PassSeen) → Knows h (resumed 0 0 1) p → MayEnter h p 1
@@ -107,31 +111,36 @@ pub second_enters : (h : HeapSeen) (p : PassSeen) → Knows h (resumed 1 1 3) p 
 second_enters h p a = may_enter h (resumed 1 1 3) p 1 a second_may
 
 -- and then the first thread may enter once more
-abbrev seized : ℕ → ℕ → Known
-seized a b = known_after two 7 (seize_plan (entering 1) 0 0 1 0) b (known_after two 7 (displace_plan (entering 1) Calm 0 0 1) a (resumed 0 0 1))
+abbrev seized : ℕ → ℕ → ThreadView
+seized a b = known_after two 7 (seize_plan (entering 1) 0 0 1 0) b (known_after two 7 (displace_plan (entering 1) Settled 0 0 1) a (resumed 0 0 1))
 
-abbrev held : ℕ → ℕ → ℕ → Known
+abbrev held : ℕ → ℕ → ℕ → ThreadView
 held a c d = known_after two 7 (log_enter_plan (entering 1) 0 StackFirst) d (known_after two 7 (hold_plan (entering 1) 0 0 1 0 StackFirst) c (seized a 1))
 
 again_may : (a c d : ℕ) → May (held a c d) 4096
 unfolding is_idle steps_of read_safe read_mark read_hold read_wait
 again_may a c d = (refl, refl, omega arith)
 
-first_ran : (l : Known) (path : Path) → Runs two 7 (stack_enter_steps (entering 1) (local_of (resumed 0 0 1)) 0 1) (resumed 0 0 1) l (Done path) → May l 4096
+first_ran : (l : ThreadView) (path : Path)
+    → Runs two 7 (stack_enter_steps (entering 1) (local_of (resumed 0 0 1)) 0 1) (resumed 0 0 1) l (Done path) → May l 4096
 unfolding read_safe read_mark read_hold read_wait
 first_ran l path (a, (b, rest)) = by (b == 1) refl rest
   where
     by : (t : Bool) → (b == 1) ≡ t
-        → Runs two 7 (if t then (hold_steps (entering 1) (local_of (resumed 0 0 1)) 0 StackFirst >>= done_with) else pending_for (why.Raced 1 b)) (seized a b) l (Done path) → May l 4096
+        → Runs two 7 (if t then (hold_steps (entering 1) (local_of (resumed 0 0 1)) 0 StackFirst >>= done_with) else pending_for (why.Raced 1 b))
+        (seized a b) l (Done path) → May l 4096
     by false e run = let no = run.1 in absurd (cc no)
     by true e (c, (d, run)) =
         let one : b ≡ 1 = eqb-true b 1 e in
-        let is : l ≡ held a c d = run.0 ∙ λ i. known_after two 7 (log_enter_plan (entering 1) 0 StackFirst) d (known_after two 7 (hold_plan (entering 1) 0 0 1 0 StackFirst) c (seized a (one i))) in
-        subst (λ (x : Known). May x 4096) (sym is) (again_may a c d)
+        let is : l ≡ held a c d = run.0 ∙ λ i. known_after two 7 (log_enter_plan (entering 1) 0 StackFirst) d
+        (known_after two 7 (hold_plan (entering 1) 0 0 1 0 StackFirst) c (seized a (one i))) in
+        subst (λ (x : ThreadView). May x 4096) (sym is) (again_may a c d)
 
-pub first_again : (h : HeapSeen) (p q : PassSeen) (r : Turn Path) → Knows h (resumed 0 0 1) p → HasRun h (stack_enter_steps (entering 1) (local_of p.known) 0 1) p q r
+pub first_again : (h : HeapSeen) (p q : PassSeen) (r : Progress Path) → Knows h (resumed 0 0 1) p
+    → HasMadeSteps h (stack_enter_steps (entering 1) (local_of p.known) 0 1) p q r
     → (path : Path) → r ≡ Done path → MayEnter h q 4096
 first_again h p q r a run path e =
-    let ran = subst (λ (x : Heap × Known × Turn Path). Runs x.0.shape x.0.start (stack_enter_steps (entering 1) (local_of x.1) 0 1) x.1 q.known x.2) (λ i. (a.heap i, a.known i, e i)) run.ran.by in
+    let ran = subst (λ (x : Heap × ThreadView × Progress Path). Runs x.0.shape x.0.start
+    (stack_enter_steps (entering 1) (local_of x.1) 0 1) x.1 q.known x.2) (λ i. (a.heap i, a.known i, e i)) run.ran.by in
     let may = first_ran q.known path ran in
     record { is_of = run.heap; heap = a.heap; over = may.0; may = may.1; room = subst (λ n. length q.known.log < n) (sym (run.limit ∙ a.limit)) may.2 }

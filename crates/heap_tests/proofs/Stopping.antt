@@ -1,16 +1,16 @@
 -- What whole calls of the safepoint's parts ask and leave.
 use Rattle.std.proofs.Common.{◌≡◌, ℕ, ◌==◌, ◌&&◌, cond, Bool, true, false, refl}
-use Rattle.core_world.specs.declared.stage.Stage.TheVariants.{Calm}
+use Rattle.core_world.specs.declared.stage.Stage.TheVariants.{Settled}
 use Rattle.core_world.specs.Trees.Calls.{end}
-use Rattle.core_world.specs.Trees.Plans.{Purpose}
+use Rattle.core_world.specs.Trees.Plans.{CallContext}
 use Rattle.core_world.specs.Trees.SafepointSteps.{reached_word, release_plan, release_safepoint}
-use Rattle.core_world.specs.Trees.Todo.{Todo, done, never, step, ◌>>=◌}
+use Rattle.core_world.specs.Trees.StepTree.{StepTree, done, unreachable, step, ◌>>=◌}
 
--- nothing is left behind a release
-pub release_ends : (e : Purpose) (t : ℕ) → release_safepoint e t ≡ (release_safepoint e t >>= end)
-release_ends e t = λ i. step (release_plan (record e { check = false }) Calm t) (λ n. same (n == reached_word t) i)
+-- nothing is left after a release
+pub release_ends : (e : CallContext) (t : ℕ) → release_safepoint e t ≡ (release_safepoint e t >>= end)
+release_ends e t = λ i. step (release_plan (record e { check = false }) Settled t) (λ n. same (n == reached_word t) i)
   where
-    same : (b : Bool) → cond {A = Todo (Unit {0})} b (done (tt {0})) never ≡ (cond {A = Todo (Unit {0})} b (done (tt {0})) never >>= end)
+    same : (b : Bool) → cond {A = StepTree (Unit {0})} b (done (tt {0})) unreachable ≡ (cond {A = StepTree (Unit {0})} b (done (tt {0})) unreachable >>= end)
     same true = refl
     same false = refl
 

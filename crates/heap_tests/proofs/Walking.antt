@@ -5,91 +5,94 @@ use Rattle.mark_word.specs.Mark.{read_mark}
 use Rattle.mark_word.specs.Hold.{read_hold}
 use Rattle.mark_word.specs.Wait.{read_wait}
 use Rattle.plain_monitor.specs.declared.entry.Path.TheVariants.{StackFirst}
-use Rattle.core_world.specs.declared.name.Name.TheVariants.{Safepoint, Mark, Displaced}
-use Rattle.core_world.specs.declared.stage.Stage.TheVariants.{Calm}
+use Rattle.core_world.specs.declared.word_id.WordId.TheVariants.{Safepoint, Mark, Displaced}
+use Rattle.core_world.specs.declared.stage.Stage.TheVariants.{Settled}
 use Rattle.core_world.specs.Due.{steps_due, IsNext}
 use Rattle.core_world.specs.Steps.{is_idle}
 use Rattle.core_world.specs.Trees.Calls.{steps_of}
 use Rattle.core_world.specs.Trees.LockSteps.{displace_plan, seize_plan, hold_plan, log_enter_plan, raise_stamp_plan, let_go_plan, clear_plan}
 use Rattle.core_world.specs.Trees.SafepointSteps.{publish_log_plan, stop_plan}
 use Rattle.core_world.specs.Trees.Plans.{load, swap}
-use Rattle.core_world.specs.declared.plan.Own.{Own}
-use Rattle.core_world.specs.declared.plan.Own.TheVariants.{Same}
+use Rattle.core_world.specs.declared.plan.LocalEffect.{LocalEffect}
+use Rattle.core_world.specs.declared.plan.LocalEffect.TheVariants.{Unchanged}
 use Rattle.core_world.specs.declared.plan.StepPlan.{StepPlan}
 use Rattle.core_world.specs.Steps.{known_after}
-use Rattle.core_world.specs.Threads.Known.{Known}
+use Rattle.core_world.specs.Threads.ThreadView.{ThreadView}
 use Rattle.core_law.specs.Logic.{Heap}
 use Rattle.heap_table.specs.Drafts.{IsDrafted}
-use Rattle.heap_table.specs.Kept.{HasRoom}
+use Rattle.heap_table.specs.Kept.{LogHasRoom}
 use Rattle.heap_table.specs.Seen.{HeapSeen, PassSeen}
 use Rattle.heap_table.specs.Stepping.{CanStep, HasStepped}
-use Rattle.heap_tests.specs.Walk.{two, behind, resuming, resumed, entering, entered, leaving, read, left, stopping, stopped, IsAt}
-use Rattle.heap_table.specs.Fresh.{IsStill}
+use Rattle.heap_tests.specs.Walk.{two, after, resuming, resumed, entering, entered, leaving, read, left, stopping, stopped, IsAt}
+use Rattle.heap_table.specs.Fresh.{IsStoppedPass}
 
-pub resume_one : IsNext two 7 false (behind []) (load resuming Safepoint)
+pub resume_one : IsNext two 7 false (after []) (load resuming Safepoint)
 unfolding steps_due is_idle steps_of
 resume_one = refl
 
-pub resume_two : IsNext two 7 false (behind ((load resuming Safepoint, 0) ∷ [])) (swap resuming Safepoint 0 1)
+pub resume_two : IsNext two 7 false (after ((load resuming Safepoint, 0) ∷ [])) (swap resuming Safepoint 0 1)
 unfolding steps_due is_idle steps_of read_safe
 resume_two = refl
 
-pub enter_one : IsNext two 7 false (behind resumed) (displace_plan entering Calm 0 0 1)
+pub enter_one : IsNext two 7 false (after resumed) (displace_plan entering Settled 0 0 1)
 unfolding steps_due is_idle steps_of read_safe read_mark
 enter_one = refl
 
-pub enter_two : IsNext two 7 false (behind ((displace_plan entering Calm 0 0 1, 0) ∷ resumed)) (seize_plan entering 0 1 1 0)
+pub enter_two : IsNext two 7 false (after ((displace_plan entering Settled 0 0 1, 0) ∷ resumed)) (seize_plan entering 0 1 1 0)
 unfolding steps_due is_idle steps_of read_safe read_mark
 enter_two = refl
 
-pub enter_three : IsNext two 7 false (behind ((seize_plan entering 0 1 1 0, 1) ∷ (displace_plan entering Calm 0 0 1, 0) ∷ resumed)) (hold_plan entering 0 1 1 0 StackFirst)
+pub enter_three : IsNext two 7 false (after ((seize_plan entering 0 1 1 0, 1) ∷ (displace_plan entering Settled 0 0 1, 0) ∷ resumed))
+    (hold_plan entering 0 1 1 0 StackFirst)
 unfolding steps_due is_idle steps_of read_safe read_mark read_hold
 enter_three = refl
 
-pub enter_four : IsNext two 7 false (behind ((hold_plan entering 0 1 1 0 StackFirst, 0) ∷ (seize_plan entering 0 1 1 0, 1) ∷ (displace_plan entering Calm 0 0 1, 0) ∷ resumed)) (log_enter_plan entering 1 StackFirst)
+pub enter_four : IsNext two 7 false (after ((hold_plan entering 0 1 1 0 StackFirst, 0) ∷ (seize_plan entering 0 1 1 0, 1)
+    ∷ (displace_plan entering Settled 0 0 1, 0) ∷ resumed)) (log_enter_plan entering 1 StackFirst)
 unfolding steps_due is_idle steps_of read_safe read_mark read_hold read_wait
 enter_four = refl
 
-pub leave_one : IsNext two 7 false (behind entered) (raise_stamp_plan leaving 1 2)
+pub leave_one : IsNext two 7 false (after entered) (raise_stamp_plan leaving 1 2)
 unfolding steps_due is_idle steps_of read_safe read_mark read_hold read_wait
 leave_one = refl
 
-pub leave_two : IsNext two 7 false (behind ((raise_stamp_plan leaving 1 2, 0) ∷ entered)) (load leaving (Displaced 0 0))
+pub leave_two : IsNext two 7 false (after ((raise_stamp_plan leaving 1 2, 0) ∷ entered)) (load leaving (Displaced 0 0))
 unfolding steps_due is_idle steps_of read_safe read_mark read_hold read_wait
 leave_two = refl
 
-pub leave_three : IsNext two 7 false (behind ((load leaving (Displaced 0 0), 1) ∷ (raise_stamp_plan leaving 1 2, 0) ∷ entered)) (load leaving (Mark 1))
+pub leave_three : IsNext two 7 false (after ((load leaving (Displaced 0 0), 1) ∷ (raise_stamp_plan leaving 1 2, 0) ∷ entered)) (load leaving (Mark 1))
 unfolding steps_due is_idle steps_of read_safe read_mark read_hold read_wait
 leave_three = refl
 
-pub leave_four : IsNext two 7 false (behind read) (let_go_plan leaving 1 4096 1 0)
+pub leave_four : IsNext two 7 false (after read) (let_go_plan leaving 1 4096 1 0)
 unfolding steps_due is_idle steps_of read_safe read_mark read_hold read_wait
 leave_four = refl
 
-pub leave_five : IsNext two 7 false (behind ((let_go_plan leaving 1 4096 1 0, 4096) ∷ read)) (clear_plan (record leaving { unfinished = None }) 0 0)
+pub leave_five : IsNext two 7 false (after ((let_go_plan leaving 1 4096 1 0, 4096) ∷ read)) (clear_plan (record leaving { unfinished = None }) 0 0)
 unfolding steps_due is_idle steps_of read_safe read_mark read_hold read_wait
 leave_five = refl
 
-pub stop_one : IsNext two 7 false (behind left) (publish_log_plan stopping 0 2)
+pub stop_one : IsNext two 7 false (after left) (publish_log_plan stopping 0 2)
 unfolding steps_due is_idle steps_of read_safe read_mark read_hold read_wait
 stop_one = refl
 
-pub stop_two : IsNext two 7 false (behind ((publish_log_plan stopping 0 2, 0) ∷ left)) (stop_plan stopping 0)
+pub stop_two : IsNext two 7 false (after ((publish_log_plan stopping 0 2, 0) ∷ left)) (stop_plan stopping 0)
 unfolding steps_due is_idle steps_of read_safe read_mark read_hold read_wait
 stop_two = refl
 
-pub is_still : (h : HeapSeen) (p : PassSeen) → IsAt h stopped p → IsStill h 0 p
+pub is_still : (h : HeapSeen) (p : PassSeen) → IsAt h stopped p → IsStoppedPass h 0 p
 unfolding steps_due is_idle steps_of read_safe read_mark read_hold read_wait
 is_still h p a =
     record {
       is_of = a.is_of;
-      thread = ap (λ (k : Known). k.thread) a.known;
-      stopped = ap (λ (k : Known). k.running) a.known;
-      quiet = ap (λ (k : Known). k.requesting) a.known;
+      thread = ap (λ (k : ThreadView). k.thread) a.known;
+      stopped = ap (λ (k : ThreadView). k.running) a.known;
+      quiet = ap (λ (k : ThreadView). k.requesting) a.known;
     }
 
--- the pass is behind one step more
-pub goes : (h : HeapSeen) (p q : PassSeen) (steps : List (StepPlan × ℕ)) (plan : StepPlan) (n m : ℕ) → IsAt h steps p → HasStepped h p q plan n → n ≡ m → IsAt h ((plan, m) ∷ steps) q
+-- the pass after one step more
+pub goes : (h : HeapSeen) (p q : PassSeen) (steps : List (StepPlan × ℕ)) (plan : StepPlan) (n m : ℕ)
+    → IsAt h steps p → HasStepped h p q plan n → n ≡ m → IsAt h ((plan, m) ∷ steps) q
 goes h p q steps plan n m a s e =
     record {
       is_of = s.heap;
@@ -99,12 +102,12 @@ goes h p q steps plan n m a s e =
     }
 
 -- it can make the step that is the next one, which takes no shot
-pub can : (h : HeapSeen) (p : PassSeen) (steps : List (StepPlan × ℕ)) (plan : StepPlan) → IsAt h steps p → IsNext two 7 false (behind steps) plan
-    → HasRoom plan.note (behind steps).log 86 → plan.own ≡ Same → CanStep h p plan
+pub can : (h : HeapSeen) (p : PassSeen) (steps : List (StepPlan × ℕ)) (plan : StepPlan) → IsAt h steps p → IsNext two 7 false (after steps) plan
+    → LogHasRoom plan.note (after steps).log 86 → plan.own ≡ Unchanged → CanStep h p plan
 can h p steps plan a next room own =
     record {
       heap = a.is_of;
-      next = subst (λ (x : Heap × Known). IsNext x.0.shape x.0.start x.0.biasing x.1 plan) (λ i. (sym a.heap i, sym a.known i)) next;
-      room = subst (λ (x : Known × ℕ). HasRoom plan.note x.0.log x.1) (λ i. (sym a.known i, sym a.limit i)) room;
-      drafted = subst (λ (o : Own). IsDrafted o h.heap.shape p.known p.cut p.cells) (sym own) tt;
+      next = subst (λ (x : Heap × ThreadView). IsNext x.0.shape x.0.start x.0.biasing x.1 plan) (λ i. (sym a.heap i, sym a.known i)) next;
+      room = subst (λ (x : ThreadView × ℕ). LogHasRoom plan.note x.0.log x.1) (λ i. (sym a.known i, sym a.limit i)) room;
+      drafted = subst (λ (o : LocalEffect). IsDrafted o h.heap.shape p.known p.cut p.cells) (sym own) tt;
     }

@@ -4,13 +4,13 @@ use core_world::{Act, apply};
 use std::test::Fail;
 
 #[test]
-fn acts(rt: HostRuntime) -> Result<(), Fail> {
+fn each_act_makes_its_word_and_tells_whether_it_hit(rt: HostRuntime) -> Result<(), Fail> {
     for (old, act, word, hit) in [
         (9, Act::Load, 9, true),
         (9, Act::Store { word: 4 }, 4, true),
         (
             5,
-            Act::Swap {
+            Act::CompareExchange {
                 expected: 5,
                 word: 1029,
             },
@@ -19,18 +19,18 @@ fn acts(rt: HostRuntime) -> Result<(), Fail> {
         ),
         (
             5,
-            Act::Swap {
+            Act::CompareExchange {
                 expected: 1,
                 word: 1029,
             },
             5,
             false,
         ),
-        (7, Act::Raise { word: 4 }, 7, true),
-        (4, Act::Raise { word: 7 }, 7, true),
-        (3, Act::Mask { bits: 2 }, 2, true),
-        (1, Act::Count, 2, true),
-        (u64::MAX, Act::Count, 0, true),
+        (7, Act::FetchMax { word: 4 }, 7, true),
+        (4, Act::FetchMax { word: 7 }, 7, true),
+        (3, Act::FetchAnd { bits: 2 }, 2, true),
+        (1, Act::FetchAdd, 2, true),
+        (u64::MAX, Act::FetchAdd, 0, true),
     ] {
         let effect = apply(old, &act);
         assert_eq!(rt; effect.word, word, "from {old}");

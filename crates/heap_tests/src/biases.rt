@@ -1,6 +1,6 @@
 //! Two threads that enter one object under a bias.
 ghost use Rattle.std.specs.Prelude.{◌≡◌, IfOk, true};
-ghost use Rattle.core_world.specs.declared.name.Name.TheVariants.{Safepoint};
+ghost use Rattle.core_world.specs.declared.word_id.WordId.TheVariants.{Safepoint};
 ghost use Rattle.core_world.specs.Due.{IsNext};
 ghost use Rattle.core_world.specs.Opening.{first_known};
 ghost use Rattle.core_world.specs.Trees.Plans.{swap};
@@ -9,8 +9,8 @@ ghost use Rattle.heap_tests.specs.Biased.{Knows, MayEnter};
 
 use crate::compare::{holds, same};
 use bias_lock::bias_enter;
-use core_world::{BiasTry, Name, Op, Stage, Task, Unfinished};
-use heap_table::{Heap, HeapShape, Pass, Purpose};
+use core_world::{BiasTry, HeapCall, Operation, Stage, Unfinished, WordId};
+use heap_table::{CallContext, Heap, HeapShape, Pass};
 use lawful_heap::new_heap;
 use plain_monitor::{NoMemory, Path};
 use std::alloc::Global;
@@ -38,16 +38,16 @@ fn resume(heap: &Heap, pass: &mut Pass, thread: u32, from: u64, to: u64) -> bool
     requires next { IsNext two 7 true (looked thread from) (swap resuming Safepoint from to) }
     ensures { result ≡ true → Knows heap.now (resumed thread from to) pass.new }
 {
-    let why = Purpose {
-        task: Task::Resume,
+    let call = CallContext {
+        task: HeapCall::Resume,
         unfinished: None,
         check: false,
     };
-    let found = heap.look(pass, &why).0;
+    let found = heap.look(pass, &call).0;
     if found != from {
         return false;
     }
-    let left = heap.exchange(pass, &why, Stage::Calm, Name::Safepoint, from, to);
+    let left = heap.exchange(pass, &call, Stage::Settled, WordId::Safepoint, from, to);
     if left != from {
         return false;
     }
@@ -58,15 +58,15 @@ fn resume(heap: &Heap, pass: &mut Pass, thread: u32, from: u64, to: u64) -> bool
 fn enter(heap: &Heap, pass: &mut Pass) -> BiasTry
     requires { MayEnter heap.now pass.old }
 {
-    let why = Purpose {
-        task: Task::Enter { object: 0, now: 0 },
+    let call = CallContext {
+        task: HeapCall::Enter { object: 0, now: 0 },
         unfinished: Some(Unfinished {
-            op: Op::Enter,
+            op: Operation::Enter,
             object: 0,
         }),
         check: false,
     };
-    bias_enter(heap, pass, &why, 0)
+    bias_enter(heap, pass, &call, 0)
 }
 
 // The first thread enters it.

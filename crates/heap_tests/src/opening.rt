@@ -1,6 +1,6 @@
 //! A heap as it begins: the marks and class words of its objects, and the ring of monitors.
 ghost use Rattle.std.specs.Prelude.{◌≡◌, ◌≤◌, [], ◌∷◌, IfOk};
-ghost use Rattle.heap_table.specs.Fresh.{IsStill};
+ghost use Rattle.heap_table.specs.Fresh.{IsStoppedPass};
 ghost use Rattle.heap_table.specs.Layout.{shape_of};
 
 use crate::compare::same;
@@ -13,7 +13,7 @@ use std::test::Fail;
 // A heap of two threads and three objects of a class with one slot, of which so many are declared, and the passes.
 fn begin(alloc: Global, declared: u32, biasing: bool) -> Result<(Heap, Pass, Pass), NoMemory>
     requires { declared ≤ 3 }
-    ensures { IfOk result (λ r. IsStill r.0 0 r.1 × IsStill r.0 1 r.2
+    ensures { IfOk result (λ r. IsStoppedPass r.0 0 r.1 × IsStoppedPass r.0 1 r.2
         × (r.0.heap.shape ≡ shape_of 2 (1 ∷ []) (0 ∷ 0 ∷ 0 ∷ []) declared)) }
 {
     let shape = HeapShape::of(alloc, 2, &[1], &[0, 0, 0], declared)?;
@@ -36,7 +36,7 @@ fn end(
     first: Pass,
     second: Pass,
 ) -> Result<Closed, NoMemory>
-    requires passes { IsStill heap 0 first × IsStill heap 1 second }
+    requires passes { IsStoppedPass heap 0 first × IsStoppedPass heap 1 second }
     requires shape { heap.heap.shape ≡ shape_of 2 (1 ∷ []) (0 ∷ 0 ∷ 0 ∷ []) declared }
     ensures { IfOk result (λ closed. closed.heap.shape ≡ shape_of 2 (1 ∷ []) (0 ∷ 0 ∷ 0 ∷ []) declared) }
 {
@@ -86,7 +86,7 @@ fn each_monitor_stands_in_the_ring_at_first(rt: HostRuntime) -> Result<(), Fail>
 #[test]
 fn objects_that_are_not_made_yet_have_no_bias_and_no_class(rt: HostRuntime) -> Result<(), Fail> {
     // With biases a declared object's mark is biased to nobody, at epoch 0: the bias pattern 101, and so the word 5. Object 2
-    // isn't there yet: its mark is the neutral one, 1, and its class word is 0, behind its mark and its stamp.
+    // isn't there yet: its mark is the neutral one, 1, and its class word is 0, after its mark and its stamp.
     let (heap, first, second) = begin(rt.alloc(), 2, true)?;
     let closed = end(rt.alloc(), 2, heap, first, second)?;
     let shape = closed.shape();

@@ -3,11 +3,11 @@
 ghost use Rattle.std.specs.Prelude.{◌≡◌, ◌^◌, ◌<◌, [], ◌∷◌, IfOk, false, None};
 ghost use Rattle.heap_table.specs.Seen.{IsOf};
 ghost use Rattle.heap_table.specs.Layout.{shape_of};
-ghost use Rattle.heap_table.specs.Fresh.{IsFresh, IsStill};
+ghost use Rattle.heap_table.specs.Fresh.{IsFresh, IsStoppedPass};
 
 use crate::compare::{holds, same};
-use core_world::{Name, Stage, Task};
-use heap_table::{Closed, Heap, HeapShape, Pass, Purpose, close};
+use core_world::{HeapCall, Stage, WordId};
+use heap_table::{CallContext, Closed, Heap, HeapShape, Pass, close};
 use lawful_heap::new_heap;
 use plain_monitor::{List, NoMemory};
 use std::alloc::Global;
@@ -41,14 +41,14 @@ fn places(heap: &Heap) -> (usize, usize)
 // Loads the safepoint word, in a call of a resume.
 fn look(heap: &Heap, pass: &mut Pass) -> u64
     requires { IsFresh heap.now pass.old.known.thread pass.old }
-    ensures still { IsStill heap.now pass.old.known.thread pass.new }
+    ensures still { IsStoppedPass heap.now pass.old.known.thread pass.new }
 {
-    let why = Purpose {
-        task: Task::Resume,
+    let call = CallContext {
+        task: HeapCall::Resume,
         unfinished: None,
         check: false,
     };
-    heap.look(pass, &why).0
+    heap.look(pass, &call).0
 }
 
 // The safepoint word in which this thread alone runs.
@@ -64,15 +64,15 @@ fn try_first(heap: &Heap, pass: &mut Pass)
     requires { IsFresh heap.now pass.old.known.thread pass.old }
     ensures { IsOf heap.now pass.new }
 {
-    let why = Purpose {
-        task: Task::Resume,
+    let call = CallContext {
+        task: HeapCall::Resume,
         unfinished: None,
         check: false,
     };
-    let found = heap.look(pass, &why).0;
+    let found = heap.look(pass, &call).0;
     if found == 0 {
         let word = bit(pass.thread());
-        heap.exchange(pass, &why, Stage::Calm, Name::Safepoint, 0, word);
+        heap.exchange(pass, &call, Stage::Settled, WordId::Safepoint, 0, word);
     }
 }
 
@@ -103,13 +103,13 @@ fn race<R: Threads>(rt: &R, heap: &Heap, first: Pass, second: Pass) -> (Pass, Pa
 
 fn look_both<R: Threads>(rt: &R, heap: &Heap, first: Pass, second: Pass) -> (Pass, Pass)
     requires { IsFresh heap.now 0 first × IsFresh heap.now 1 second }
-    ensures { IsStill heap.now 0 result.0 × IsStill heap.now 1 result.1 }
+    ensures { IsStoppedPass heap.now 0 result.0 × IsStoppedPass heap.now 1 result.1 }
 {
     join(
         rt,
         move || -> Pass
             requires { IsFresh heap.now 0 first }
-            ensures { IsStill heap.entry.now 0 result }
+            ensures { IsStoppedPass heap.entry.now 0 result }
         {
             let mut pass = first;
             look(heap, &mut pass);
@@ -117,7 +117,7 @@ fn look_both<R: Threads>(rt: &R, heap: &Heap, first: Pass, second: Pass) -> (Pas
         },
         move || -> Pass
             requires { IsFresh heap.now 1 second }
-            ensures { IsStill heap.entry.now 1 result }
+            ensures { IsStoppedPass heap.entry.now 1 result }
         {
             let mut pass = second;
             look(heap, &mut pass);
@@ -128,7 +128,7 @@ fn look_both<R: Threads>(rt: &R, heap: &Heap, first: Pass, second: Pass) -> (Pas
 
 // The end of a heap of two threads that are stopped.
 fn end(alloc: Global, heap: Heap, first: Pass, second: Pass) -> Result<Closed, NoMemory>
-    requires passes { IsStill heap 0 first × IsStill heap 1 second }
+    requires passes { IsStoppedPass heap 0 first × IsStoppedPass heap 1 second }
     requires shape { heap.heap.shape ≡ shape_of 2 (1 ∷ []) (0 ∷ 0 ∷ []) 2 }
 {
     let Ok(mut passes) = Vec::with_capacity(alloc, 2) else {

@@ -1,21 +1,21 @@
 //! Two threads that take one object by lock records.
 ghost use Rattle.std.specs.Prelude.{◌≡◌, ◌<◌, false, IfOk, true};
 ghost use Rattle.plain_monitor.specs.declared.entry.Path.{Path as PathOf};
-ghost use Rattle.core_world.specs.declared.answer.Turn.TheVariants.{Done};
-ghost use Rattle.core_world.specs.declared.name.Name.TheVariants.{Safepoint};
-ghost use Rattle.core_world.specs.declared.task.Task.TheVariants as task;
+ghost use Rattle.core_world.specs.declared.answer.Progress.TheVariants.{Done};
+ghost use Rattle.core_world.specs.declared.word_id.WordId.TheVariants.{Safepoint};
+ghost use Rattle.core_world.specs.declared.heap_call.HeapCall.TheVariants as task;
 ghost use Rattle.core_world.specs.Due.{IsNext};
 ghost use Rattle.core_world.specs.Opening.{first_known};
-ghost use Rattle.core_world.specs.Threads.Known.{local_of};
+ghost use Rattle.core_world.specs.Threads.ThreadView.{local_of};
 ghost use Rattle.core_world.specs.Trees.LockSteps.{stack_enter_steps};
-ghost use Rattle.core_world.specs.Trees.Operations.{lone_purpose};
+ghost use Rattle.core_world.specs.Trees.Operations.{lone_context};
 ghost use Rattle.core_world.specs.Trees.Plans.{swap};
-ghost use Rattle.heap_table.specs.Parts.{HasRun};
+ghost use Rattle.heap_table.specs.Parts.{HasMadeSteps};
 ghost use Rattle.heap_tests.specs.Recorded.{two, resuming, looked, resumed, Knows, MayEnter};
 
 use crate::compare::{holds, same};
-use core_world::{Name, Stage, Task, Turn, Why};
-use heap_table::{Heap, HeapShape, Pass, Purpose};
+use core_world::{HeapCall, PendingCause, Progress, Stage, WordId};
+use heap_table::{CallContext, Heap, HeapShape, Pass};
 use lawful_heap::new_heap;
 use plain_monitor::{NoMemory, Path};
 use stack_lock::stack_enter;
@@ -44,16 +44,16 @@ fn resume(heap: &Heap, pass: &mut Pass, thread: u32, from: u64, to: u64) -> bool
     requires next { IsNext two 7 false (looked thread from) (swap resuming Safepoint from to) }
     ensures { result ≡ true → Knows heap.now (resumed thread from to) pass.new }
 {
-    let why = Purpose {
-        task: Task::Resume,
+    let call = CallContext {
+        task: HeapCall::Resume,
         unfinished: None,
         check: false,
     };
-    let found = heap.look(pass, &why).0;
+    let found = heap.look(pass, &call).0;
     if found != from {
         return false;
     }
-    let left = heap.exchange(pass, &why, Stage::Calm, Name::Safepoint, from, to);
+    let left = heap.exchange(pass, &call, Stage::Settled, WordId::Safepoint, from, to);
     if left != from {
         return false;
     }
@@ -61,22 +61,22 @@ fn resume(heap: &Heap, pass: &mut Pass, thread: u32, from: u64, to: u64) -> bool
 }
 
 // It enters the first object by this mark.
-fn enter(heap: &Heap, pass: &mut Pass, mark: u64) -> Turn<Path>
+fn enter(heap: &Heap, pass: &mut Pass, mark: u64) -> Progress<Path>
     requires { MayEnter heap.now pass.old mark }
-    ensures { HasRun heap.now
-        (stack_enter_steps (lone_purpose (task.StackEnter 0 mark)) (local_of pass.old.known) 0 mark)
+    ensures { HasMadeSteps heap.now
+        (stack_enter_steps (lone_context (task.StackEnter 0 mark)) (local_of pass.old.known) 0 mark)
         pass.old pass.new result }
 {
-    let why = Purpose {
-        task: Task::StackEnter { object: 0, mark },
+    let call = CallContext {
+        task: HeapCall::StackEnter { object: 0, mark },
         unfinished: None,
         check: false,
     };
-    stack_enter(heap, pass, &why, 0, mark)
+    stack_enter(heap, pass, &call, 0, mark)
 }
 
 // The first thread enters it by the neutral mark, and may then enter it again.
-fn enter_first(heap: &Heap, pass: &mut Pass) -> Turn<Path>
+fn enter_first(heap: &Heap, pass: &mut Pass) -> Progress<Path>
     requires { Knows heap.now (resumed 0 0 1) pass.old }
     ensures { (path : PathOf) → result ≡ Done path → MayEnter heap.now pass.new 4096 }
 {
@@ -84,7 +84,7 @@ fn enter_first(heap: &Heap, pass: &mut Pass) -> Turn<Path>
 }
 
 // The second thread tries to enter it by the neutral mark that it had.
-fn enter_second(heap: &Heap, pass: &mut Pass) -> Turn<Path>
+fn enter_second(heap: &Heap, pass: &mut Pass) -> Progress<Path>
     requires { Knows heap.now (resumed 1 1 3) pass.old }
 {
     enter(heap, pass, 1)
@@ -97,19 +97,19 @@ fn one_thread_has_the_lock(rt: HostRuntime) -> Result<(), Fail> {
     holds(&rt, runs);
     let runs = resume(&heap, &mut second, 1, 1, 3);
     holds(&rt, runs);
-    let turn = enter_first(&heap, &mut first);
-    let Turn::Done(path) = turn else {
+    let progress = enter_first(&heap, &mut first);
+    let Progress::Done(path) = progress else {
         panic!(rt; "the mark is neutral")
     };
     same(&rt, path, Path::StackFirst);
-    let turn = enter_second(&heap, &mut second);
-    let raced = Why::Raced {
+    let progress = enter_second(&heap, &mut second);
+    let raced = PendingCause::Raced {
         expected: 1,
         found: 4096,
     };
-    same(&rt, turn, Turn::Pending(raced));
-    let turn = enter(&heap, &mut first, 4096);
-    same(&rt, turn, Turn::Done(Path::StackAgain));
+    same(&rt, progress, Progress::Pending(raced));
+    let progress = enter(&heap, &mut first, 4096);
+    same(&rt, progress, Progress::Done(Path::StackAgain));
     same(&rt, first.held(0), 2);
     same(&rt, second.held(0), 0);
     Ok(())

@@ -4,8 +4,8 @@ ghost use Rattle.heap_table.specs.Fresh.{IsFresh};
 ghost use Rattle.heap_table.specs.Resting.{Rests};
 
 use crate::compare::{holds, same};
-use core_world::{Task, Turn, Why};
-use heap_table::{Heap, HeapShape, Pass, Purpose};
+use core_world::{HeapCall, PendingCause, Progress};
+use heap_table::{CallContext, Heap, HeapShape, Pass};
 use lawful_heap::new_heap;
 use plain_monitor::NoMemory;
 use std::alloc::Global;
@@ -33,22 +33,22 @@ fn begin(alloc: Global) -> Result<(Heap, Pass, Pass), NoMemory>
     fresh(alloc)
 }
 
-// The purpose of a call that leaves as they are the unfinished operation and the check, and of one that leaves nothing
+// The context of a call that leaves as they are the unfinished operation and the check, and of one that leaves nothing
 // unfinished.
-fn aside(pass: &Pass, task: Task) -> Purpose
+fn aside(pass: &Pass, task: HeapCall) -> CallContext
     ensures { result ≡ record { task = task; unfinished = pass.now.known.unfinished; check = pass.now.known.checking } }
 {
-    Purpose {
+    CallContext {
         task,
         unfinished: pass.unfinished(),
         check: pass.checking(),
     }
 }
 
-fn alone(task: Task) -> Purpose
+fn alone(task: HeapCall) -> CallContext
     ensures { result ≡ record { task = task; unfinished = None; check = false } }
 {
-    Purpose {
+    CallContext {
         task,
         unfinished: None,
         check: false,
@@ -63,13 +63,13 @@ fn is_free(pass: &Pass) -> bool
 }
 
 // Whole calls. `None` where the call may not begin.
-fn poll(heap: &Heap, pass: &mut Pass) -> Option<Turn<()>>
+fn poll(heap: &Heap, pass: &mut Pass) -> Option<Progress<()>>
     requires { Rests heap.now pass.old }
     ensures { Rests heap.now pass.new }
 {
     if pass.running() {
-        let why = aside(pass, Task::Poll);
-        Some(safepoint::poll(heap, pass, &why))
+        let call = aside(pass, HeapCall::Poll);
+        Some(safepoint::poll(heap, pass, &call))
     } else {
         None
     }
@@ -80,42 +80,42 @@ fn stop(heap: &Heap, pass: &mut Pass) -> Option<()>
     ensures { Rests heap.now pass.new }
 {
     if pass.running() {
-        let why = aside(pass, Task::Stop);
-        safepoint::stop(heap, pass, &why);
+        let call = aside(pass, HeapCall::Stop);
+        safepoint::stop(heap, pass, &call);
         Some(())
     } else {
         None
     }
 }
 
-fn resume(heap: &Heap, pass: &mut Pass) -> Option<Turn<()>>
+fn resume(heap: &Heap, pass: &mut Pass) -> Option<Progress<()>>
     requires { Rests heap.now pass.old }
     ensures { Rests heap.now pass.new }
 {
     if pass.running() || pass.requesting() {
         return None;
     }
-    let why = aside(pass, Task::Resume);
-    Some(safepoint::resume(heap, pass, &why))
+    let call = aside(pass, HeapCall::Resume);
+    Some(safepoint::resume(heap, pass, &call))
 }
 
-fn request(heap: &Heap, pass: &mut Pass) -> Option<Turn<()>>
+fn request(heap: &Heap, pass: &mut Pass) -> Option<Progress<()>>
     requires { Rests heap.now pass.old }
     ensures { Rests heap.now pass.new }
 {
     if pass.running() && is_free(pass) {
-        Some(safepoint::request(heap, pass, &alone(Task::Request)))
+        Some(safepoint::request(heap, pass, &alone(HeapCall::Request)))
     } else {
         None
     }
 }
 
-fn reached(heap: &Heap, pass: &mut Pass) -> Option<Turn<()>>
+fn reached(heap: &Heap, pass: &mut Pass) -> Option<Progress<()>>
     requires { Rests heap.now pass.old }
     ensures { Rests heap.now pass.new }
 {
     if pass.requesting() && is_free(pass) {
-        Some(safepoint::reached(heap, pass, &alone(Task::Reached)))
+        Some(safepoint::reached(heap, pass, &alone(HeapCall::Reached)))
     } else {
         None
     }
@@ -126,17 +126,17 @@ fn release(heap: &Heap, pass: &mut Pass) -> Option<()>
     ensures { Rests heap.now pass.new }
 {
     if pass.reached() && is_free(pass) {
-        safepoint::release(heap, pass, &alone(Task::Release));
+        safepoint::release(heap, pass, &alone(HeapCall::Release));
         Some(())
     } else {
         None
     }
 }
 
-const DONE: Option<Turn<()>> = Some(Turn::Done(()));
+const DONE: Option<Progress<()>> = Some(Progress::Done(()));
 
-fn requested(word: u64) -> Option<Turn<()>> {
-    Some(Turn::Pending(Why::Requested { word }))
+fn requested(word: u64) -> Option<Progress<()>> {
+    Some(Progress::Pending(PendingCause::Requested { word }))
 }
 
 #[test]
@@ -150,7 +150,7 @@ fn a_thread_stops_for_another(rt: HostRuntime) -> Result<(), Fail> {
 
     // The first thread runs still: bit 0, and the requester 1, as 2 in the field.
     let word = 8589934593;
-    let stopping = Some(Turn::Pending(Why::Stopping { word }));
+    let stopping = Some(Progress::Pending(PendingCause::Stopping { word }));
     same(&rt, reached(&heap, &mut second), stopping);
     holds(&rt, !second.reached());
     holds(&rt, release(&heap, &mut second).is_none());

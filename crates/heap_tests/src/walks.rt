@@ -1,11 +1,11 @@
 //! A thread that resumes, takes an object and leaves it, and stops, on real words.
 ghost use Rattle.std.specs.Prelude.{◌≡◌, [], true, IfOk};
-ghost use Rattle.heap_table.specs.Fresh.{IsStill};
+ghost use Rattle.heap_table.specs.Fresh.{IsStoppedPass};
 ghost use Rattle.heap_tests.specs.Walk.{IsAt, entered, left, resumed, stopped, two};
 
 use crate::compare::{holds, same};
-use core_world::{Name, Op, Stage, Task, Unfinished};
-use heap_table::{Closed, Heap, HeapShape, Pass, Purpose, close};
+use core_world::{HeapCall, Operation, Stage, Unfinished, WordId};
+use heap_table::{CallContext, Closed, Heap, HeapShape, Pass, close};
 use lawful_heap::new_heap;
 use plain_monitor::{Entry, List, Logged, NoMemory, Path};
 use std::alloc::Global;
@@ -16,16 +16,16 @@ fn resume(heap: &Heap, pass: &mut Pass) -> bool
     requires { IsAt heap.now [] pass.old }
     ensures { result ≡ true → IsAt heap.now resumed pass.new }
 {
-    let why = Purpose {
-        task: Task::Resume,
+    let call = CallContext {
+        task: HeapCall::Resume,
         unfinished: None,
         check: false,
     };
-    let found = heap.look(pass, &why).0;
+    let found = heap.look(pass, &call).0;
     if found != 0 {
         return false;
     }
-    let left = heap.exchange(pass, &why, Stage::Calm, Name::Safepoint, 0, 1);
+    let left = heap.exchange(pass, &call, Stage::Settled, WordId::Safepoint, 0, 1);
     if left != 0 {
         return false;
     }
@@ -37,20 +37,20 @@ fn enter(heap: &Heap, pass: &mut Pass) -> bool
     requires { IsAt heap.now resumed pass.old }
     ensures { result ≡ true → IsAt heap.now entered pass.new }
 {
-    let why = Purpose {
-        task: Task::StackEnter { object: 1, mark: 1 },
+    let call = CallContext {
+        task: HeapCall::StackEnter { object: 1, mark: 1 },
         unfinished: None,
         check: false,
     };
-    let displaced = Name::Displaced {
+    let displaced = WordId::Displaced {
         thread: 0,
         place: 0,
     };
-    let own = Name::Hold {
+    let own = WordId::Hold {
         thread: 0,
         place: 0,
     };
-    let seizes = Stage::Seizes {
+    let seizes = Stage::RecordLocked {
         object: 1,
         place: 0,
     };
@@ -63,19 +63,19 @@ fn enter(heap: &Heap, pass: &mut Pass) -> bool
         object: 1,
         path: Path::StackFirst,
     };
-    let found = heap.store(pass, &why, Stage::Calm, displaced, 1);
+    let found = heap.store(pass, &call, Stage::Settled, displaced, 1);
     if found != 0 {
         return false;
     }
-    let mark = heap.exchange(pass, &why, seizes, Name::Mark { object: 1 }, 1, 4096);
+    let mark = heap.exchange(pass, &call, seizes, WordId::Mark { object: 1 }, 1, 4096);
     if mark != 1 {
         return false;
     }
-    let hold = heap.store(pass, &why, enters, own, 257);
+    let hold = heap.store(pass, &call, enters, own, 257);
     if hold != 0 {
         return false;
     }
-    let stamp = heap.log_load(pass, &why, Name::Stamp { object: 1 }, entry);
+    let stamp = heap.log_load(pass, &call, WordId::Stamp { object: 1 }, entry);
     if stamp != 0 {
         return false;
     }
@@ -88,24 +88,24 @@ fn leave(heap: &Heap, pass: &mut Pass) -> bool
     ensures { result ≡ true → IsAt heap.now left pass.new }
 {
     let unfinished = Some(Unfinished {
-        op: Op::Exit,
+        op: Operation::Exit,
         object: 1,
     });
-    let why = Purpose {
-        task: Task::StackExit { object: 1 },
+    let call = CallContext {
+        task: HeapCall::StackExit { object: 1 },
         unfinished,
         check: false,
     };
-    let over = Purpose {
-        task: Task::StackExit { object: 1 },
+    let over = CallContext {
+        task: HeapCall::StackExit { object: 1 },
         unfinished: None,
         check: false,
     };
-    let displaced = Name::Displaced {
+    let displaced = WordId::Displaced {
         thread: 0,
         place: 0,
     };
-    let own = Name::Hold {
+    let own = WordId::Hold {
         thread: 0,
         place: 0,
     };
@@ -114,23 +114,31 @@ fn leave(heap: &Heap, pass: &mut Pass) -> bool
         place: 0,
     };
     let entry = Entry::Exit { object: 1 };
-    let stamp = heap.raise(pass, &why, Name::Stamp { object: 1 }, 2);
+    let stamp = heap.raise(pass, &call, WordId::Stamp { object: 1 }, 2);
     if stamp != 0 {
         return false;
     }
-    let header = heap.load(pass, &why, Stage::Calm, displaced);
+    let header = heap.load(pass, &call, Stage::Settled, displaced);
     if header != 1 {
         return false;
     }
-    let mark = heap.load(pass, &why, Stage::Calm, Name::Mark { object: 1 });
+    let mark = heap.load(pass, &call, Stage::Settled, WordId::Mark { object: 1 });
     if mark != 4096 {
         return false;
     }
-    let found = heap.log_exchange(pass, &why, exits, Name::Mark { object: 1 }, 4096, 1, entry);
+    let found = heap.log_exchange(
+        pass,
+        &call,
+        exits,
+        WordId::Mark { object: 1 },
+        4096,
+        1,
+        entry,
+    );
     if found != 4096 {
         return false;
     }
-    let hold = heap.store(pass, &over, Stage::Calm, own, 0);
+    let hold = heap.store(pass, &over, Stage::Settled, own, 0);
     if hold != 257 {
         return false;
     }
@@ -142,16 +150,16 @@ fn stop(heap: &Heap, pass: &mut Pass) -> bool
     requires { IsAt heap.now left pass.old }
     ensures { result ≡ true → IsAt heap.now stopped pass.new }
 {
-    let why = Purpose {
-        task: Task::Stop,
+    let call = CallContext {
+        task: HeapCall::Stop,
         unfinished: None,
         check: false,
     };
-    let length = heap.store(pass, &why, Stage::Calm, Name::Length { thread: 0 }, 2);
+    let length = heap.store(pass, &call, Stage::Settled, WordId::Length { thread: 0 }, 2);
     if length != 0 {
         return false;
     }
-    let all = heap.mask(pass, &why, Name::Safepoint, u64::MAX - 1);
+    let all = heap.mask(pass, &call, WordId::Safepoint, u64::MAX - 1);
     if all != 1 {
         return false;
     }
@@ -161,7 +169,7 @@ fn stop(heap: &Heap, pass: &mut Pass) -> bool
 // It does all this.
 fn walk(heap: &Heap, pass: &mut Pass) -> bool
     requires { IsAt heap.now [] pass.old }
-    ensures { result ≡ true → IsStill heap.now 0 pass.new }
+    ensures { result ≡ true → IsStoppedPass heap.now 0 pass.new }
 {
     if !resume(heap, pass) {
         return false;
@@ -177,7 +185,7 @@ fn walk(heap: &Heap, pass: &mut Pass) -> bool
 
 // A heap of two threads and two objects of a class with one slot, without biases, and the passes.
 fn begin(alloc: Global) -> Result<(Heap, Pass, Pass), NoMemory>
-    ensures { IfOk result (λ r. IsAt r.0 [] r.1 × IsStill r.0 1 r.2 × (r.0.heap.shape ≡ two)) }
+    ensures { IfOk result (λ r. IsAt r.0 [] r.1 × IsStoppedPass r.0 1 r.2 × (r.0.heap.shape ≡ two)) }
 {
     let shape = HeapShape::of(alloc, 2, &[1], &[0, 0], 2)?;
     let (heap, passes) = new_heap(alloc, shape, 10, 7, false)?;
@@ -193,7 +201,7 @@ fn begin(alloc: Global) -> Result<(Heap, Pass, Pass), NoMemory>
 
 // The end of such a heap.
 fn end(alloc: Global, heap: Heap, first: Pass, second: Pass) -> Result<Closed, NoMemory>
-    requires passes { IsStill heap 0 first × IsStill heap 1 second }
+    requires passes { IsStoppedPass heap 0 first × IsStoppedPass heap 1 second }
     requires shape { heap.heap.shape ≡ two }
     ensures { IfOk result (λ c. c.heap.shape ≡ two) }
 {
@@ -226,7 +234,7 @@ fn places(closed: &Closed) -> [usize; 7]
 fn an_object_is_taken_by_a_lock_record(rt: HostRuntime) -> Result<(), Fail> {
     let (heap, mut pass, _second) = begin(rt.alloc())?;
     let resumed = resume(&heap, &mut pass);
-    // What the next call needs is known behind an assertion here.
+    // What the next call needs is known after an assertion here.
     assert!(rt; resumed);
     holds(&rt, pass.running());
     let entered = enter(&heap, &mut pass);
@@ -247,7 +255,7 @@ fn an_object_is_taken_by_a_lock_record(rt: HostRuntime) -> Result<(), Fail> {
 fn a_walk_leaves_its_words(rt: HostRuntime) -> Result<(), Fail> {
     let (heap, mut first, second) = begin(rt.alloc())?;
     let walked = walk(&heap, &mut first);
-    // What the end needs is known behind an assertion here.
+    // What the end needs is known after an assertion here.
     assert!(rt; walked);
     holds(&rt, !first.running());
     let closed = end(rt.alloc(), heap, first, second)?;

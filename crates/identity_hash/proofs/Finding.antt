@@ -2,21 +2,21 @@
 use Rattle.std.proofs.Common.{◌≡◌, ℕ, ◌<◌, ◌==◌, Bool, true, false, if◌then◌else◌, Some, None, List, length, refl, sym, ap, ◌∙◌, subst}
 use Rattle.plain_monitor.specs.declared.entry.Logged.{Logged}
 use Rattle.plain_monitor.specs.declared.entry.Entry.TheVariants.{Hash}
-use Rattle.core_world.specs.declared.name.Name.{Name}
-use Rattle.core_world.specs.declared.name.Name.TheVariants.{Mark, Displaced}
-use Rattle.core_world.specs.Threads.Known.{Known, Local, local_of}
+use Rattle.core_world.specs.declared.word_id.WordId.{WordId}
+use Rattle.core_world.specs.declared.word_id.WordId.TheVariants.{Mark, Displaced}
+use Rattle.core_world.specs.Threads.ThreadView.{ThreadView, Local, local_of}
 use Rattle.core_world.specs.Steps.{with_entry}
 use Rattle.core_world.specs.Trees.HashSteps.{find_hash_plan, hash_displaced_steps}
-use Rattle.core_world.specs.Trees.Plans.{Purpose}
+use Rattle.core_world.specs.Trees.Plans.{CallContext}
 use Rattle.core_world.specs.Words.Forms.{hash_in}
-use Rattle.heap_table.specs.Parts.{HasRun}
+use Rattle.heap_table.specs.Parts.{HasMadeSteps}
 use Rattle.heap_table.specs.Seen.{HeapSeen, PassSeen}
 use Rattle.heap_table.specs.Stepping.{HasStepped}
 
-module _ (h : HeapSeen) (p q : PassSeen) (e : Purpose) (at : Name) (o n : ℕ) (s : HasStepped h p q (find_hash_plan e at o) n) where
+module _ (h : HeapSeen) (p q : PassSeen) (e : CallContext) (at : WordId) (o n : ℕ) (s : HasStepped h p q (find_hash_plan e at o) n) where
   -- it found none: nothing was logged
   pub unlogged : (hash_in n == 0) ≡ true → q.known.log ≡ p.known.log
-  unlogged none = ap (λ (k : Known). k.log) s.known ∙ cases _ (hash_in n == 0) none
+  unlogged none = ap (λ (k : ThreadView). k.log) s.known ∙ cases _ (hash_in n == 0) none
     where
       cases : (x : List Logged) (b : Bool) → b ≡ true → (if b then p.known.log else x) ≡ p.known.log
       cases x true e = refl
@@ -28,18 +28,18 @@ module _ (h : HeapSeen) (p q : PassSeen) (e : Purpose) (at : Name) (o n : ℕ) (
 
   -- and keeps the same
   pub same_kept : q.known.kept ≡ p.known.kept
-  same_kept = ap (λ (k : Known). k.kept) s.known
+  same_kept = ap (λ (k : ThreadView). k.kept) s.known
 
 -- Where that is the object's mark, it knows the same of its own words.
-pub same_local : (h : HeapSeen) (p q : PassSeen) (e : Purpose) (o n : ℕ) → HasStepped h p q (find_hash_plan e (Mark o) o) n
+pub same_local : (h : HeapSeen) (p q : PassSeen) (e : CallContext) (o n : ℕ) → HasStepped h p q (find_hash_plan e (Mark o) o) n
     → hash_in n ≡ 0 → local_of q.known ≡ local_of p.known
 same_local h p q e o n s none =
     ap local_of s.known ∙ λ i. local_of (record p.known { log = if none i == 0 then p.known.log else with_entry (Hash o (hash_in n) None) n p.known.log })
 
 -- The same of a run that looks for a hash in a displaced header.
-module _ (h : HeapSeen) (p q : PassSeen) (e : Purpose) (k : Local) (o : ℕ) (run : HasRun h (hash_displaced_steps e k o) p q None) where
-  pub behind_kept : q.known.kept ≡ p.known.kept
-  behind_kept = ap (λ (k : Known). k.kept) run.ran.by.1.0
+module _ (h : HeapSeen) (p q : PassSeen) (e : CallContext) (k : Local) (o : ℕ) (run : HasMadeSteps h (hash_displaced_steps e k o) p q None) where
+  pub after_kept : q.known.kept ≡ p.known.kept
+  after_kept = ap (λ (k : ThreadView). k.kept) run.ran.by.1.0
 
   none_found : (n : ℕ) → None ≡ (if n == 0 then None else Some n) → (n == 0) ≡ true
   none_found n e = cases (n == 0) e
@@ -48,15 +48,15 @@ module _ (h : HeapSeen) (p q : PassSeen) (e : Purpose) (k : Local) (o : ℕ) (ru
       cases true e = refl
       cases false e = absurd (cc e)
 
-  behind_log : q.known.log ≡ p.known.log
-  behind_log =
+  after_log : q.known.log ≡ p.known.log
+  after_log =
       let n = run.ran.by.0 in
-      ap (λ (k : Known). k.log) run.ran.by.1.0
+      ap (λ (k : ThreadView). k.log) run.ran.by.1.0
       ∙ ap (λ (b : Bool). if b then p.known.log else with_entry (Hash o (hash_in n) None) n p.known.log) (none_found (hash_in n) run.ran.by.1.1)
 
-  pub behind_room : length p.known.log < p.limit → length q.known.log < q.limit
-  behind_room room = subst (λ m. length q.known.log < m) (sym run.limit) (subst (λ (l : List Logged). length l < p.limit) (sym behind_log) room)
+  pub after_room : length p.known.log < p.limit → length q.known.log < q.limit
+  after_room room = subst (λ m. length q.known.log < m) (sym run.limit) (subst (λ (l : List Logged). length l < p.limit) (sym after_log) room)
 
 -- The load of a displaced header, by what the code says of its thread and its place.
-pub of_record : (e : Purpose) (o t u p r : ℕ) → t ≡ u → p ≡ r → find_hash_plan e (Displaced t p) o ≡ find_hash_plan e (Displaced u r) o
+pub of_record : (e : CallContext) (o t u p r : ℕ) → t ≡ u → p ≡ r → find_hash_plan e (Displaced t p) o ≡ find_hash_plan e (Displaced u r) o
 of_record e o t u p r thread place = λ i. find_hash_plan e (Displaced (thread i) (place i)) o

@@ -2,15 +2,15 @@
 use Rattle.std.proofs.Common.{◌≡◌, ℕ, Option, Some, refl}
 use Rattle.mark_word.specs.declared.mark.MarkForm.{MarkForm}
 use Rattle.mark_word.specs.declared.mark.MarkForm.TheVariants.{Inflating, Neutral, Anonymous, Biased, Locked, Inflated, Marked}
-use Rattle.core_world.specs.Threads.Known.{Local}
+use Rattle.core_world.specs.Threads.ThreadView.{Local}
 use Rattle.core_world.specs.Trees.HashSteps.{NextDraw, hash_mark_steps}
-use Rattle.core_world.specs.Trees.Plans.{Purpose}
-use Rattle.core_world.specs.Trees.Todo.{never}
+use Rattle.core_world.specs.Trees.Plans.{CallContext}
+use Rattle.core_world.specs.Trees.StepTree.{unreachable}
 use Rattle.core_world.specs.Words.Shape.{Shape}
 
-pub never_hashed : (f : MarkForm) (s : Shape) (e : Purpose) (k : Local) (kept : Option ℕ) (d : NextDraw) (o mark : ℕ) → (f ≡ Inflating → ⊥)
+pub never_hashed : (f : MarkForm) (s : Shape) (e : CallContext) (k : Local) (kept : Option ℕ) (d : NextDraw) (o mark : ℕ) → (f ≡ Inflating → ⊥)
     → ((hash age : ℕ) → f ≡ Neutral hash age → ⊥) → ((t p : ℕ) → f ≡ Locked t p → ⊥) → ((m : ℕ) → f ≡ Inflated m → ⊥)
-    → hash_mark_steps (Some f) s e k kept d o mark ≡ never
+    → hash_mark_steps (Some f) s e k kept d o mark ≡ unreachable
 never_hashed Inflating s e k kept d o mark inflating neutral locked inflated = absurd (inflating refl)
 never_hashed (Neutral hash age) s e k kept d o mark inflating neutral locked inflated = absurd (neutral hash age refl)
 never_hashed (Anonymous epoch age) s e k kept d o mark inflating neutral locked inflated = refl

@@ -1,16 +1,16 @@
 //! How an object's hash is found, or given to it.
 ghost use Rattle.std.specs.Prelude.{◌≡◌, ◌<◌, length};
-ghost use Rattle.core_world.specs.Threads.Known.{local_of};
+ghost use Rattle.core_world.specs.Threads.ThreadView.{local_of};
 ghost use Rattle.core_world.specs.Trees.HashSteps.{draw_steps, hash_monitor_steps, hash_displaced_steps};
 ghost use Rattle.core_world.specs.Trees.HashSteps.{hash_inflate_steps, hash_header_steps};
 ghost use Rattle.identity_hash.specs.inner.Parts.{hash_owned_steps};
-ghost use Rattle.heap_table.specs.Parts.{IsDueOn, HasRun};
+ghost use Rattle.heap_table.specs.Parts.{IsDueOn, HasMadeSteps};
 ghost use Rattle.heap_table.specs.Seen.{IsOf};
 
 use crate::places::first_place;
 use crate::words::marked_with;
-use core_world::{Name, Stage, Turn, Why};
-use heap_table::{Heap, Pass, Purpose, hash_of_word, mark_of_word};
+use core_world::{PendingCause, Progress, Stage, WordId};
+use heap_table::{CallContext, Heap, Pass, hash_of_word, mark_of_word};
 use mark_word::MarkForm;
 use object_monitor::inflate;
 use plain_monitor::Entry;
@@ -19,18 +19,18 @@ use plain_monitor::Entry;
 fn draw(
     heap: &Heap,
     pass: &mut Pass,
-    why: &Purpose,
+    call: &CallContext,
     number: u32,
     value: u32,
-    at: Name,
+    at: WordId,
     object: u32,
     header: u64,
-) -> Turn<u32>
+) -> Progress<u32>
     requires heap { IsOf heap.now pass.old }
-    requires due { IsDueOn heap.now pass.old why.now.task
-        (draw_steps why.now (record { number = number; value = value }) at object header) }
+    requires due { IsDueOn heap.now pass.old call.now.task
+        (draw_steps call.now (record { number = number; value = value }) at object header) }
     requires room { length pass.old.known.log < pass.old.limit }
-    ensures { HasRun heap.now (draw_steps why.now (record { number = number; value = value }) at object header)
+    ensures { HasMadeSteps heap.now (draw_steps call.now (record { number = number; value = value }) at object header)
         pass.old pass.new result }
 {
     let entry = Entry::Hash {
@@ -39,55 +39,55 @@ fn draw(
         drawn: Some(number),
     };
     let word = marked_with(value);
-    let found = heap.log_exchange(pass, why, Stage::Calm, at, header, word, entry);
+    let found = heap.log_exchange(pass, call, Stage::Settled, at, header, word, entry);
     if found != header {
-        return Turn::Pending(Why::Raced {
+        return Progress::Pending(PendingCause::Raced {
             expected: header,
             found,
         });
     }
-    Turn::Done(value)
+    Progress::Done(value)
 }
 
 // The lock is inflated with this monitor: the hash stands in the header that the monitor has.
 fn hash_monitor(
     heap: &Heap,
     pass: &mut Pass,
-    why: &Purpose,
+    call: &CallContext,
     number: u32,
     value: u32,
     object: u32,
     monitor: u32,
-) -> Turn<u32>
+) -> Progress<u32>
     requires heap { IsOf heap.now pass.old }
-    requires due { IsDueOn heap.now pass.old why.now.task
-        (hash_monitor_steps why.now (record { number = number; value = value }) object monitor) }
+    requires due { IsDueOn heap.now pass.old call.now.task
+        (hash_monitor_steps call.now (record { number = number; value = value }) object monitor) }
     requires room { length pass.old.known.log < pass.old.limit }
-    ensures { HasRun heap.now (hash_monitor_steps why.now (record { number = number; value = value }) object monitor)
+    ensures { HasMadeSteps heap.now (hash_monitor_steps call.now (record { number = number; value = value }) object monitor)
         pass.old pass.new result }
 {
-    let at = Name::Header { monitor };
-    let header = heap.find_hash(pass, why, at, object);
+    let at = WordId::Header { monitor };
+    let header = heap.find_hash(pass, call, at, object);
     let hash = hash_of_word(header);
     if hash != 0 {
-        return Turn::Done(hash);
+        return Progress::Done(hash);
     }
-    draw(heap, pass, why, number, value, at, object, header)
+    draw(heap, pass, call, number, value, at, object, header)
 }
 
 // The thread has the lock: the hash stands, if anywhere, in the header that its first lock record of the object displaced.
-fn hash_displaced(heap: &Heap, pass: &mut Pass, why: &Purpose, object: u32) -> Option<u32>
+fn hash_displaced(heap: &Heap, pass: &mut Pass, call: &CallContext, object: u32) -> Option<u32>
     requires heap { IsOf heap.now pass.old }
     requires object { object < length heap.now.heap.shape.objects }
-    requires due { IsDueOn heap.now pass.old why.now.task
-        (hash_displaced_steps why.now (local_of pass.old.known) object) }
+    requires due { IsDueOn heap.now pass.old call.now.task
+        (hash_displaced_steps call.now (local_of pass.old.known) object) }
     requires room { length pass.old.known.log < pass.old.limit }
-    ensures { HasRun heap.now (hash_displaced_steps why.now (local_of pass.old.known) object)
+    ensures { HasMadeSteps heap.now (hash_displaced_steps call.now (local_of pass.old.known) object)
         pass.old pass.new result }
 {
     let thread = pass.thread();
     let place = first_place(pass, object);
-    let header = heap.find_hash(pass, why, Name::Displaced { thread, place }, object);
+    let header = heap.find_hash(pass, call, WordId::Displaced { thread, place }, object);
     let hash = hash_of_word(header);
     if hash != 0 {
         return Some(hash);
@@ -99,24 +99,24 @@ fn hash_displaced(heap: &Heap, pass: &mut Pass, why: &Purpose, object: u32) -> O
 fn hash_inflate(
     heap: &Heap,
     pass: &mut Pass,
-    why: &Purpose,
+    call: &CallContext,
     number: u32,
     value: u32,
     object: u32,
-) -> Turn<u32>
+) -> Progress<u32>
     requires heap { IsOf heap.now pass.old }
-    requires due { IsDueOn heap.now pass.old why.now.task
-        (hash_inflate_steps heap.now.heap.shape why.now pass.old.known.kept
+    requires due { IsDueOn heap.now pass.old call.now.task
+        (hash_inflate_steps heap.now.heap.shape call.now pass.old.known.kept
         (record { number = number; value = value }) object) }
     requires room { length pass.old.known.log < pass.old.limit }
-    ensures { HasRun heap.now
-        (hash_inflate_steps heap.now.heap.shape why.now pass.old.known.kept
+    ensures { HasMadeSteps heap.now
+        (hash_inflate_steps heap.now.heap.shape call.now pass.old.known.kept
         (record { number = number; value = value }) object)
         pass.old pass.new result }
 {
-    match inflate(heap, pass, why, object) {
-        Turn::Done(monitor) => hash_monitor(heap, pass, why, number, value, object, monitor),
-        Turn::Pending(reason) => Turn::Pending(reason),
+    match inflate(heap, pass, call, object) {
+        Progress::Done(monitor) => hash_monitor(heap, pass, call, number, value, object, monitor),
+        Progress::Pending(reason) => Progress::Pending(reason),
     }
 }
 
@@ -124,25 +124,25 @@ fn hash_inflate(
 fn hash_owned(
     heap: &Heap,
     pass: &mut Pass,
-    why: &Purpose,
+    call: &CallContext,
     number: u32,
     value: u32,
     object: u32,
-) -> Turn<u32>
+) -> Progress<u32>
     requires heap { IsOf heap.now pass.old }
     requires object { object < length heap.now.heap.shape.objects }
-    requires due { IsDueOn heap.now pass.old why.now.task
-        (hash_owned_steps heap.now.heap.shape why.now (local_of pass.old.known) pass.old.known.kept
+    requires due { IsDueOn heap.now pass.old call.now.task
+        (hash_owned_steps heap.now.heap.shape call.now (local_of pass.old.known) pass.old.known.kept
         (record { number = number; value = value }) object) }
     requires room { length pass.old.known.log < pass.old.limit }
-    ensures { HasRun heap.now
-        (hash_owned_steps heap.now.heap.shape why.now (local_of pass.old.known) pass.old.known.kept
+    ensures { HasMadeSteps heap.now
+        (hash_owned_steps heap.now.heap.shape call.now (local_of pass.old.known) pass.old.known.kept
         (record { number = number; value = value }) object)
         pass.old pass.new result }
 {
-    match hash_displaced(heap, pass, why, object) {
-        Some(hash) => Turn::Done(hash),
-        None => hash_inflate(heap, pass, why, number, value, object),
+    match hash_displaced(heap, pass, call, object) {
+        Some(hash) => Progress::Done(hash),
+        None => hash_inflate(heap, pass, call, number, value, object),
     }
 }
 
@@ -162,45 +162,45 @@ fn hash_owned(
 /// hash, where a lock that was inflated first stays so, or that of the mark at an inflation, which leaves what `inflate`
 /// leaves: the thread keeps its monitor, the one that it claimed as well, for the next time.
 ///
-/// In OpenJDK 8: `ObjectSynchronizer::FastHashCode` (`synchronizer.cpp`), behind its revocation.
+/// In OpenJDK 8: `ObjectSynchronizer::FastHashCode` (`synchronizer.cpp`), after its revocation.
 pub fn header_hash(
     heap: &Heap,
     pass: &mut Pass,
-    why: &Purpose,
+    call: &CallContext,
     number: u32,
     value: u32,
     object: u32,
-) -> Turn<u32>
+) -> Progress<u32>
     requires heap { IsOf heap.now pass.old }
     requires object { object < length heap.now.heap.shape.objects }
-    requires due { IsDueOn heap.now pass.old why.now.task
-        (hash_header_steps heap.now.heap.shape why.now (local_of pass.old.known) pass.old.known.kept
+    requires due { IsDueOn heap.now pass.old call.now.task
+        (hash_header_steps heap.now.heap.shape call.now (local_of pass.old.known) pass.old.known.kept
         (record { number = number; value = value }) object) }
     requires room { length pass.old.known.log < pass.old.limit }
-    ensures { HasRun heap.now
-        (hash_header_steps heap.now.heap.shape why.now (local_of pass.old.known) pass.old.known.kept
+    ensures { HasMadeSteps heap.now
+        (hash_header_steps heap.now.heap.shape call.now (local_of pass.old.known) pass.old.known.kept
         (record { number = number; value = value }) object)
         pass.old pass.new result }
 {
-    let at = Name::Mark { object };
-    let mark = heap.find_hash(pass, why, at, object);
+    let at = WordId::Mark { object };
+    let mark = heap.find_hash(pass, call, at, object);
     match mark_of_word(mark) {
         Some(form) => match form {
-            MarkForm::Inflating => Turn::Pending(Why::Inflating),
+            MarkForm::Inflating => Progress::Pending(PendingCause::Inflating),
             MarkForm::Neutral { hash, .. } => {
                 if hash != 0 {
-                    return Turn::Done(hash);
+                    return Progress::Done(hash);
                 }
-                draw(heap, pass, why, number, value, at, object, mark)
+                draw(heap, pass, call, number, value, at, object, mark)
             }
             MarkForm::Locked { thread, .. } => {
                 if thread != pass.thread() {
-                    return hash_inflate(heap, pass, why, number, value, object);
+                    return hash_inflate(heap, pass, call, number, value, object);
                 }
-                hash_owned(heap, pass, why, number, value, object)
+                hash_owned(heap, pass, call, number, value, object)
             }
             MarkForm::Inflated { monitor } => {
-                hash_monitor(heap, pass, why, number, value, object, monitor)
+                hash_monitor(heap, pass, call, number, value, object, monitor)
             }
             _ => unreachable!(),
         },

@@ -15,7 +15,7 @@ one_at_most : (d : Option Draw) → drawn_by d ≤ 1
 one_at_most None = omega arith
 one_at_most (Some d) = omega arith
 
--- the entry behind these is the next draw behind no more than so many
+-- the entry after these is the next draw after no more than so many
 pub record IsNextAmong (first n : ℕ) (before : List Logged) (l : Logged) : Type 0 where
   pub done : ℕ
   pub few : done ≤ n + length before

@@ -1,5 +1,6 @@
 -- Each entry of a run can be told by a line.
-use Rattle.std.proofs.Common.{◌≡◌, ℕ, ◌+◌, ◌*◌, ◌<◌, ◌≤◌, ◌^◌, ◌==◌, ◌&&◌, true, false, List, [], ◌∷◌, length, Option, Some, None, refl, sym, ap, ◌∙◌, subst, arith, eqb-true}
+use Rattle.std.proofs.Common.{◌≡◌, ℕ, ◌+◌, ◌*◌, ◌<◌, ◌≤◌, ◌^◌, ◌==◌, ◌&&◌, true, false, List, [], ◌∷◌}
+use Rattle.std.proofs.Common.{length, Option, Some, None, refl, sym, ap, ◌∙◌, subst, arith, eqb-true}
 use Rattle.std.specs.List.{AllByRecursion}
 use Rattle.std.proofs.lemmas.Bool.{and_parts, false≢true}
 use Rattle.std.proofs.lemmas.List.{length-append}
@@ -10,7 +11,8 @@ use Rattle.plain_monitor.specs.declared.entry.Value.TheVariants.{Nil, Int, Ref}
 use Rattle.plain_monitor.specs.declared.entry.Fault.{Fault}
 use Rattle.plain_monitor.specs.declared.entry.Ending.TheVariants as ending
 use Rattle.plain_monitor.specs.declared.entry.Entry.{Entry}
-use Rattle.plain_monitor.specs.declared.entry.Entry.TheVariants.{Enter, Exit, Get, Put, Wait, Resume, Notify, NotifyAll, Hash, New, Print, Dump, Trap, Spent, Done}
+use Rattle.plain_monitor.specs.declared.entry.Entry.TheVariants.{Enter, Exit, Get, Put, Wait, Resume, Notify, NotifyAll}
+use Rattle.plain_monitor.specs.declared.entry.Entry.TheVariants.{Hash, New, Print, Dump, Trap, Spent, Done}
 use Rattle.plain_monitor.specs.declared.entry.Logged.{Logged}
 use Rattle.plain_monitor.specs.Monitor.{PlainMonitor, notify_all, owns}
 use Rattle.plain_monitor.specs.Objects.{PlainObject, same_value, take_entry, with_monitor}
@@ -22,12 +24,12 @@ use Rattle.object_program.specs.Limits.{most_code}
 use Rattle.object_program.specs.Program.{ProgramText, objects_total, slots_of}
 use Rattle.object_program.specs.Valid.{IsProgram}
 use Rattle.plain_machine.specs.Values.{IsValueOf}
-use Rattle.plain_machine.specs.declared.call.Call.{Call}
-use Rattle.plain_machine.specs.declared.call.Call.TheVariants as call
-use Rattle.plain_machine.specs.declared.call.Asked.{Asked}
-use Rattle.plain_machine.specs.declared.call.Asked.TheVariants.{Calls, Resumes, Leaves, Ends}
+use Rattle.plain_machine.specs.declared.monitor_call.MonitorCall.{MonitorCall}
+use Rattle.plain_machine.specs.declared.monitor_call.MonitorCall.TheVariants as call
+use Rattle.plain_machine.specs.declared.monitor_call.NextEntry.{NextEntry}
+use Rattle.plain_machine.specs.declared.monitor_call.NextEntry.TheVariants.{Calls, Resumes, Leaves, Ends}
 use Rattle.plain_machine.specs.Asking.{fault_number, fits, is_call}
-use Rattle.plain_machine.specs.Legal.{behind_all, machine_after, IsLegal}
+use Rattle.plain_machine.specs.Legal.{after_all, machine_after, IsLegal}
 use Rattle.plain_machine.specs.Machine.{PlainMachine, new_machine, take}
 use Rattle.plain_machine.specs.Thread.{ThreadState}
 use Rattle.machine_laws.specs.Reached.{IsReached}
@@ -54,7 +56,7 @@ use Rattle.journal_laws.proofs.DrawNumbers.{HasShortDraw, draw_is_short}
 
 -- NUMBERS
 -- no call is a trap
-not_called : (c : Call) (f : Fault) (i : ℕ) → is_call c (Trap f i) ≡ false
+not_called : (c : MonitorCall) (f : Fault) (i : ℕ) → is_call c (Trap f i) ≡ false
 not_called (call.Enter o) f i = refl
 not_called c f i = refl
 
@@ -66,7 +68,7 @@ module _ (p : ProgramText) (is : IsProgram p) (s : ThreadState) where
       let few = slots_few p o is in
       omega (arith, same, few, within)
 
-  got_slot : (a : Asked) (o k : ℕ) (v : Value) → IsAskedOf p s a → fits a (Get o k v) ≡ true → k < 2 ^ 32
+  got_slot : (a : NextEntry) (o k : ℕ) (v : Value) → IsAskedOf p s a → fits a (Get o k v) ≡ true → k < 2 ^ 32
   got_slot (Calls (call.Get x q j)) o k v asked fit = slot_few q k j asked.call.1 (and_parts (q == o) (j == k) fit).1
   got_slot (Calls c) o k v asked fit = absurd (false≢true fit)
   got_slot (Resumes q) o k v asked fit = absurd (false≢true fit)
@@ -74,7 +76,7 @@ module _ (p : ProgramText) (is : IsProgram p) (s : ThreadState) where
   got_slot (Ends (ending.Trap f i)) o k v asked fit = absurd (false≢true fit)
   got_slot (Ends g) o k v asked fit = absurd (false≢true fit)
 
-  put_slot : (a : Asked) (o k : ℕ) (v : Value) → IsAskedOf p s a → fits a (Put o k v) ≡ true → k < 2 ^ 32
+  put_slot : (a : NextEntry) (o k : ℕ) (v : Value) → IsAskedOf p s a → fits a (Put o k v) ≡ true → k < 2 ^ 32
   put_slot (Calls (call.Put q j w)) o k v asked fit =
       slot_few q k j asked.call.1 (and_parts (q == o) (j == k) (and_parts ((q == o) && (j == k)) (same_value w v) fit).0).1
   put_slot (Calls c) o k v asked fit = absurd (false≢true fit)
@@ -84,7 +86,7 @@ module _ (p : ProgramText) (is : IsProgram p) (s : ThreadState) where
   put_slot (Ends g) o k v asked fit = absurd (false≢true fit)
 
   -- the class of a new object is one of the program's
-  new_class : (a : Asked) (o c : ℕ) → IsAskedOf p s a → fits a (New o c) ≡ true → c < length p.classes
+  new_class : (a : NextEntry) (o c : ℕ) → IsAskedOf p s a → fits a (New o c) ≡ true → c < length p.classes
   new_class (Calls (call.New x k)) o c asked fit = subst (λ (i : ℕ). i < length p.classes) (eqb-true k c fit) asked.call.0
   new_class (Calls k) o c asked fit = absurd (false≢true fit)
   new_class (Resumes q) o c asked fit = absurd (false≢true fit)
@@ -93,7 +95,7 @@ module _ (p : ProgramText) (is : IsProgram p) (s : ThreadState) where
   new_class (Ends g) o c asked fit = absurd (false≢true fit)
 
   -- the number of a trap is that of an instruction
-  trap_number : (a : Asked) (f : Fault) (i : ℕ) → UnwindsWithin most_code s.mode → IsAskedOf p s a → fits a (Trap f i) ≡ true → i < 2 ^ 32
+  trap_number : (a : NextEntry) (f : Fault) (i : ℕ) → UnwindsWithin most_code s.mode → IsAskedOf p s a → fits a (Trap f i) ≡ true → i < 2 ^ 32
   trap_number (Ends (ending.Trap g j)) f i near asked fit =
       let there : j ≤ most_code = subst (UnwindsWithin most_code) asked.mode near in
       let same = eqb-true j i (and_parts (fault_number g == fault_number f) (j == i) fit).1 in
@@ -146,8 +148,10 @@ entry_of_more n m threads Spent le h = tt
 entry_of_more n m threads Done le h = tt
 
 -- an entry that was asked for and that the objects took
-told : (m : PlainMachine) (t : ℕ) (s : ThreadState) (a : Asked) (e : Entry) (after : List PlainObject) → IsReached m → UnwindsWithin most_code s.mode → IsAskedOf m.program s a
-    → fits a e ≡ true → take_entry m.objects t e ≡ Some after → IsEntryOf (numbers_total m.program) (length m.program.threads) e → HasShortDraw e → IsEntryIn m.program e
+told : (m : PlainMachine) (t : ℕ) (s : ThreadState) (a : NextEntry) (e : Entry) (after : List PlainObject)
+    → IsReached m → UnwindsWithin most_code s.mode → IsAskedOf m.program s a
+    → fits a e ≡ true → take_entry m.objects t e ≡ Some after
+    → IsEntryOf (numbers_total m.program) (length m.program.threads) e → HasShortDraw e → IsEntryIn m.program e
 told m t s a (Enter o path) after h near asked fit takes is draw = is
 told m t s a (Exit o) after h near asked fit takes is draw = is
 told m t s a (Wait o) after h near asked fit takes is draw = is
@@ -189,18 +193,19 @@ pub record IsShort (x : ℕ × Logged) : Type 0 where
   pub below : x.1.stamp < 2 ^ 46
   pub draw : HasShortDraw x.1.entry
 
-all_told : (m : PlainMachine) (xs : List (ℕ × Logged)) (last : PlainMachine) → IsReached m → TrapsAreNear m → behind_all m xs ≡ Some last
+all_told : (m : PlainMachine) (xs : List (ℕ × Logged)) (last : PlainMachine) → IsReached m → TrapsAreNear m → after_all m xs ≡ Some last
     → AllByRecursion IsShort xs → AllByRecursion (IsTellable m.program) xs
 all_told m [] last h near e short = tt
 all_told m (x ∷ xs) last h near e short =
-    let next = first_some (λ z. behind_all z xs) (take m x.0 x.1.entry) last e in
+    let next = first_some (λ z. after_all z xs) (take m x.0 x.1.entry) last e in
     let here : IsTellable m.program x = record {
       thread = thread_is_there m next.0 x.0 x.1.entry h near next.1;
       above_zero = short.0.above_zero;
       below = short.0.below;
       entry = taken_is_told m next.0 x.0 x.1.entry h near next.1 short.0.draw;
     } in
-    let others = all_told next.0 xs last (progress m next.0 x.0 x.1.entry h next.1).reached (taken_near m next.0 x.0 x.1.entry h.program near next.1) next.2 short.1 in
+    let others = all_told next.0 xs last (progress m next.0 x.0 x.1.entry h next.1).reached
+    (taken_near m next.0 x.0 x.1.entry h.program near next.1) next.2 short.1 in
     (here, subst (λ p. AllByRecursion (IsTellable p) xs) (same_program m next.0 x.0 x.1.entry h near next.1) others)
 
 -- what holds of all, and another fact that does
@@ -221,7 +226,8 @@ module _ (p : ProgramText) (fuel start : ℕ) (logs : List (List Logged)) (is : 
         above_zero = omega (arith, after);
         below = omega (arith, stamp, many);
         draw =
-            draw_is_short (first_draw start x.0) placed.before x.1 placed.later (subst (AreDraws (first_draw start x.0) 0) placed.log_is (are_drawn start logs legal.rises fits x.0))
+            draw_is_short (first_draw start x.0) placed.before x.1 placed.later
+            (subst (AreDraws (first_draw start x.0) 0) placed.log_is (are_drawn start logs legal.rises fits x.0))
             (omega (arith, own, many, log, split));
       }
 

@@ -10,7 +10,7 @@ use Rattle.plain_history.proofs.Joined.{first_some}
 use Rattle.object_program.specs.declared.program.ThreadDef.{ThreadDef}
 use Rattle.object_program.specs.Program.{ProgramText, objects_total}
 use Rattle.object_program.specs.Valid.{IsProgram}
-use Rattle.plain_machine.specs.Legal.{behind_all, machine_after}
+use Rattle.plain_machine.specs.Legal.{after_all, machine_after}
 use Rattle.plain_machine.specs.Machine.{PlainMachine, new_machine, take}
 use Rattle.plain_machine.specs.Running.{first_state}
 use Rattle.machine_laws.specs.Reached.{IsReached}
@@ -19,10 +19,11 @@ use Rattle.machine_laws.proofs.ReachedEntries.{progress}
 use Rattle.machine_laws.proofs.ReachedFirst.{first_is_reached}
 use Rattle.machine_laws.proofs.ReachedRunning.{RunsAll, first_run, program_runs}
 
-as_many : (m : PlainMachine) (xs : List (ℕ × Logged)) (last : PlainMachine) → IsReached m → behind_all m xs ≡ Some last → length xs + work_left last ≤ work_left m
+as_many : (m : PlainMachine) (xs : List (ℕ × Logged)) (last : PlainMachine)
+    → IsReached m → after_all m xs ≡ Some last → length xs + work_left last ≤ work_left m
 as_many m [] last r e = let same : work_left m ≡ work_left last = ap work_left (same_Some m last e) in omega (arith, same)
 as_many m (x ∷ xs) last r e =
-    let next = first_some (λ z. behind_all z xs) (take m x.0 x.1.entry) last e in
+    let next = first_some (λ z. after_all z xs) (take m x.0 x.1.entry) last e in
     let step = progress m next.0 x.0 x.1.entry r next.1 in
     let others = as_many next.0 xs last step.reached next.2 in
     let less = step.work in
@@ -47,7 +48,8 @@ module _ (p : ProgramText) (fuel : ℕ) (is : IsProgram p) (few : fuel ≤ most_
       let others = first_works ds runs.1 in
       omega (arith, here, others)
 
-  pub entries_few : (logs : List (List Logged)) (m : PlainMachine) → machine_after p fuel logs ≡ Some m → length (order logs) ≤ most_threads * (2 * most_fuel + 1)
+  pub entries_few : (logs : List (List Logged)) (m : PlainMachine)
+      → machine_after p fuel logs ≡ Some m → length (order logs) ≤ most_threads * (2 * most_fuel + 1)
   entries_few logs m under =
       let all = as_many (new_machine p fuel) (order logs) m (first_is_reached p fuel is) under in
       let works = first_works p.threads (program_runs p is) in

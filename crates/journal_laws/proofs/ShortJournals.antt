@@ -1,5 +1,6 @@
 -- The journal of a run is short: it has few lines, and no line is long.
-use Rattle.std.proofs.Common.{◌≡◌, ℕ, suc, ◌+◌, ◌-◌, ◌*◌, ◌/◌, ◌%◌, ◌<◌, ◌≤◌, ◌^◌, if◌then◌else◌, Bool, true, false, List, [], ◌∷◌, ◌++◌, codes, decimal, length, map, Option, Some, None, refl, arith, inl, inr, ℤ, pos, negsuc}
+use Rattle.std.proofs.Common.{◌≡◌, ℕ, suc, ◌+◌, ◌-◌, ◌*◌, ◌/◌, ◌%◌, ◌<◌, ◌≤◌, ◌^◌, if◌then◌else◌, Bool, true, false, List, [], ◌∷◌}
+use Rattle.std.proofs.Common.{◌++◌, codes, decimal, length, map, Option, Some, None, refl, arith, inl, inr, ℤ, pos, negsuc}
 use Rattle.std.specs.Prelude.{slice_get, MatchOption}
 use Rattle.std.specs.Fmt.{signed_decimal}
 use Rattle.std.specs.List.{AllByRecursion}
@@ -9,9 +10,11 @@ use Rattle.std.proofs.lemmas.Int.{ints}
 use Rattle.std.proofs.lemmas.List.{length-append}
 use Rattle.plain_monitor.specs.Limits.{most_fuel, most_made}
 use Rattle.plain_monitor.specs.declared.entry.Entry.{Entry}
-use Rattle.plain_monitor.specs.declared.entry.Entry.TheVariants.{Enter, Exit, Get, Put, Wait, Resume, Notify, NotifyAll, Hash, New, Print, Dump, Trap, Spent, Done}
+use Rattle.plain_monitor.specs.declared.entry.Entry.TheVariants.{Enter, Exit, Get, Put, Wait, Resume, Notify, NotifyAll}
+use Rattle.plain_monitor.specs.declared.entry.Entry.TheVariants.{Hash, New, Print, Dump, Trap, Spent, Done}
 use Rattle.plain_monitor.specs.declared.entry.Fault.{Fault}
-use Rattle.plain_monitor.specs.declared.entry.Fault.TheVariants.{IllegalMonitorState, Unguarded, NotRef, NotInt, Range, Overflow, TooDeep, TooManyDumps, TooMany}
+use Rattle.plain_monitor.specs.declared.entry.Fault.TheVariants.{IllegalMonitorState, Unguarded, NotRef, NotInt}
+use Rattle.plain_monitor.specs.declared.entry.Fault.TheVariants.{Range, Overflow, TooDeep, TooManyDumps, TooMany}
 use Rattle.plain_monitor.specs.declared.entry.Logged.{Logged}
 use Rattle.plain_monitor.specs.declared.entry.Path.{Path}
 use Rattle.plain_monitor.specs.declared.entry.Path.TheVariants.{BiasOwn, BiasTaken, StackFirst, StackAgain, MonitorFirst, MonitorAgain}
@@ -151,7 +154,7 @@ module _ (p : ProgramText) (is : IsProgram p) where
   on_short : (done : List ℕ) (o : ℕ) → length done ≤ 10 → HasNumber p o → length (done ++ object_text p o) ≤ 54
   on_short done o few there = both done (object_text p o) 10 44 few (object_short o)
 
-  -- and something behind that
+  -- and something after that
   with_short : (done last : List ℕ) (o n : ℕ) → length done ≤ 10 → HasNumber p o → length last ≤ n
       → length (done ++ object_text p o ++ codes " " ++ last) ≤ 55 + n
   with_short done last o n few there short =
@@ -179,7 +182,8 @@ module _ (p : ProgramText) (is : IsProgram p) where
       let value = with_short (codes "hash ") (decimal v) o 10 (omega arith) h.0 (word_short v h.1) in
       let all = both (codes "hash " ++ object_text p o ++ codes " " ++ decimal v) (draw_text drawn) 65 16 value (draw_short drawn h.2) in
       omega (arith, all)
-  entry_short (New o c) h = let all = with_short (codes "new ") (class_name (slice_get p.classes c)) o 32 (omega arith) h.0 (class_short c) in omega (arith, all)
+  entry_short (New o c) h =
+      let all = with_short (codes "new ") (class_name (slice_get p.classes c)) o 32 (omega arith) h.0 (class_short c) in omega (arith, all)
   entry_short (Print v) h = let all = both (codes "print ") (value_text p v) 6 44 (omega arith) (value_short v h) in omega (arith, all)
   entry_short (Dump n) h = let all = both (codes "dump ") (decimal n) 5 10 (omega arith) (word_short n h) in omega (arith, all)
   entry_short (Trap fault index) h =
@@ -194,8 +198,8 @@ module _ (p : ProgramText) (is : IsProgram p) where
   line_short x h =
       let at : List ℕ = codes "@" ++ decimal x.1.stamp in
       let stamp : length at ≤ 16 = both (codes "@") (decimal x.1.stamp) 1 15 (omega arith) (stamp_short x.1.stamp h.below) in
-      let behind = both at (codes " ") 16 1 stamp (omega arith) in
-      let thread = both (at ++ codes " ") (thread_text p x.0) 17 32 behind (thread_short x.0) in
+      let after = both at (codes " ") 16 1 stamp (omega arith) in
+      let thread = both (at ++ codes " ") (thread_text p x.0) 17 32 after (thread_short x.0) in
       let space = both (at ++ codes " " ++ thread_text p x.0) (codes " ") 49 1 thread (omega arith) in
       let entry = both (at ++ codes " " ++ thread_text p x.0 ++ codes " ") (entry_text p x.1.entry) 50 200 space (entry_short x.1.entry h.entry) in
       both (at ++ codes " " ++ thread_text p x.0 ++ codes " " ++ entry_text p x.1.entry) newline 250 1 entry (omega arith)

@@ -1,5 +1,6 @@
 -- A thread traps only at an instruction that it has, so that no trap's number is above 4096.
-use Rattle.std.proofs.Common.{◌≡◌, inl, inr, ℤ, ◌+ℤ◌, ◌-ℤ◌, ◌*ℤ◌, nat_abs, ℕ, zero, suc, ◌+◌, ◌<◌, ◌≤◌, nat_le, nat_lt, Bool, true, false, if◌then◌else◌, List, [], length, map, sum, slice_get, Option, Some, sym, subst, arith}
+use Rattle.std.proofs.Common.{◌≡◌, inl, inr, ℤ, ◌+ℤ◌, ◌-ℤ◌, ◌*ℤ◌, nat_abs, ℕ, zero, suc, ◌+◌, ◌<◌, ◌≤◌, nat_le, nat_lt, Bool, true}
+use Rattle.std.proofs.Common.{false, if◌then◌else◌, List, [], length, map, sum, slice_get, Option, Some, sym, subst, arith}
 use Rattle.std.specs.List.{AllByRecursion}
 use Rattle.std.proofs.lemmas.Bool.{cases_lt}
 use Rattle.std.proofs.lemmas.List.{get_or_past}
@@ -7,7 +8,8 @@ use Rattle.plain_monitor.specs.Limits.{most_holds, most_made}
 use Rattle.plain_monitor.specs.declared.entry.Value.{Value}
 use Rattle.plain_monitor.specs.declared.entry.Value.TheVariants.{Int, Ref}
 use Rattle.plain_monitor.specs.declared.entry.Fault.{Fault}
-use Rattle.plain_monitor.specs.declared.entry.Fault.TheVariants.{IllegalMonitorState, Unguarded, NotRef, NotInt, Range, Overflow, TooDeep, TooManyDumps, TooMany}
+use Rattle.plain_monitor.specs.declared.entry.Fault.TheVariants.{IllegalMonitorState, Unguarded, NotRef, NotInt}
+use Rattle.plain_monitor.specs.declared.entry.Fault.TheVariants.{Range, Overflow, TooDeep, TooManyDumps, TooMany}
 use Rattle.plain_monitor.specs.declared.entry.Ending.{Ending}
 use Rattle.plain_monitor.specs.declared.entry.Ending.TheVariants as ending
 use Rattle.plain_monitor.specs.declared.entry.Entry.{Entry}
@@ -20,19 +22,20 @@ use Rattle.object_program.specs.declared.program.ObjectDef.{ObjectDef}
 use Rattle.object_program.specs.declared.program.ThreadDef.{ThreadDef}
 use Rattle.object_program.specs.Program.{ProgramText, slots_of}
 use Rattle.object_program.specs.Valid.{IsProgram, IsThread}
-use Rattle.plain_machine.specs.declared.call.Call.{Call}
-use Rattle.plain_machine.specs.declared.call.Call.TheVariants as call
-use Rattle.plain_machine.specs.declared.call.Mode.{Mode}
-use Rattle.plain_machine.specs.declared.call.Mode.TheVariants.{Unwinding}
-use Rattle.plain_machine.specs.declared.call.Asked.{Asked}
-use Rattle.plain_machine.specs.declared.call.Asked.TheVariants as asked
-use Rattle.plain_machine.specs.Asking.{behind_call, behind_entry}
+use Rattle.plain_machine.specs.declared.monitor_call.MonitorCall.{MonitorCall}
+use Rattle.plain_machine.specs.declared.monitor_call.MonitorCall.TheVariants as call
+use Rattle.plain_machine.specs.declared.monitor_call.Mode.{Mode}
+use Rattle.plain_machine.specs.declared.monitor_call.Mode.TheVariants.{Unwinding}
+use Rattle.plain_machine.specs.declared.monitor_call.NextEntry.{NextEntry}
+use Rattle.plain_machine.specs.declared.monitor_call.NextEntry.TheVariants as asked
+use Rattle.plain_machine.specs.Asking.{after_call, after_entry}
 use Rattle.plain_machine.specs.Machine.{PlainMachine, code_of, new_machine, take}
 use Rattle.plain_machine.specs.Running.{instruction_at, after_step, run_on, first_state}
-use Rattle.plain_machine.specs.Thread.{ThreadState, Step, Goes, Calls, Stops, combines, dumps_next, element, enters, faults, first_of, holds_of, is_element, jumps_below, local, on_object, on_slot, owner_only, sets, size_of, step_of}
+use Rattle.plain_machine.specs.Thread.{ThreadState, Step, Goes, Calls, Stops, combines, dumps_next, element, enters, faults, first_of}
+use Rattle.plain_machine.specs.Thread.{holds_of, is_element, jumps_below, local, on_object, on_slot, owner_only, sets, size_of, step_of}
 use Rattle.machine_laws.proofs.ReachedAsked.{taken}
 
--- an ending that is no trap at an instruction behind the n-th
+-- an ending that is no trap at an instruction after the n-th
 abbrev pub EndsWithin : ℕ → Ending → Type 0
 EndsWithin n (ending.Trap fault index) = index ≤ n
 EndsWithin n e = Unit {0}
@@ -70,10 +73,10 @@ module _ (s : ThreadState) (n : ℕ) (h : s.place < n) where
   entering : (o : ℕ) → StopsWithin n (enters s o)
   entering o = by_test (nat_lt (sum s.holds) most_holds) TooDeep (Calls (call.Enter o)) tt
 
-  owning : (o : ℕ) (f : Fault) (c : Call) → StopsWithin n (owner_only s o f (Calls c))
+  owning : (o : ℕ) (f : Fault) (c : MonitorCall) → StopsWithin n (owner_only s o f (Calls c))
   owning o f c = by_test (nat_le 1 (holds_of s o)) f (Calls c) tt
 
-  slotting : (p : ProgramText) (o k : ℕ) (c : Call) → StopsWithin n (on_slot p s o k c)
+  slotting : (p : ProgramText) (o k : ℕ) (c : MonitorCall) → StopsWithin n (on_slot p s o k c)
   slotting p o k c = by_test (nat_lt k (slots_of p o)) Range (owner_only s o Unguarded (Calls c)) (owning o Unguarded c)
 
   comparing : (v w : Value) (l : ℕ) → StopsWithin n (jumps_below s v w l)
@@ -91,9 +94,12 @@ module _ (s : ThreadState) (n : ℕ) (h : s.place < n) where
   stepping p (code.Ref x k) = tt
   stepping p (code.Elem x k i) = elementing x (slice_get p.objects k) (local s i)
   stepping p (code.Enter x) = objecting (local s x) (enters s) entering
-  stepping p (code.Exit x) = objecting (local s x) (λ o. owner_only s o IllegalMonitorState (Calls (call.Exit o))) (λ o. owning o IllegalMonitorState (call.Exit o))
-  stepping p (code.Wait x) = objecting (local s x) (λ o. owner_only s o IllegalMonitorState (Calls (call.Wait o))) (λ o. owning o IllegalMonitorState (call.Wait o))
-  stepping p (code.Notify x) = objecting (local s x) (λ o. owner_only s o IllegalMonitorState (Calls (call.Notify o))) (λ o. owning o IllegalMonitorState (call.Notify o))
+  stepping p (code.Exit x) =
+      objecting (local s x) (λ o. owner_only s o IllegalMonitorState (Calls (call.Exit o))) (λ o. owning o IllegalMonitorState (call.Exit o))
+  stepping p (code.Wait x) =
+      objecting (local s x) (λ o. owner_only s o IllegalMonitorState (Calls (call.Wait o))) (λ o. owning o IllegalMonitorState (call.Wait o))
+  stepping p (code.Notify x) =
+      objecting (local s x) (λ o. owner_only s o IllegalMonitorState (Calls (call.Notify o))) (λ o. owning o IllegalMonitorState (call.Notify o))
   stepping p (code.NotifyAll x) =
       objecting (local s x) (λ o. owner_only s o IllegalMonitorState (Calls (call.NotifyAll o))) (λ o. owning o IllegalMonitorState (call.NotifyAll o))
   stepping p (code.Get x o k) = objecting (local s o) (λ r. on_slot p s r k (call.Get x r k)) (λ r. slotting p r k (call.Get x r k))
@@ -107,14 +113,15 @@ module _ (s : ThreadState) (n : ℕ) (h : s.place < n) where
   stepping p code.Dump = dumping
   stepping p code.End = tt
 
--- behind the last instruction stands an end
+-- after the last instruction stands an end
 stepping_there : (p : ProgramText) (cs : List Code) (s : ThreadState) → StopsWithin (length cs) (step_of p s (instruction_at cs s.place))
 stepping_there p cs s = elim (cases_lt s.place (length cs)) [
   | inl within ↦ stepping s (length cs) within p (instruction_at cs s.place)
   | inr past ↦ subst (λ c. StopsWithin (length cs) (step_of p s c)) (sym (get_or_past cs s.place code.End past)) tt
 ]
 
-after : (n k : ℕ) (s : ThreadState) (step : Step) (go : ThreadState → ThreadState) → StopsWithin n step → ((next : ThreadState) → UnwindsWithin n (go next).mode)
+after : (n k : ℕ) (s : ThreadState) (step : Step) (go : ThreadState → ThreadState)
+    → StopsWithin n step → ((next : ThreadState) → UnwindsWithin n (go next).mode)
     → UnwindsWithin n (after_step s k step go).mode
 after n k s (Goes next) go h on = on next
 after n k s (Calls c) go h on = tt
@@ -135,7 +142,7 @@ unwinds_within n m (Unwinding e) le h = ends_within n m e le h
 unwinds_within n m mode le h = tt
 
 -- MACHINES
--- no thread of the machine unwinds by a trap at an instruction behind the 4096th
+-- no thread of the machine unwinds by a trap at an instruction after the 4096th
 abbrev pub TrapsAreNear : PlainMachine → Type 0
 TrapsAreNear m = AllByRecursion (λ (s : ThreadState). UnwindsWithin most_code s.mode) m.threads
 
@@ -151,17 +158,18 @@ first_near p fuel d few = unwinds_within (length d.code) most_code (first_state 
 pub new_near : (p : ProgramText) (fuel : ℕ) → IsProgram p → TrapsAreNear (new_machine p fuel)
 new_near p fuel is =
     all_map (λ (s : ThreadState). UnwindsWithin most_code s.mode) (λ d. first_state p d fuel) p.threads
-    (all_weaker (IsThread (length p.classes) (length p.objects)) (λ d. UnwindsWithin most_code (first_state p d fuel).mode) (λ d h. first_near p fuel d h.code_few) p.threads is.threads)
+    (all_weaker (IsThread (length p.classes) (length p.objects)) (λ d. UnwindsWithin most_code (first_state p d fuel).mode)
+    (λ d h. first_near p fuel d h.code_few) p.threads is.threads)
 
 module _ (p : ProgramText) (cs : List Code) (few : length cs ≤ most_code) where
   run_near : (fuel : ℕ) (s : ThreadState) → UnwindsWithin most_code (run_on p cs fuel s).mode
   run_near fuel s = unwinds_within (length cs) most_code (run_on p cs fuel s).mode few (running p cs fuel s)
 
-  call_near : (s : ThreadState) (c : Call) (e : Entry) → UnwindsWithin most_code (behind_call p cs s c e).mode
+  call_near : (s : ThreadState) (c : MonitorCall) (e : Entry) → UnwindsWithin most_code (after_call p cs s c e).mode
   call_near s (call.Wait o) e = tt
   call_near s c e = run_near _ _
 
-  entry_near : (s : ThreadState) (a : Asked) (e : Entry) → UnwindsWithin most_code s.mode → UnwindsWithin most_code (behind_entry p cs s a e).mode
+  entry_near : (s : ThreadState) (a : NextEntry) (e : Entry) → UnwindsWithin most_code s.mode → UnwindsWithin most_code (after_entry p cs s a e).mode
   entry_near s (asked.Calls c) e h = call_near s c e
   entry_near s (asked.Resumes o) e h = run_near _ _
   entry_near s (asked.Leaves o) e h = h
@@ -171,7 +179,7 @@ pub taken_near : (m next : PlainMachine) (t : ℕ) (e : Entry) → IsProgram m.p
 taken_near m next t e is near h =
     let k = taken m t e next h in
     subst TrapsAreNear k.is
-    (all_set (λ (s : ThreadState). UnwindsWithin most_code s.mode) m.threads t (behind_entry m.program (code_of m.program t) k.s k.asked e)
+    (all_set (λ (s : ThreadState). UnwindsWithin most_code s.mode) m.threads t (after_entry m.program (code_of m.program t) k.s k.asked e)
     (entry_near m.program (code_of m.program t) (code_near m.program t is) k.s k.asked e
     (all_at (λ (s : ThreadState). UnwindsWithin most_code s.mode) m.threads t k.s near k.at))
     near)

@@ -1,5 +1,6 @@
 -- No more wait than there are threads.
-use Rattle.std.proofs.Common.{◌≡◌, inl, inr, ℕ, zero, suc, ◌+◌, ◌<◌, ◌≤◌, ◌==◌, not, cond, Bool, true, false, List, [], ◌∷◌, length, refl, ap, ◌∙◌, subst, arith}
+use Rattle.std.proofs.Common.{◌≡◌, inl, inr, ℕ, zero, suc, ◌+◌, ◌<◌, ◌≤◌, ◌==◌, not, cond, Bool}
+use Rattle.std.proofs.Common.{true, false, List, [], ◌∷◌, length, refl, ap, ◌∙◌, subst, arith}
 use Rattle.std.specs.List.{AllByRecursion}
 use Rattle.std.proofs.lemmas.Bool.{cases_eq}
 use Rattle.std.proofs.lemmas.Bool.Decides.{nat_tests}
@@ -13,7 +14,8 @@ rest_below : (n : ℕ) (ps : List (ℕ × ℕ)) → AllByRecursion (λ p. p.0 < 
 rest_below n [] all = tt
 rest_below n (p ∷ ps) all = by_test (p.0 == n) refl (rest_below n ps all.1)
   where
-    by_test : (b : Bool) → (p.0 == n) ≡ b → AllByRecursion (λ p. p.0 < n) (without ps n) → AllByRecursion (λ p. p.0 < n) (cond (not b) (p ∷ without ps n) (without ps n))
+    by_test : (b : Bool) → (p.0 == n) ≡ b → AllByRecursion (λ p. p.0 < n) (without ps n)
+        → AllByRecursion (λ p. p.0 < n) (cond (not b) (p ∷ without ps n) (without ps n))
     by_test true e rest = rest
     by_test false e rest = let here = all.0 in (grind (arith, nat_tests, e, here), rest)
 

@@ -34,7 +34,7 @@ pub fn entries_of_a_run_can_be_told()
 {}
 
 /// The journal of a run is legal, with as many entries as were logged, and its threads stand as those of the machine under the logs.
-/// Behind a run that is over they have ended, or are stuck. The journal has fewer than 2^32 bytes.
+/// After a run that is over they have ended, or are stuck. The journal has fewer than 2^32 bytes.
 pub fn journals_of_runs_are_legal()
     ensures legal { (p : ProgramText) (fuel start : ℕ) (logs : List (List Logged)) (m : PlainMachine) → IsProgram p
         → fuel ≤ most_fuel → IsLegal p fuel logs → StampsAreExact logs

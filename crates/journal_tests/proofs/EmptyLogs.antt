@@ -10,7 +10,8 @@ pub rises_pushed : (logs : List (List Logged)) → AllByRecursion (RisesAbove 0)
 rises_pushed [] r = (tt, tt)
 rises_pushed (log ∷ logs) r = (r.0, rises_pushed logs r.1)
 
-empty_pushed : (n : ℕ) (logs : List (List Logged)) → AllByRecursion (λ log. log ≡ []) (drop n logs) → AllByRecursion (λ log. log ≡ []) (drop n (logs ++ [] ∷ []))
+empty_pushed : (n : ℕ) (logs : List (List Logged)) → AllByRecursion (λ log. log ≡ []) (drop n logs)
+    → AllByRecursion (λ log. log ≡ []) (drop n (logs ++ [] ∷ []))
 empty_pushed zero [] h = (refl, tt)
 empty_pushed zero (log ∷ logs) h = (h.0, empty_pushed zero logs h.1)
 empty_pushed (suc n) [] h = rw (drop-nil {A = List Logged} n) tt

@@ -3,7 +3,7 @@
 ghost use Rattle.std.specs.Prelude.{◌≤◌};
 
 use example_programs::HANDOVER_40;
-use made_program::handover;
+use handover_program::handover;
 use program_syntax::{read_program, write_program};
 use std::process::Abort;
 use std::test::Fail;

@@ -6,7 +6,7 @@ use program_syntax::read_program;
 
 /// Lines that are read: with tabs, CR, comments, no line feed at the end, and names that several spaces share.
 #[test]
-fn texts_that_are_read(rt: HostRuntime) {
+fn allowed_texts_are_read(rt: HostRuntime) {
     let alloc = rt.alloc();
     let texts: [&[u8]; 8] = [
         b"thread t\nend",
@@ -54,7 +54,7 @@ end
     }
 }
 
-/// Each instruction with its operands, and labels before and behind the jumps.
+/// Each instruction with its operands, and labels before and after the jumps.
 const EACH_INSTRUCTION: &[u8] = b"\
 class C 3
 class D 0
@@ -92,7 +92,7 @@ end
 ";
 
 #[test]
-fn each_instruction(rt: HostRuntime) {
+fn each_instruction_is_read(rt: HostRuntime) {
     let Ok(program) = read_program(rt.alloc(), EACH_INSTRUCTION) else {
         panic!(rt; "refused")
     };
@@ -132,7 +132,7 @@ fn each_instruction(rt: HostRuntime) {
 
 /// Objects go by the lines that declare them, arrays with all of their elements.
 #[test]
-fn objects_of_a_program(rt: HostRuntime) {
+fn objects_go_by_the_lines_that_declare_them(rt: HostRuntime) {
     let text = b"\
 class C 3
 class D 0
@@ -169,7 +169,7 @@ end
 /// Each thread has numbers for the objects that it makes, where some thread makes one. Their slots are those of the largest
 /// class that a `new` names.
 #[test]
-fn objects_that_threads_make(rt: HostRuntime) {
+fn made_objects_have_the_slots_of_the_largest_class(rt: HostRuntime) {
     let text = b"\
 class C 3
 class D 5
@@ -192,7 +192,7 @@ end
 }
 
 #[test]
-fn names(rt: HostRuntime) {
+fn names_are_compared_and_wrong_ones_refused(rt: HostRuntime) {
     let Some(name) = Name::new(b"_a1") else {
         panic!(rt; "no name")
     };

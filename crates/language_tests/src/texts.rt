@@ -3,9 +3,9 @@
 ghost use Rattle.std.specs.Prelude.{◌≡◌, ◌⊎◌, true, Ok, Err};
 ghost use Rattle.object_program.specs.Program.{ProgramText};
 ghost use Rattle.program_syntax.specs.Refusal.{program_of};
-ghost use Rattle.program_syntax.specs.declared.error.Why.TheVariants.{NoMemory};
+ghost use Rattle.program_syntax.specs.declared.error.RefusalCause.TheVariants.{NoMemory};
 
-use program_syntax::{Why, read_program};
+use program_syntax::{RefusalCause, read_program};
 use std::alloc::{AllocError, Global};
 
 /// Whether the text has a program.
@@ -19,7 +19,7 @@ pub fn is_read(alloc: Global, text: &[u8]) -> bool
 }
 
 /// Whether the text is refused at this line for this cause.
-pub fn is_refused(alloc: Global, text: &[u8], line: u32, why: Why) -> bool
+pub fn is_refused(alloc: Global, text: &[u8], line: u32, why: RefusalCause) -> bool
     ensures { (result ≡ true) → (why ≡ NoMemory) ⊎ (program_of text.now ≡ Err (record { line = line; why = why })) }
 {
     match read_program(alloc, text) {

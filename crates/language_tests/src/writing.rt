@@ -56,7 +56,7 @@ local z
 new\tz  E # one more
 end";
 
-/// Compares what is written of the text's program, behind what `out` has already, with this.
+/// Compares what is written of the text's program, after what `out` has already, with this.
 fn expect<R: Abort + AllocGlobal>(rt: &R, text: &str, written: &str) -> Result<(), Fail> {
     let Ok(program) = read_program(rt.alloc(), text.as_bytes()) else {
         panic!(rt; "refused")

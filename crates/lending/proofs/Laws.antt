@@ -1,5 +1,6 @@
 -- Each step keeps the rule.
-use Rattle.std.proofs.Common.{◌≡◌, ◌≢◌, ◌⊎◌, ℕ, zero, suc, ◌+◌, ◌<◌, ◌≤◌, List, [], ◌∷◌, ◌++◌, length, map, Option, None, Some, refl, sym, ap, ◌∙◌, subst, ⊎_elim, inl, inr, arith, length-set, get_or, drop, Bool, false, true, Vec, Global, vec_len, vec_capacity}
+use Rattle.std.proofs.Common.{◌≡◌, ◌≢◌, ◌⊎◌, ℕ, zero, suc, ◌+◌, ◌<◌, ◌≤◌, List, [], ◌∷◌, ◌++◌, length, map, Option, None, Some, refl, sym, ap, ◌∙◌}
+use Rattle.std.proofs.Common.{subst, ⊎_elim, inl, inr, arith, length-set, get_or, drop, Bool, false, true, Vec, Global, vec_len, vec_capacity}
 use Rattle.std.specs.Prelude.{slice_set, slice_index, slice_index_or, replicate, slice_get, ⊤}
 use mathlib.Core.Option.{Option as Maybe, some, none, some-injective, some-ne-none}
 use mathlib.Core.Logic.{dite}
@@ -175,7 +176,7 @@ module _ {S : Type 0} (Is : ℕ → S → Type 0) where
         some = λ j z e. let k = so.some j z e in (k.0, (let l = k.1 in omega (arith, l)), k.2);
       }
 
-  -- what is known of the things so far, which lie in a vector with room for n, behind one more slot
+  -- what is known of the things so far, which lie in a vector with room for n, after one more slot
   abbrev pub Goes : ℕ → ℕ → Vec S Global → Type 0
   Goes i n v = ((vec_len v ≤ i) × (n ≤ vec_capacity v)) × SoFar Is i v.items
 

@@ -23,7 +23,8 @@ six_counts (a ∷ b ∷ c ∷ d ∷ e ∷ f ∷ []) h = refl
 six_counts ns h = absurd (omega arith)
 
 -- the six counts are those of the entries in one order
-pub counts_are : (m : PlainMachine) (c : ℕ) (logs : List (List Logged)) (ns : List ℕ) → length ns ≡ 6 → ((path : Path) → count_at ns path ≡ enters_in_all m c path logs) → ns ≡ enters_of m c (order logs)
+pub counts_are : (m : PlainMachine) (c : ℕ) (logs : List (List Logged)) (ns : List ℕ) → length ns ≡ 6
+    → ((path : Path) → count_at ns path ≡ enters_in_all m c path logs) → ns ≡ enters_of m c (order logs)
 counts_are m c logs ns h f =
     let is = λ (path : Path). f path ∙ sym (enters_by-order m c path logs) in
     six_counts ns h ∙ rw (is BiasOwn, is BiasTaken, is StackFirst, is StackAgain, is MonitorFirst, is MonitorAgain) refl

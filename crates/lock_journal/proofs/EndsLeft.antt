@@ -7,7 +7,8 @@ use Rattle.lock_journal.specs.EndedLines.{ended_lines}
 use Rattle.lock_journal.specs.inner.LineTexts.{ended_line}
 use Rattle.lock_journal.proofs.Lists.{left_from, none_from}
 
-pub ended_left-line : (run : RunRecord) (t : ℕ) (log : List Logged) → slice_get run.logs t ≡ Some log → ended_left run t ≡ ended_line run.program t log ∷ ended_left run (t + 1)
+pub ended_left-line : (run : RunRecord) (t : ℕ) (log : List Logged) → slice_get run.logs t ≡ Some log
+    → ended_left run t ≡ ended_line run.program t log ∷ ended_left run (t + 1)
 ended_left-line run t log h = rw (left_from run.logs t log h) refl
 
 pub ended_left-none : (run : RunRecord) (t : ℕ) → slice_get run.logs t ≡ None → ended_left run t ≡ []

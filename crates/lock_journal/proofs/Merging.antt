@@ -1,5 +1,6 @@
 -- Steps of a merge of the logs.
-use Rattle.std.proofs.Common.{◌≡◌, ℕ, zero, suc, ◌+◌, ◌-◌, ◌^◌, ◌<◌, ◌≤◌, Bool, true, false, nat_le, List, [], ◌∷◌, length, get_or, set, drop, replicate, slice_get, Option, Some, None, refl, ap, sym, ◌∙◌, inl, inr, arith, below_more}
+use Rattle.std.proofs.Common.{◌≡◌, ℕ, zero, suc, ◌+◌, ◌-◌, ◌^◌, ◌<◌, ◌≤◌, Bool, true, false, nat_le, List, [], ◌∷◌, length, get_or}
+use Rattle.std.proofs.Common.{set, drop, replicate, slice_get, Option, Some, None, refl, ap, sym, ◌∙◌, inl, inr, arith, below_more}
 use Rattle.std.proofs.Math.Seq.{drop-nil}
 use Rattle.std.proofs.lemmas.Bool.{cases_eq, cases_lt}
 use Rattle.std.proofs.lemmas.Bool.Decides.{nat_tests}
@@ -29,7 +30,8 @@ log_left (log ∷ logs) (p ∷ places) zero = refl
 log_left (log ∷ logs) (p ∷ places) (suc t) = log_left logs places t
 
 -- where one thread is given more, what the others have left stays
-left_given : (logs : List (List Logged)) (places : List ℕ) (t p : ℕ) → t < length logs → t < length places → left_of logs (set places t p) ≡ set (left_of logs places) t (drop p (log_of logs t))
+left_given : (logs : List (List Logged)) (places : List ℕ) (t p : ℕ) → t < length logs → t < length places
+    → left_of logs (set places t p) ≡ set (left_of logs places) t (drop p (log_of logs t))
 left_given [] places t p h k = absurd (omega arith)
 left_given (log ∷ logs) [] t p h k = absurd (omega arith)
 left_given (log ∷ logs) (q ∷ places) zero p h k = refl
@@ -82,7 +84,8 @@ entry_read (l ∷ log) zero s d h = refl
 entry_read (l ∷ log) (suc p) s d h = entry_read log p s d h
 
 -- the order of what is left is the least head and the order of what is left without it
-pub least_given : (logs : List (List Logged)) (places : List ℕ) (x : ℕ × ℕ) (d : Logged) → AllByRecursion (RisesAbove 0) logs → length logs ≤ length places → IsLeastHead logs places (length logs) x
+pub least_given : (logs : List (List Logged)) (places : List ℕ) (x : ℕ × ℕ) (d : Logged)
+    → AllByRecursion (RisesAbove 0) logs → length logs ≤ length places → IsLeastHead logs places (length logs) x
     → order (left_of logs places) ≡ (x.0, get_or (log_of logs x.0) (get_or places x.0 0) d) ∷ order (left_of logs (set places x.0 (get_or places x.0 0 + 1)))
 least_given logs places x d rises fit least =
     let t = x.0 in
@@ -102,11 +105,15 @@ least_given logs places x d rises fit least =
 -- nothing is left where no thread has an entry left
 pub none_left : (logs : List (List Logged)) (places : List ℕ) → IsLeastOf logs places (length logs) None → order (left_of logs places) ≡ []
 none_left logs places none =
-    empty_order (left_of logs places) (λ u. let head : head_of logs places u ≡ None = elim (cases_lt u (length logs)) [ inl h ↦ no_entry _ (none u h) | inr h ↦ none_beyond logs u (get_or places u 0) h ] in
+    empty_order (left_of logs places) (λ u. let head : head_of logs places u ≡ None = elim (cases_lt u (length logs)) [
+      | inl h ↦ no_entry _ (none u h)
+      | inr h ↦ none_beyond logs u (get_or places u 0) h
+    ] in
     log_left logs places u ∙ none_from (log_of logs u) (get_or places u 0) head)
 
 -- the least head of n threads is the least of one more, where that has nothing left
-kept_past_none : (logs : List (List Logged)) (places : List ℕ) (n : ℕ) (x : ℕ × ℕ) → IsLeastHead logs places n x → stamp_of logs places n ≡ None → IsLeastHead logs places (n + 1) x
+kept_past_none : (logs : List (List Logged)) (places : List ℕ) (n : ℕ) (x : ℕ × ℕ)
+    → IsLeastHead logs places n x → stamp_of logs places n ≡ None → IsLeastHead logs places (n + 1) x
 kept_past_none logs places n x a e =
     let within = a.thread in
     record {
@@ -119,7 +126,8 @@ kept_past_none logs places n x a e =
     }
 
 -- the least head of n threads or the head of one more is the least, by the test of their stamps
-least_of_two : (logs : List (List Logged)) (places : List ℕ) (n : ℕ) (x : ℕ × ℕ) (s : ℕ) (b : Bool) → nat_le x.1 s ≡ b → IsLeastHead logs places n x → stamp_of logs places n ≡ Some s
+least_of_two : (logs : List (List Logged)) (places : List ℕ) (n : ℕ) (x : ℕ × ℕ) (s : ℕ) (b : Bool)
+    → nat_le x.1 s ≡ b → IsLeastHead logs places n x → stamp_of logs places n ≡ Some s
     → IsLeastOf logs places (n + 1) (earlier (Some x) n (Some s))
 least_of_two logs places n x s true h a e =
     let within = a.thread in
@@ -142,7 +150,8 @@ least_of_two logs places n x s false h a e =
     })
 
 -- a step to the next thread
-pub least_step : (logs : List (List Logged)) (places : List ℕ) (n : ℕ) (least : Option (ℕ × ℕ)) (stamp : Option ℕ) → IsLeastOf logs places n least → stamp_of logs places n ≡ stamp
+pub least_step : (logs : List (List Logged)) (places : List ℕ) (n : ℕ) (least : Option (ℕ × ℕ)) (stamp : Option ℕ)
+    → IsLeastOf logs places n least → stamp_of logs places n ≡ stamp
     → IsLeastOf logs places (n + 1) (earlier least n stamp)
 least_step logs places n None None a e = below_more _ _ a e
 least_step logs places n None (Some s) a e =
@@ -167,7 +176,8 @@ stamp_held None s h e = absurd (omega (arith, e))
 stamp_held (Some n) s h e = ap (λ (m : ℕ). Some m) (sym e)
 
 -- the first least of the stamps is the least head, where it isn't the greatest number
-pub first_is_least : (logs : List (List Logged)) (places stamps : List ℕ) (x : ℕ × ℕ) → length logs ≤ most_threads → HasStamps logs places stamps → IsFirstLeast stamps most_threads x → x.1 < 2 ^ 64 - 1
+pub first_is_least : (logs : List (List Logged)) (places stamps : List ℕ) (x : ℕ × ℕ) → length logs ≤ most_threads
+    → HasStamps logs places stamps → IsFirstLeast stamps most_threads x → x.1 < 2 ^ 64 - 1
     → IsLeastHead logs places (length logs) x
 first_is_least logs places stamps x few held first small =
     let at = first.at small in
@@ -175,10 +185,11 @@ first_is_least logs places stamps x few held first small =
     record {
       thread = stamp_within logs places x.0 x.1 head;
       head = head;
-      before = λ u s h d f. let is : get_or stamps u 0 ≡ s = held u (omega (arith, h, few)) ∙ ap or_greatest f in let least = first.least u (omega (arith, h, few)) in elim (cases_lt u x.0) [
-        | inl below ↦ let less = first.first u below in grind (arith, nat_tests)
-        | inr above ↦ grind (arith, nat_tests)
-      ];
+      before = λ u s h d f. let is : get_or stamps u 0 ≡ s = held u (omega (arith, h, few)) ∙ ap or_greatest f in
+          let least = first.least u (omega (arith, h, few)) in elim (cases_lt u x.0) [
+            | inl below ↦ let less = first.first u below in grind (arith, nat_tests)
+            | inr above ↦ grind (arith, nat_tests)
+          ];
     }
 
 -- a limit of the others stays one where the leader's stamp changes
@@ -189,8 +200,10 @@ limit_given stamps leader limit s is = record {
 }
 
 -- the stamps at hand after thread t was given one entry more
-pub stamps_given : (logs : List (List Logged)) (old new stamps : List ℕ) (t p s : ℕ) → length stamps ≡ most_threads → t < most_threads → new ≡ set old t p → HasStamps logs old stamps → s ≡ or_greatest (stamp_of logs new t) → HasStamps logs new (set stamps t s)
+pub stamps_given : (logs : List (List Logged)) (old new stamps : List ℕ) (t p s : ℕ) → length stamps ≡ most_threads → t < most_threads
+    → new ≡ set old t p → HasStamps logs old stamps → s ≡ or_greatest (stamp_of logs new t) → HasStamps logs new (set stamps t s)
 stamps_given logs old new stamps t p s long within given held at u h = elim (cases_eq u t) [
   | inl same ↦ rw same (get_or-set_same stamps t s 0 (omega (arith, long, within)) ∙ at)
-  | inr other ↦ let stays : get_or new u 0 ≡ get_or old u 0 = rw given (get_or-set_other old t u p 0 other) in rw stays (get_or-set_other stamps t u s 0 other ∙ held u h)
+  | inr other ↦ let stays : get_or new u 0 ≡ get_or old u 0 = rw given (get_or-set_other old t u p 0 other) in
+      rw stays (get_or-set_other stamps t u s 0 other ∙ held u h)
 ]

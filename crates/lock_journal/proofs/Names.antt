@@ -25,7 +25,8 @@ length_name_at name (y ∷ ys) (suc n) x h e = length_name_at name ys n x h.2 e
 pub declared_is : (p : ProgramText) (o : ℕ) → o < declared_total p → object_text p o ≡ declared_text p o
 declared_is p o h = let below : nat_lt o (declared_total p) ≡ true = grind (arith, nat_tests, h) in rw below refl
 
-pub made_is : (p : ProgramText) (o : ℕ) → declared_total p ≤ o → object_text p o ≡ thread_text p ((o - declared_total p) / most_made) ++ codes "." ++ decimal ((o - declared_total p) % most_made)
+pub made_is : (p : ProgramText) (o : ℕ) → declared_total p ≤ o
+    → object_text p o ≡ thread_text p ((o - declared_total p) / most_made) ++ codes "." ++ decimal ((o - declared_total p) % most_made)
 made_is p o h =
     let late : nat_lt o (declared_total p) ≡ false = grind (arith, nat_tests, h) in
     rw late (ap (λ (n : ℕ). thread_text p ((o - n) / most_made) ++ codes "." ++ decimal ((o - n) % most_made)) (first_is_total p.objects))

@@ -23,7 +23,8 @@ printed-none p shots t (entry.Dump n) h = absurd cc
 printed-none p shots t e h = refl
 
 -- an entry that neither prints nor dumps adds no line
-pub prints_left-none : (run : RunRecord) (old new : List ℕ) (t : ℕ) (l : Logged) → order (left_of run.logs old) ≡ (t, l) ∷ order (left_of run.logs new) → printed_in l.entry ≡ None → prints_left run old ≡ prints_left run new
+pub prints_left-none : (run : RunRecord) (old new : List ℕ) (t : ℕ) (l : Logged)
+    → order (left_of run.logs old) ≡ (t, l) ∷ order (left_of run.logs new) → printed_in l.entry ≡ None → prints_left run old ≡ prints_left run new
 prints_left-none run old new t l e h = rw (e, printed-none run.program run.shots t l.entry h) refl
 
 -- what prints is what is kept of the entries that print
@@ -31,19 +32,22 @@ prints_kept : (run : RunRecord) (xs : List (ℕ × Logged)) → prints_of run xs
 prints_kept run [] = refl
 prints_kept run (x ∷ xs) = by_printed (printed_in x.1.entry) refl (prints_kept run xs)
   where
-    by_printed : (r : Option Printed) → printed_in x.1.entry ≡ r → prints_of run xs ≡ prints_of run (kept_entries prints xs) → prints_of run (x ∷ xs) ≡ prints_of run (kept_entries prints (x ∷ xs))
+    by_printed : (r : Option Printed) → printed_in x.1.entry ≡ r → prints_of run xs ≡ prints_of run (kept_entries prints xs)
+        → prints_of run (x ∷ xs) ≡ prints_of run (kept_entries prints (x ∷ xs))
     by_printed None e ih = rw (printed-none run.program run.shots x.0 x.1.entry e, e) ih
     by_printed (Some p) e ih = rw e (ap (λ ys. printed run.program run.shots x.0 x.1.entry ++ ys) ih)
 
 -- what is printed of what is left goes by what is kept of each log
-pub prints_left-kept : (run : RunRecord) (old new : List ℕ) → kept_logs prints (left_of run.logs new) ≡ kept_logs prints (left_of run.logs old) → prints_left run new ≡ prints_left run old
+pub prints_left-kept : (run : RunRecord) (old new : List ℕ)
+    → kept_logs prints (left_of run.logs new) ≡ kept_logs prints (left_of run.logs old) → prints_left run new ≡ prints_left run old
 prints_left-kept run old new e =
     prints_kept run (order (left_of run.logs new))
     ∙ ap (prints_of run) (kept_order prints (left_of run.logs new) ∙ ap order e ∙ sym (kept_order prints (left_of run.logs old)))
     ∙ sym (prints_kept run (order (left_of run.logs old)))
 
 -- passing over what doesn't print in one log
-pub skipped_kept : (logs : List (List Logged)) (places : List ℕ) (t p : ℕ) → kept_of prints (drop p (log_of logs t)) ≡ kept_of prints (drop (get_or places t 0) (log_of logs t))
+pub skipped_kept : (logs : List (List Logged)) (places : List ℕ) (t p : ℕ)
+    → kept_of prints (drop p (log_of logs t)) ≡ kept_of prints (drop (get_or places t 0) (log_of logs t))
     → kept_logs prints (left_of logs (set places t p)) ≡ kept_logs prints (left_of logs places)
 skipped_kept [] places t p h = refl
 skipped_kept (log ∷ logs) [] t p h = refl
@@ -51,5 +55,6 @@ skipped_kept (log ∷ logs) (q ∷ places) zero p h = ap (λ l. l ∷ kept_logs 
 skipped_kept (log ∷ logs) (q ∷ places) (suc t) p h = ap (λ ls. kept_of prints (drop q log) ∷ ls) (skipped_kept logs places t p h)
 
 -- one entry that doesn't print is passed over
-pub kept_of-none : (log : List Logged) (k : ℕ) (l : Logged) → k < length log → l ≡ get_or log k l → printed_in l.entry ≡ None → kept_of prints (drop (k + 1) log) ≡ kept_of prints (drop k log)
+pub kept_of-none : (log : List Logged) (k : ℕ) (l : Logged) → k < length log → l ≡ get_or log k l
+    → printed_in l.entry ≡ None → kept_of prints (drop (k + 1) log) ≡ kept_of prints (drop k log)
 kept_of-none log k l h at e = rw (at_drop_more (λ xs. xs) log k l h) (rw (sym at, e) refl)

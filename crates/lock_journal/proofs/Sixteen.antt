@@ -1,5 +1,6 @@
 -- Logs that are empty after the first ones have the order of these.
-use Rattle.std.proofs.Common.{◌≡◌, ℕ, zero, suc, ◌+◌, ◌≤◌, List, [], ◌∷◌, ◌++◌, length, map, drop, take, get_or, slice_get, Option, Some, None, MatchOption, refl, ap, sym, ◌∙◌, arith}
+use Rattle.std.proofs.Common.{◌≡◌, ℕ, zero, suc, ◌+◌, ◌≤◌, List, [], ◌∷◌, ◌++◌, length, map, drop, take, get_or}
+use Rattle.std.proofs.Common.{slice_get, Option, Some, None, MatchOption, refl, ap, sym, ◌∙◌, arith}
 use Rattle.std.proofs.Math.Seq.{drop-nil, get_or-take}
 use Rattle.std.proofs.lemmas.List.{drop_all}
 use Rattle.std.specs.List.{AllByRecursion}
@@ -37,7 +38,8 @@ none_left (suc n) (log ∷ logs) [] h = h
 none_left (suc n) (log ∷ logs) (p ∷ places) h = none_left n logs places h
 
 -- the order of what is left is that of what the first sixteen have left
-pub left_in_order : (logs : List (List Logged)) (places : List ℕ) → AreOfSixteen logs → order (left_of (take most_threads logs) places) ≡ order (left_of logs places)
+pub left_in_order : (logs : List (List Logged)) (places : List ℕ) → AreOfSixteen logs
+    → order (left_of (take most_threads logs) places) ≡ order (left_of logs places)
 left_in_order logs places h =
     ap order (left_of_first most_threads logs places) ∙ ap ordered (first_have_all most_threads 0 (left_of logs places) (none_left most_threads logs places h))
 
@@ -52,12 +54,14 @@ first_rise (suc n) [] r = tt
 first_rise (suc n) (log ∷ logs) r = (r.0, first_rise n logs r.1)
 
 -- the stamps at hand of the first sixteen logs are those of all
-pub held_by_first : (logs first : List (List Logged)) (places stamps : List ℕ) → first ≡ take most_threads logs → HasStamps first places stamps → HasStamps logs places stamps
+pub held_by_first : (logs first : List (List Logged)) (places stamps : List ℕ)
+    → first ≡ take most_threads logs → HasStamps first places stamps → HasStamps logs places stamps
 held_by_first logs first places stamps is held t h =
     held t h ∙ ap (λ ls. or_greatest (stamp_in (slice_get (log_of ls t) (get_or places t 0)))) is
     ∙ ap (λ log. or_greatest (stamp_in (slice_get log (get_or places t 0)))) (get_or-take most_threads logs t [] h)
 
-pub held_in_first : (logs first : List (List Logged)) (places stamps : List ℕ) → first ≡ take most_threads logs → HasStamps logs places stamps → HasStamps first places stamps
+pub held_in_first : (logs first : List (List Logged)) (places stamps : List ℕ)
+    → first ≡ take most_threads logs → HasStamps logs places stamps → HasStamps first places stamps
 held_in_first logs first places stamps is held t h =
     held t h ∙ ap (λ log. or_greatest (stamp_in (slice_get log (get_or places t 0)))) (sym (get_or-take most_threads logs t [] h))
     ∙ ap (λ ls. or_greatest (stamp_in (slice_get (log_of ls t) (get_or places t 0)))) (sym is)

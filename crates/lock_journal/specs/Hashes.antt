@@ -44,7 +44,7 @@ is_draw_of o e = false
 abbrev pub draws_by : ℕ → List (ℕ × Logged) → ℕ
 draws_by t xs = count_by (λ x. (x.0 == t) && is_draw x.1.entry) xs
 
--- what an entry of thread t drew, behind n draws of the thread, is right
+-- what an entry of thread t drew, after n draws of the thread, is right
 abbrev pub is_right : ℕ → ℕ → ℕ → Entry → Bool
 is_right start t n (Hash object value (Some number)) =
     (number == n + 1) && (value == nth_value (first_word start t) number)

@@ -98,7 +98,7 @@ fn push_labelled(out: &mut Line, words: &[u8], number: u64)
     out.push_number(number);
 }
 
-/// Writes each count behind a space, in at most 246 bytes.
+/// Writes each count after a space, in at most 246 bytes.
 fn push_counts(out: &mut Line, counts: &[u128; PATHS])
     requires { length out.old + 246 ≤ 512 }
     ensures text { out.new ≡ out.old ++ counts_text counts.now }

@@ -136,7 +136,7 @@ fn push_on(out: &mut Line, program: &Program, done: &[u8], object: u32)
     push_object(out, program, object);
 }
 
-/// Writes a number behind a space, in at most 21 bytes.
+/// Writes a number after a space, in at most 21 bytes.
 fn push_count(out: &mut Line, number: u32)
     requires { length out.old + 21 ≤ 512 }
     ensures text { out.new ≡ out.old ++ codes " " ++ decimal number }
@@ -146,7 +146,7 @@ fn push_count(out: &mut Line, number: u32)
     out.push_number(u64::from(number));
 }
 
-/// Writes the number of a slot and its value, each behind a space, in at most 86 bytes.
+/// Writes the number of a slot and its value, each after a space, in at most 86 bytes.
 fn push_slot(out: &mut Line, program: &Program, slot: u32, value: Value)
     requires { length out.old + 86 ≤ 512 }
     ensures text { out.new ≡ out.old ++ codes " " ++ decimal slot ++ codes " " ++ value_text program.now value }

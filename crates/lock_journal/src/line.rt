@@ -55,7 +55,7 @@ impl Line {
         self.length = 0;
     }
 
-    /// Writes these bytes behind the others.
+    /// Writes these bytes after the others.
     pub fn push(&mut self, piece: &[u8])
         requires { length self.old + length piece.now ≤ 512 }
         ensures { self.new ≡ self.old ++ piece.now }

@@ -140,7 +140,7 @@ impl Ahead {
     }
 }
 
-/// The logs of as many threads as a program has at most. Behind them a run has none but empty ones.
+/// The logs of as many threads as a program has at most. After them a run has none but empty ones.
 pub(crate) fn first_logs(run: &RunRecord) -> &[List<Logged>]
     ensures first { result.now ≡ take most_threads run.now.logs }
     ensures few { length result.now ≤ most_threads }

@@ -26,7 +26,7 @@ pub(crate) enum Printed {
     Dump(u32),
 }
 
-/// Writes the next line of a dump that is being given, and behind these that of the next print or dump. False exactly where there is
+/// Writes the next line of a dump that is being given, and after these that of the next print or dump. False exactly where there is
 /// none. `printer` is the thread of the last print or dump, if there was one.
 pub(crate) fn next_said(
     merge: &mut Merge,

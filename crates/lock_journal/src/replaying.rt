@@ -28,7 +28,7 @@ fn logs_can_be_merged(run: &RunRecord)
     let _threads = run.program.threads.items();
 }
 
-/// The machine behind all entries of the record's logs, taken by rising stamp. The logs are legal for the record's
+/// The machine after all entries of the record's logs, taken by rising stamp. The logs are legal for the record's
 /// program and fuel.
 ///
 /// # Errors

@@ -1,4 +1,4 @@
-//! Names, values and faults, written behind what a line holds.
+//! Names, values and faults, written after what a line holds.
 
 ghost use Rattle.std.specs.Prelude.{◌≡◌, ◌+◌, ◌/◌, ◌%◌, ◌≤◌, ◌++◌, length, codes, decimal, Some, IfSome, slice_get, option_map};
 ghost use Rattle.plain_monitor.specs.Limits.{most_made};
@@ -11,7 +11,7 @@ use plain_monitor::limits::MADE;
 use plain_monitor::{Ending, Fault, Path, Value};
 
 /// Writes the name of object `o`, in at most 64 bytes: of a declared one its own, for an array's with the element in brackets, and of one
-/// that a thread makes the thread's, with the object's number among the thread's behind a dot.
+/// that a thread makes the thread's, with the object's number among the thread's after a dot.
 pub fn push_object(out: &mut Line, program: &Program, o: u32)
     requires { length out.old + 64 ≤ 512 }
     ensures text { out.new ≡ out.old ++ object_text program.now o }

@@ -11,49 +11,53 @@ use Rattle.lock_policy.specs.Policy.{decided}
 use Rattle.core_world.specs.declared.act.Act.TheVariants.{Store}
 use Rattle.core_world.specs.declared.answer.BiasTry.{BiasTry}
 use Rattle.core_world.specs.declared.answer.BiasTry.TheVariants.{Took, Unbiased, Valid, Raced}
-use Rattle.core_world.specs.declared.answer.Turn.{Turn}
-use Rattle.core_world.specs.declared.answer.Turn.TheVariants.{Done, Pending}
-use Rattle.core_world.specs.declared.name.Name.TheVariants.{Mark, Hold, Displaced}
+use Rattle.core_world.specs.declared.answer.Progress.{Progress}
+use Rattle.core_world.specs.declared.answer.Progress.TheVariants.{Done, Pending}
+use Rattle.core_world.specs.declared.word_id.WordId.TheVariants.{Mark, Hold, Displaced}
 use Rattle.core_world.specs.declared.stage.Stage.{Stage}
-use Rattle.core_world.specs.declared.stage.Stage.TheVariants.{Calm}
+use Rattle.core_world.specs.declared.stage.Stage.TheVariants.{Settled}
 use Rattle.core_world.specs.Locks.{is_valid_bias, hold_count}
-use Rattle.core_world.specs.RevocationRules.{Write, write, raised_form, with_epoch, store_where, object_held, biased_word, revoke_biased, record_writes, first_place}
-use Rattle.core_world.specs.Threads.Known.{Start}
+use Rattle.core_world.specs.RevocationRules.{Write, write, raised_form, with_epoch, store_where, object_held}
+use Rattle.core_world.specs.RevocationRules.{biased_word, revoke_biased, record_writes, first_place}
+use Rattle.core_world.specs.Threads.ThreadView.{Start}
 use Rattle.core_world.specs.Threads.Stages.{Revocation}
 use Rattle.core_world.specs.Words.Forms.{epoch_in, is_biased, is_still, names, hold_word}
 use Rattle.core_world.specs.Words.Shape.{Shape}
 use Rattle.core_world.specs.Trees.DeflateSteps.{deflate_steps}
 use Rattle.core_world.specs.Trees.Operations.{and_then, revocation_steps, revoked_steps, unbias_tried, unbias_steps}
-use Rattle.core_world.specs.Trees.Plans.{Purpose, done_with, class_steps}
-use Rattle.core_world.specs.Trees.RevocationSteps.{revocation_stage, look, store_steps, revoke_at, revoke_steps, visit_held, walk_steps, take_bias_steps, next_epoch, bulk_rebias_steps, bulk_revoke_steps, verdict_steps, decided_steps, revoke_at_safepoint_steps}
-use Rattle.core_world.specs.Trees.SafepointSteps.{has_requester, request_swap_steps, request_steps, reached_steps, then_reached, safepoint_steps, release_to, reached_word}
-use Rattle.core_world.specs.Trees.Todo.{Todo, ◌>>=◌, each_from, all_from}
+use Rattle.core_world.specs.Trees.Plans.{CallContext, done_with, class_steps}
+use Rattle.core_world.specs.Trees.RevocationSteps.{revocation_stage, look, store_steps, revoke_at, revoke_steps, visit_held}
+use Rattle.core_world.specs.Trees.RevocationSteps.{walk_steps, take_bias_steps, next_epoch, bulk_rebias_steps, bulk_revoke_steps}
+use Rattle.core_world.specs.Trees.RevocationSteps.{verdict_steps, decided_steps, revoke_at_safepoint_steps}
+use Rattle.core_world.specs.Trees.SafepointSteps.{has_requester, request_swap_steps, request_steps, reached_steps}
+use Rattle.core_world.specs.Trees.SafepointSteps.{then_reached, safepoint_steps, release_to, reached_word}
+use Rattle.core_world.specs.Trees.StepTree.{StepTree, ◌>>=◌, each_from, all_from}
 use Rattle.core_world.specs.Trees.BiasSteps.{stage_after, unbias_swap_steps, bias_drop_at, bias_drop_by, bias_drop_steps}
 use Rattle.lock_runtime.specs.inner.Parts.{reached_revocation}
-use Rattle.revoke_walk.proofs.Deflating.{deflate_aside}
+use Rattle.safepoint_work.proofs.Deflating.{deflate_aside}
 use Rattle.heap_table.proofs.ClassSteps.{class_aside}
 use Rattle.heap_table.proofs.Aside.{AreAside, leaves_own_words, either_aside, then_aside, all_aside, each_aside}
 
 -- THE SAFEPOINT
-reached : (e : Purpose) → AreAside (reached_steps e)
+reached : (e : CallContext) → AreAside (reached_steps e)
 reached e = (record { quiet = refl; words = refl; keeps = refl }, λ n. either_aside (is_still n) _ _ tt tt)
 
-reached_behind : (e : Purpose) (turn : Turn (Unit {0})) → AreAside (then_reached e turn)
-reached_behind e (Done x) = reached e
-reached_behind e (Pending cause) = tt
+reached_after : (e : CallContext) (progress : Progress (Unit {0})) → AreAside (then_reached e progress)
+reached_after e (Done x) = reached e
+reached_after e (Pending cause) = tt
 
-request : (e : Purpose) (t : ℕ) → AreAside (request_steps e t)
+request : (e : CallContext) (t : ℕ) → AreAside (request_steps e t)
 request e t = (
   record { quiet = refl; words = refl; keeps = refl },
   λ n. either_aside (has_requester n) _ (request_swap_steps e t n) tt
       (record { quiet = refl; words = refl; keeps = refl }, λ m. either_aside (m == n) _ _ tt (either_aside (has_requester m) _ _ tt tt)),
 )
 
-pub safepoint_aside : (e : Purpose) (t : ℕ) (requesting : Bool) → AreAside (safepoint_steps e t requesting)
+pub safepoint_aside : (e : CallContext) (t : ℕ) (requesting : Bool) → AreAside (safepoint_steps e t requesting)
 safepoint_aside e t true = reached e
-safepoint_aside e t false = then_aside (request_steps e t) (then_reached e) (request e t) (reached_behind e)
+safepoint_aside e t false = then_aside (request_steps e t) (then_reached e) (request e t) (reached_after e)
 
-release : (stage : Stage) (e : Purpose) (t : ℕ) → AreAside (release_to stage e t)
+release : (stage : Stage) (e : CallContext) (t : ℕ) → AreAside (release_to stage e t)
 release stage e t = (record { quiet = refl; words = refl; keeps = refl }, λ n. either_aside (n == reached_word t) _ _ tt tt)
 
 -- THE STORES of a revocation: none is of a hold word or of a waiting word.
@@ -65,13 +69,14 @@ beside_then : (xs ys : List Write) → AreBeside xs → AreBeside ys → AreBesi
 beside_then [] ys one two = two
 beside_then (x ∷ xs) ys one two = (one.0, beside_then xs ys one.1 two)
 
-stores : (e : Purpose) (b : Revocation) (xs : List Write) → AreBeside xs → AreAside (store_steps e b xs)
+stores : (e : CallContext) (b : Revocation) (xs : List Write) → AreBeside xs → AreAside (store_steps e b xs)
 stores e b [] all = tt
 stores e b (x ∷ xs) all = (record { quiet = refl; words = all.0; keeps = refl }, λ n. stores e b xs all.1)
 
 records : (o t p : ℕ) (hs : List ℕ) → AreBeside (record_writes o t p hs)
 records o t p [] = tt
-records o t p (h ∷ hs) = beside_then (if names o h then write (Displaced t p) (if h == hold_word o 1 then mark_of (Neutral 0 0) else 0) ∷ [] else []) _ (first (names o h)) (records o t (p + 1) hs)
+records o t p (h ∷ hs) = beside_then (if names o h then write (Displaced t p) (if h == hold_word o 1 then mark_of (Neutral 0 0) else 0) ∷ [] else [])
+    _ (first (names o h)) (records o t (p + 1) hs)
   where
     first : (b : Bool) → AreBeside (if b then write (Displaced t p) (if h == hold_word o 1 then mark_of (Neutral 0 0) else 0) ∷ [] else [])
     first true = (refl, tt)
@@ -80,7 +85,8 @@ records o t p (h ∷ hs) = beside_then (if names o h then write (Displaced t p) 
 biased : (o t : ℕ) (allowed : Bool) (hs : List ℕ) → AreBeside (revoke_biased o t allowed hs)
 biased o t allowed hs = cases (hold_count o hs == 0)
   where
-    cases : (b : Bool) → AreBeside (if b then write (Mark o) (mark_of (if allowed then Anonymous 0 0 else Neutral 0 0)) ∷ [] else (record_writes o t 0 hs ++ write (Mark o) (mark_of (Locked t (first_place o hs))) ∷ []))
+    cases : (b : Bool) → AreBeside (if b then write (Mark o) (mark_of (if allowed then Anonymous 0 0 else Neutral 0 0)) ∷ []
+        else (record_writes o t 0 hs ++ write (Mark o) (mark_of (Locked t (first_place o hs))) ∷ []))
     cases true = (refl, tt)
     cases false = beside_then (record_writes o t 0 hs) _ (records o t 0 hs) (refl, tt)
 
@@ -92,7 +98,7 @@ raised : (epoch : Option ℕ) (c : ℕ) → AreBeside (raised_form epoch c)
 raised None c = tt
 raised (Some epoch) c = (refl, tt)
 
-module _ (e : Purpose) (b : Revocation) where
+module _ (e : CallContext) (b : Revocation) where
   at_form : (f : Option MarkForm) (o : ℕ) (allowed : Bool) → AreAside (revoke_at f e b o allowed)
   at_form None o allowed = tt
   at_form (Some Inflating) o allowed = tt
@@ -109,7 +115,7 @@ module _ (e : Purpose) (b : Revocation) where
   one : (o : ℕ) (allowed : Bool) → AreAside (revoke_steps e b o allowed)
   one o allowed = (record { quiet = refl; words = refl; keeps = refl }, λ mark. at_form (read_mark mark) o allowed)
 
-  module _ (s : Shape) (c : ℕ) (visit : ℕ → ℕ → Todo (Unit {0})) (visits : (o mark : ℕ) → AreAside (visit o mark)) where
+  module _ (s : Shape) (c : ℕ) (visit : ℕ → ℕ → StepTree (Unit {0})) (visits : (o mark : ℕ) → AreAside (visit o mark)) where
     held : (o : Option ℕ) → AreAside (visit_held s c e b visit o)
     held None = tt
     held (Some o) = then_aside (class_steps e (revocation_stage b) s o) _ (class_aside e (revocation_stage b) s o) (λ class. either_aside (class == c) _ _
@@ -126,7 +132,8 @@ module _ (e : Purpose) (b : Revocation) where
   take epoch t = (
     record { quiet = refl; words = refl; keeps = refl },
     λ mark. then_aside (store_steps e b (store_where (Mark b.object) (biased_word (is_biased mark) epoch t))) _
-        (stores e b (store_where (Mark b.object) (biased_word (is_biased mark) epoch t)) (where_mark b.object (biased_word (is_biased mark) epoch t))) (λ _. tt),
+        (stores e b (store_where (Mark b.object) (biased_word (is_biased mark) epoch t))
+        (where_mark b.object (biased_word (is_biased mark) epoch t))) (λ _. tt),
   )
 
   bulk_rebias : (s : Shape) (t c : ℕ) (epoch : Option ℕ) → AreAside (bulk_rebias_steps s t c e b epoch)
@@ -135,7 +142,8 @@ module _ (e : Purpose) (b : Revocation) where
     λ n. then_aside (store_steps e b (raised_form epoch c)) _ (stores e b (raised_form epoch c) (raised epoch c))
         (λ _. then_aside (walk_steps s c e b (λ o mark. store_steps e b (store_where (Mark o) (with_epoch (read_mark mark) (next_epoch epoch))))) _
         (walk s c (λ o mark. store_steps e b (store_where (Mark o) (with_epoch (read_mark mark) (next_epoch epoch))))
-        (λ o mark. stores e b (store_where (Mark o) (with_epoch (read_mark mark) (next_epoch epoch))) (where_mark o (with_epoch (read_mark mark) (next_epoch epoch)))))
+        (λ o mark. stores e b (store_where (Mark o) (with_epoch (read_mark mark) (next_epoch epoch)))
+        (where_mark o (with_epoch (read_mark mark) (next_epoch epoch)))))
         (λ _. then_aside (revoke_steps e b b.object b.rebias) _ (one b.object b.rebias) (λ _. either_aside b.rebias _ _ (take (next_epoch epoch) t) tt))),
   )
 
@@ -163,7 +171,7 @@ module _ (e : Purpose) (b : Revocation) where
   pub at_safepoint : (s : Shape) (t : ℕ) → AreAside (revoke_at_safepoint_steps s t e b)
   at_safepoint s t = (
     record { quiet = refl; words = refl; keeps = refl },
-    λ mark. then_aside (class_steps e Calm s b.object) _ (class_aside e Calm s b.object) (λ class. (
+    λ mark. then_aside (class_steps e Settled s b.object) _ (class_aside e Settled s b.object) (λ class. (
       record { quiet = refl; words = refl; keeps = refl },
       λ prototype. (
         record { quiet = refl; words = refl; keeps = refl },
@@ -175,22 +183,22 @@ module _ (e : Purpose) (b : Revocation) where
     )),
   )
 
-  behind_safepoint : (s : Shape) (t : ℕ) (turn : Turn (Unit {0}))
-      → AreAside (and_then turn (λ _. reached_revocation s t e b))
-  behind_safepoint s t (Done x) =
+  after_safepoint : (s : Shape) (t : ℕ) (progress : Progress (Unit {0}))
+      → AreAside (and_then progress (λ _. reached_revocation s t e b))
+  after_safepoint s t (Done x) =
       then_aside (revoke_at_safepoint_steps s t e b) _ (at_safepoint s t)
       (λ outcome. then_aside (deflate_steps s e (stage_after outcome.took b.object)) _ (deflate_aside s e (stage_after outcome.took b.object))
       (λ _. then_aside (release_to (stage_after outcome.took b.object) e t) _ (release (stage_after outcome.took b.object) e t) (λ _. tt)))
-  behind_safepoint s t (Pending cause) = tt
+  after_safepoint s t (Pending cause) = tt
 
   pub revocation_aside : (s : Shape) (t : ℕ) (requesting : Bool) → AreAside (revocation_steps s t requesting e b)
-  revocation_aside s t requesting = then_aside (safepoint_steps e t requesting) _ (safepoint_aside e t requesting) (behind_safepoint s t)
+  revocation_aside s t requesting = then_aside (safepoint_steps e t requesting) _ (safepoint_aside e t requesting) (after_safepoint s t)
 
 -- THE END OF A BIAS
-drop_swap : (e : Purpose) (o mark neutral : ℕ) → AreAside (unbias_swap_steps e o mark neutral)
+drop_swap : (e : CallContext) (o mark neutral : ℕ) → AreAside (unbias_swap_steps e o mark neutral)
 drop_swap e o mark neutral = (record { quiet = refl; words = refl; keeps = refl }, λ found. either_aside (found == mark) _ _ tt tt)
 
-drop_at : (f : Option MarkForm) (epoch : ℕ) (e : Purpose) (o mark : ℕ) → AreAside (bias_drop_at f epoch e o mark)
+drop_at : (f : Option MarkForm) (epoch : ℕ) (e : CallContext) (o mark : ℕ) → AreAside (bias_drop_at f epoch e o mark)
 drop_at (Some (Biased t old age)) epoch e o mark = either_aside (old == epoch) _ _ tt (drop_swap e o mark (mark_of (Neutral 0 0)))
 drop_at (Some (Anonymous old age)) epoch e o mark = drop_swap e o mark (mark_of (Neutral 0 0))
 drop_at None epoch e o mark = tt
@@ -200,31 +208,31 @@ drop_at (Some (Locked t p)) epoch e o mark = tt
 drop_at (Some (Inflated m)) epoch e o mark = tt
 drop_at (Some Marked) epoch e o mark = tt
 
-drop_by : (epoch : Option ℕ) (e : Purpose) (o mark prototype : ℕ) → AreAside (bias_drop_by epoch e o mark prototype)
+drop_by : (epoch : Option ℕ) (e : CallContext) (o mark prototype : ℕ) → AreAside (bias_drop_by epoch e o mark prototype)
 drop_by None e o mark prototype = drop_swap e o mark prototype
 drop_by (Some epoch) e o mark prototype = drop_at (read_mark mark) epoch e o mark
 
-drop : (s : Shape) (e : Purpose) (o : ℕ) → AreAside (bias_drop_steps s e o)
+drop : (s : Shape) (e : CallContext) (o : ℕ) → AreAside (bias_drop_steps s e o)
 drop s e o = (
   record { quiet = refl; words = refl; keeps = refl },
-  λ mark. either_aside (is_biased mark) _ _ (then_aside (class_steps e Calm s o) _ (class_aside e Calm s o)
+  λ mark. either_aside (is_biased mark) _ _ (then_aside (class_steps e Settled s o) _ (class_aside e Settled s o)
       (λ class. (record { quiet = refl; words = refl; keeps = refl }, λ prototype. drop_by (epoch_in prototype) e o mark prototype))) tt,
 )
 
-revoked_turn : (turn : Turn Bool) → AreAside (and_then turn (λ _. done_with (tt {0})))
-revoked_turn (Done took) = tt
-revoked_turn (Pending cause) = tt
+revoked_progress : (progress : Progress Bool) → AreAside (and_then progress (λ _. done_with (tt {0})))
+revoked_progress (Done took) = tt
+revoked_progress (Pending cause) = tt
 
-revoked : (s : Shape) (t : ℕ) (requesting : Bool) (e : Purpose) (b : Revocation) → AreAside (revoked_steps s t requesting e b)
-revoked s t requesting e b = then_aside (revocation_steps s t requesting e b) _ (revocation_aside e b s t requesting) revoked_turn
+revoked : (s : Shape) (t : ℕ) (requesting : Bool) (e : CallContext) (b : Revocation) → AreAside (revoked_steps s t requesting e b)
+revoked s t requesting e b = then_aside (revocation_steps s t requesting e b) _ (revocation_aside e b s t requesting) revoked_progress
 
-tried : (try : BiasTry) (s : Shape) (e : Purpose) (k : Start) (b : Revocation) → AreAside (unbias_tried try s e k b)
+tried : (try : BiasTry) (s : Shape) (e : CallContext) (k : Start) (b : Revocation) → AreAside (unbias_tried try s e k b)
 tried (Took path) s e k b = tt
 tried (Unbiased mark) s e k b = tt
 tried (Valid mark) s e k b = revoked s k.local.thread false e b
 tried (Raced expected found) s e k b = tt
 
-pub unbias_aside : (s : Shape) (e : Purpose) (k : Start) (b : Revocation) → AreAside (unbias_steps s e k b)
+pub unbias_aside : (s : Shape) (e : CallContext) (k : Start) (b : Revocation) → AreAside (unbias_steps s e k b)
 unbias_aside s e k b =
     either_aside k.requesting _ _ (revoked s k.local.thread true e b)
     (then_aside (bias_drop_steps s e b.object) _ (drop s e b.object) (λ try. tried try s e k b))

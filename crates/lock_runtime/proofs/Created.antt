@@ -1,5 +1,6 @@
 -- The object that a create makes: the heap has its number, and its thread knows it by its log.
-use Rattle.std.proofs.Common.{◌≡◌, ℕ, ◌+◌, ◌*◌, ◌<◌, ◌≤◌, ◌||◌, nat_lt, true, false, length, List, [], ◌∷◌, ◌++◌, Result, Ok, refl, sym, ap, ◌∙◌, subst, arith, lt-ltb, leb-true, eq-eqb}
+use Rattle.std.proofs.Common.{◌≡◌, ℕ, ◌+◌, ◌*◌, ◌<◌, ◌≤◌, ◌||◌, nat_lt, true, false, length, List, [], ◌∷◌}
+use Rattle.std.proofs.Common.{◌++◌, Result, Ok, refl, sym, ap, ◌∙◌, subst, arith, lt-ltb, leb-true, eq-eqb}
 use Rattle.std.proofs.Math.Bool.{or-true}
 use Rattle.std.proofs.lemmas.Bool.{and_from}
 use Rattle.std.proofs.lemmas.List.Folds.{list_any-append}
@@ -8,20 +9,20 @@ use Rattle.plain_monitor.specs.declared.entry.Entry.TheVariants.{New}
 use Rattle.plain_monitor.specs.declared.entry.Logged.{Logged}
 use Rattle.plain_monitor.specs.Made.{first_made}
 use Rattle.core_world.specs.declared.answer.TooMany.{TooMany}
-use Rattle.core_world.specs.Threads.Known.{Known, local_of}
+use Rattle.core_world.specs.Threads.ThreadView.{ThreadView, local_of}
 use Rattle.core_world.specs.Threads.References.{is_object, numbering, tells_of, is_told, knows_by_log, has_reference}
 use Rattle.core_world.specs.Trees.Calls.{has_made_numbers}
 use Rattle.core_world.specs.Trees.CreateSteps.{count_made, next_made}
 use Rattle.core_world.specs.Trees.Operations.{create_steps}
 use Rattle.core_world.specs.Words.Shape.{Shape}
-use Rattle.core_calls.proofs.CreatesSay.{create_stamps}
-use Rattle.heap_table.specs.Parts.{HasRun}
+use Rattle.core_calls.proofs.made.CreatesSay.{create_stamps}
+use Rattle.heap_table.specs.Parts.{HasMadeSteps}
 use Rattle.heap_table.specs.Resting.{Rests, start_now}
 use Rattle.heap_table.specs.Seen.{HeapSeen, PassSeen}
 use Rattle.lock_runtime.proofs.Declared.{declared_among, first_is_declared}
 
 -- the heap has each number that a thread has for its objects
-numbered : (s : Shape) (k : Known) → s.declared ≤ length s.objects → k.thread < s.threads → has_made_numbers s ≡ true
+numbered : (s : Shape) (k : ThreadView) → s.declared ≤ length s.objects → k.thread < s.threads → has_made_numbers s ≡ true
     → count_made (local_of k) < most_made → next_made s (local_of k) < length s.objects
 numbered s k most within all room =
     let first = first_is_declared s most in
@@ -36,7 +37,7 @@ told_new log stamp o c =
 
 pub created_known : (h : HeapSeen) (p q : PassSeen) (c o : ℕ) → Rests h p → has_made_numbers h.heap.shape ≡ true
     → count_made (local_of p.known) < most_made → o ≡ next_made h.heap.shape (local_of p.known)
-    → HasRun {A = Result ℕ TooMany} h (create_steps h.heap.shape (start_now h p) c) p q (Ok o) → has_reference h.heap.shape q.known o ≡ true
+    → HasMadeSteps {A = Result ℕ TooMany} h (create_steps h.heap.shape (start_now h p) c) p q (Ok o) → has_reference h.heap.shape q.known o ≡ true
 created_known h p q c o rests all room is run =
     let s = h.heap.shape in
     let here = numbered s p.known (declared_among h p rests.is_of) rests.is_of.within all room in

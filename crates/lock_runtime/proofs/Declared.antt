@@ -3,7 +3,7 @@ use Rattle.std.proofs.Common.{◌≡◌, ℕ, ◌<◌, ◌≤◌, true, length, 
 use Rattle.std.proofs.lemmas.Bool.{and_from, or_left}
 use Rattle.std.proofs.lemmas.List.{length-take, length-map}
 use Rattle.plain_monitor.specs.Made.{first_made}
-use Rattle.core_world.specs.Threads.Known.{Known}
+use Rattle.core_world.specs.Threads.ThreadView.{ThreadView}
 use Rattle.core_world.specs.Threads.References.{is_object, numbering, is_told, knows_by_log, has_reference}
 use Rattle.core_world.specs.Words.Shape.{Shape}
 use Rattle.core_world.specs.World.{World}
@@ -24,11 +24,11 @@ declared_among h p is_of =
     let r = is_of.real in
     subst (λ (z : Heap). z.shape.declared ≤ length z.shape.objects) r.is_of (sound_declared r.world r.sound)
 
--- so the first object that a thread makes has the number behind them
+-- so the first object that a thread makes has the number after them
 pub first_is_declared : (s : Shape) → s.declared ≤ length s.objects → first_made (numbering s) ≡ s.declared
 first_is_declared s most = grind (arith, length-take, length-map, most)
 
-known_of : (s : Shape) (k : Known) (o : ℕ) → s.declared ≤ length s.objects → o < s.declared → has_reference s k o ≡ true
+known_of : (s : Shape) (k : ThreadView) (o : ℕ) → s.declared ≤ length s.objects → o < s.declared → has_reference s k o ≡ true
 known_of s k o most l =
     let first = first_is_declared s most in
     and_from (is_object s o) (knows_by_log (numbering s) k.log o) (lt-ltb o (length s.objects) (omega (arith, l, most)))

@@ -2,89 +2,121 @@
 use Rattle.std.proofs.Common.{◌≡◌, ℕ, zero, suc, ◌+◌, ◌==◌, Bool, true, false, [], length, Result, Ok, Err, refl}
 use Rattle.mark_word.specs.Mark.{read_mark}
 use Rattle.core_world.specs.declared.answer.TooManyDumps.{TooManyDumps}
-use Rattle.core_world.specs.declared.answer.Turn.{Turn}
-use Rattle.core_world.specs.declared.answer.Turn.TheVariants.{Done, Pending}
-use Rattle.core_world.specs.declared.name.Name.TheVariants as name
+use Rattle.core_world.specs.declared.answer.Progress.{Progress}
+use Rattle.core_world.specs.declared.answer.Progress.TheVariants.{Done, Pending}
+use Rattle.core_world.specs.declared.word_id.WordId.TheVariants as id
 use Rattle.core_world.specs.declared.stage.Stage.{Stage}
-use Rattle.core_world.specs.declared.task.Task.{Task}
+use Rattle.core_world.specs.declared.heap_call.HeapCall.{HeapCall}
 use Rattle.core_world.specs.Trees.DeflateSteps.{deflate_monitor, deflate_steps}
-use Rattle.core_world.specs.Trees.LookSteps.{look_behind, look_at_objects, take_shot_steps}
+use Rattle.core_world.specs.Trees.LookSteps.{look_at_named, look_at_objects, take_shot_steps}
 use Rattle.core_world.specs.Trees.Operations.{dump_steps}
-use Rattle.core_world.specs.Trees.Plans.{Purpose, load}
-use Rattle.core_world.specs.Trees.Todo.{Todo, done, ◌>>=◌, ask, all_from}
-use Rattle.core_world.specs.Threads.Known.{Known, Local, start_of}
+use Rattle.core_world.specs.Trees.Plans.{CallContext, load}
+use Rattle.core_world.specs.Trees.StepTree.{StepTree, done, ◌>>=◌, ask, all_from}
+use Rattle.core_world.specs.Threads.ThreadView.{ThreadView, Local, start_of}
 use Rattle.core_world.specs.Words.Shape.{Shape, monitor_count}
-use Rattle.revoke_walk.specs.ShotParts.{HasShot}
-use Rattle.heap_table.specs.Parts.{HasRun}
+use Rattle.safepoint_work.specs.ShotParts.{HasShot}
+use Rattle.heap_table.specs.Parts.{HasMadeSteps}
 use Rattle.heap_table.specs.Seen.{HeapSeen, PassSeen, IsOf}
 use Rattle.heap_table.specs.Resting.{MayCall, Rests, start_now}
-use Rattle.heap_table.proofs.Resting.{IsCallOf, behind}
+use Rattle.heap_table.proofs.Resting.{IsCallOf, rests_after}
 use Rattle.core_world.specs.Trees.Calls.{steps_of, end}
 use Rattle.core_world.specs.Due.{Ran}
-use Rattle.core_calls.proofs.ShotsKept.{dump_shoots, dump_pends, dump_refuses}
+use Rattle.core_calls.proofs.shot.ShotsKept.{dump_shoots, dump_pends, dump_refuses}
 use Rattle.lock_runtime.specs.LookParts.{HasDumped}
 use Rattle.lock_runtime.specs.inner.LookParts.{numbered_dump}
 use Rattle.lock_runtime.specs.Shots.{HasShots}
-use Rattle.lock_runtime.proofs.Behind.{first_then, arm_first}
+use Rattle.lock_runtime.proofs.After.{first_then, arm_first}
 
 -- the pass without its draft
 abbrev pub bare : PassSeen → PassSeen
 bare p = record p { cut = []; cells = [] }
 
-module _ {A : Type 0} (h : HeapSeen) (d : Todo A) (p q : PassSeen) (a : A) where
-  pub dumped_of : HasRun h d (bare p) (bare q) a → HasDumped h d p q a
+module _ {A : Type 0} (h : HeapSeen) (d : StepTree A) (p q : PassSeen) (a : A) where
+  pub dumped_of : HasMadeSteps h d (bare p) (bare q) a → HasDumped h d p q a
   dumped_of run = record {
-    heap = record { table = run.heap.table; room = run.heap.room; within = run.heap.within; classes = run.heap.classes; first = run.heap.first; threads = run.heap.threads; objects = run.heap.objects; real = run.heap.real };
+    heap = record {
+      table = run.heap.table;
+      room = run.heap.room;
+      within = run.heap.within;
+      classes = run.heap.classes;
+      first = run.heap.first;
+      threads = run.heap.threads;
+      objects = run.heap.objects;
+      real = run.heap.real;
+    };
     limit = run.limit;
     ran = run.ran;
   }
 
-  pub run_of : HasDumped h d p q a → HasRun h d (bare p) (bare q) a
+  pub run_of : HasDumped h d p q a → HasMadeSteps h d (bare p) (bare q) a
   run_of run = record {
-    heap = record { table = run.heap.table; room = run.heap.room; within = run.heap.within; classes = run.heap.classes; first = run.heap.first; threads = run.heap.threads; objects = run.heap.objects; real = run.heap.real };
+    heap = record {
+      table = run.heap.table;
+      room = run.heap.room;
+      within = run.heap.within;
+      classes = run.heap.classes;
+      first = run.heap.first;
+      threads = run.heap.threads;
+      objects = run.heap.objects;
+      real = run.heap.real;
+    };
     limit = run.limit;
     cut = refl;
     cells = refl;
     ran = run.ran;
   }
 
-  pub bare_run : HasRun h d p q a → HasRun h d (bare p) (bare q) a
+  pub bare_run : HasMadeSteps h d p q a → HasMadeSteps h d (bare p) (bare q) a
   bare_run run = run_of (record { heap = run.heap; limit = run.limit; ran = run.ran })
 
-pub of_shot : (h : HeapSeen) (d : Todo (Unit {0})) (p q : PassSeen) → HasShot h d p q → HasRun h d (bare p) (bare q) tt
+pub of_shot : (h : HeapSeen) (d : StepTree (Unit {0})) (p q : PassSeen) → HasShot h d p q → HasMadeSteps h d (bare p) (bare q) tt
 of_shot h d p q run = run_of h d p q tt (record { heap = run.heap; limit = run.limit; ran = run.ran })
 
--- and behind such a run of a whole call its thread rests
-pub dumped_rests : {A : Type 0} (h : HeapSeen) (p q : PassSeen) (t : Task) (c : MayCall h p t) (d : Todo A) (a : A) → steps_of h.heap.shape t (start_now h p) ≡ (d >>= end) → IsCallOf t d
+-- and after such a run of a whole call its thread rests
+pub dumped_rests : {A : Type 0} (h : HeapSeen) (p q : PassSeen) (t : HeapCall) (c : MayCall h p t) (d : StepTree A) (a : A)
+    → steps_of h.heap.shape t (start_now h p) ≡ (d >>= end) → IsCallOf t d
     → HasDumped h d p q a → Rests h q
 dumped_rests h p q t c d a is first run =
     let i = c.rests.is_of in
-    let bare_of : IsOf h (bare p) = record { table = i.table; room = i.room; within = i.within; classes = i.classes; first = i.first; threads = i.threads; objects = i.objects; real = i.real } in
-    let over = (behind h (bare p) t (record { rests = record { is_of = bare_of; over = c.rests.over }; may = c.may }) d is first (bare q) a (run_of h d p q a run)).over in
+    let bare_of : IsOf h (bare p) = record {
+      table = i.table;
+      room = i.room;
+      within = i.within;
+      classes = i.classes;
+      first = i.first;
+      threads = i.threads;
+      objects = i.objects;
+      real = i.real;
+    } in
+    let over = (rests_after h (bare p) t (record {
+      rests = record { is_of = bare_of; over = c.rests.over };
+      may = c.may;
+    }) d is first (bare q) a (run_of h d p q a run)).over in
     record { is_of = run.heap; over = over }
 
 -- FIRST STEPS
-all_first : (t : Task) (i n : ℕ) (f : ℕ → Todo (Unit {0})) → ((j : ℕ) → IsCallOf t (f j)) → IsCallOf t (all_from i n f)
+all_first : (t : HeapCall) (i n : ℕ) (f : ℕ → StepTree (Unit {0})) → ((j : ℕ) → IsCallOf t (f j)) → IsCallOf t (all_from i n f)
 all_first t i zero f each = tt
 all_first t i (suc n) f each = first_then t (f i) _ (each i) (λ _. all_first t (i + 1) n f each)
 
-pub first_shot : (e : Purpose) (s : Shape) → IsCallOf e.task (take_shot_steps e s)
+pub first_shot : (e : CallContext) (s : Shape) → IsCallOf e.task (take_shot_steps e s)
 first_shot e s = first_then e.task (look_at_objects e s) _
-    (all_first e.task 0 (length s.objects) (λ o. ask (load e (name.Mark o)) >>= (λ mark. look_behind (read_mark mark) e s o)) (λ o. refl))
-    (λ _. first_then e.task (all_from 0 s.threads (λ t. ask (load e (name.Length t)) >>= (λ _. done tt))) _
-    (all_first e.task 0 s.threads (λ t. ask (load e (name.Length t)) >>= (λ _. done tt)) (λ t. refl)) (λ _. refl))
+    (all_first e.task 0 (length s.objects) (λ o. ask (load e (id.Mark o)) >>= (λ mark. look_at_named (read_mark mark) e s o)) (λ o. refl))
+    (λ _. first_then e.task (all_from 0 s.threads (λ t. ask (load e (id.Length t)) >>= (λ _. done tt))) _
+    (all_first e.task 0 s.threads (λ t. ask (load e (id.Length t)) >>= (λ _. done tt)) (λ t. refl)) (λ _. refl))
 
-pub first_deflation : (s : Shape) (e : Purpose) (stage : Stage) → IsCallOf e.task (deflate_steps s e stage)
+pub first_deflation : (s : Shape) (e : CallContext) (stage : Stage) → IsCallOf e.task (deflate_steps s e stage)
 first_deflation s e stage =
     arm_first e.task (length s.objects == 0) (done tt) (all_from 0 (monitor_count s) (λ m. deflate_monitor s e stage m)) tt
     (all_first e.task 0 (monitor_count s) (λ m. deflate_monitor s e stage m) (λ m. refl))
 
-pub first_dump : (s : Shape) (requesting : Bool) (e : Purpose) (k : Local) (number : ℕ) → IsCallOf e.task (numbered_dump s requesting e k number)
+pub first_dump : (s : Shape) (requesting : Bool) (e : CallContext) (k : Local) (number : ℕ) → IsCallOf e.task (numbered_dump s requesting e k number)
 first_dump s true e k number = refl
 first_dump s false e k number = refl
 
--- THE SHOTS behind a dump: one more, with the number that it answers, or the same
-pub dump_has_shots : (h : HeapSeen) (k l : Known) (r : Result (Turn ℕ) TooManyDumps) → Ran h.heap.shape h.heap.start (dump_steps h.heap.shape (start_of h.heap.start k)) k l r → HasShots k.shots l.shots r
+-- THE SHOTS after a dump: one more, with the number that it answers, or the same
+pub dump_has_shots : (h : HeapSeen) (k l : ThreadView) (r : Result (Progress ℕ) TooManyDumps)
+    → Ran h.heap.shape h.heap.start (dump_steps h.heap.shape (start_of h.heap.start k)) k l r → HasShots k.shots l.shots r
 dump_has_shots h k l (Ok (Done number)) ran = dump_shoots h.heap.shape h.heap.start h.heap.shape (start_of h.heap.start k) k l number refl ran
 dump_has_shots h k l (Ok (Pending why)) ran = dump_pends h.heap.shape h.heap.start h.heap.shape (start_of h.heap.start k) k l why ran
 dump_has_shots h k l (Err e) ran = dump_refuses h.heap.shape h.heap.start h.heap.shape (start_of h.heap.start k) k l e ran

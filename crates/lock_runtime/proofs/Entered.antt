@@ -5,17 +5,17 @@ use Rattle.mark_word.specs.declared.mark.MarkForm.TheVariants.{Inflating, Neutra
 use Rattle.mark_word.specs.Mark.{read_mark}
 use Rattle.core_world.specs.declared.answer.BiasTry.{BiasTry}
 use Rattle.core_world.specs.declared.answer.BiasTry.TheVariants.{Took, Unbiased, Valid, Raced}
-use Rattle.core_world.specs.declared.answer.Turn.{Turn}
-use Rattle.core_world.specs.Threads.Known.{Start}
+use Rattle.core_world.specs.declared.answer.Progress.{Progress}
+use Rattle.core_world.specs.Threads.ThreadView.{Start}
 use Rattle.core_world.specs.Trees.LockSteps.{stack_enter_steps}
 use Rattle.core_world.specs.Trees.MonitorSteps.{inflate_steps, monitor_enter_steps}
 use Rattle.core_world.specs.Trees.Operations.{and_then, enter_at, enter_monitor_steps, enter_unbiased}
-use Rattle.core_world.specs.Trees.Plans.{Purpose}
-use Rattle.core_world.specs.Trees.Todo.{never, ◌>>=◌}
+use Rattle.core_world.specs.Trees.Plans.{CallContext}
+use Rattle.core_world.specs.Trees.StepTree.{unreachable, ◌>>=◌}
 use Rattle.core_world.specs.Words.Shape.{Shape}
 
-pub never_entered : (f : MarkForm) (s : Shape) (e : Purpose) (k : Start) (o mark : ℕ) → (f ≡ Inflating → ⊥) → ((hash age : ℕ) → f ≡ Neutral hash age → ⊥)
-    → ((t p : ℕ) → f ≡ Locked t p → ⊥) → ((m : ℕ) → f ≡ Inflated m → ⊥) → enter_at (Some f) s e k o mark ≡ never
+pub never_entered : (f : MarkForm) (s : Shape) (e : CallContext) (k : Start) (o mark : ℕ) → (f ≡ Inflating → ⊥) → ((hash age : ℕ) → f ≡ Neutral hash age → ⊥)
+    → ((t p : ℕ) → f ≡ Locked t p → ⊥) → ((m : ℕ) → f ≡ Inflated m → ⊥) → enter_at (Some f) s e k o mark ≡ unreachable
 never_entered Inflating s e k o mark inflating neutral locked inflated = absurd (inflating refl)
 never_entered (Neutral hash age) s e k o mark inflating neutral locked inflated = absurd (neutral hash age refl)
 never_entered (Anonymous epoch age) s e k o mark inflating neutral locked inflated = refl
@@ -24,12 +24,12 @@ never_entered (Locked t p) s e k o mark inflating neutral locked inflated = absu
 never_entered (Inflated m) s e k o mark inflating neutral locked inflated = absurd (inflated m refl)
 never_entered Marked s e k o mark inflating neutral locked inflated = refl
 
-module _ (s : Shape) (e : Purpose) (k l : Start) (o : ℕ) (local : k.local ≡ l.local) (kept : k.kept ≡ l.kept) where
+module _ (s : Shape) (e : CallContext) (k l : Start) (o : ℕ) (local : k.local ≡ l.local) (kept : k.kept ≡ l.kept) where
   by_record : (mark t : ℕ)
       → (if t == k.local.thread then stack_enter_steps e k.local o mark else enter_monitor_steps s e k o)
       ≡ (if t == l.local.thread then stack_enter_steps e l.local o mark else enter_monitor_steps s e l o)
   by_record mark t = λ i. if t == (local i).thread then stack_enter_steps e (local i) o mark
-      else (inflate_steps s e (kept i) o >>= (λ (turn : Turn ℕ). and_then turn (λ m. monitor_enter_steps e (local i) o m)))
+      else (inflate_steps s e (kept i) o >>= (λ (progress : Progress ℕ). and_then progress (λ m. monitor_enter_steps e (local i) o m)))
 
   pub enters_alike : (f : Option MarkForm) (mark : ℕ) → enter_at f s e k o mark ≡ enter_at f s e l o mark
   enters_alike None mark = refl

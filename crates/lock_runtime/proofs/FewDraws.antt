@@ -1,5 +1,6 @@
 -- A thread draws no more hashes than the heap has objects: each draw that it logged gave a hash to an object, and no object got two.
-use Rattle.std.proofs.Common.{◌≡◌, ℕ, zero, suc, ◌+◌, ◌<◌, ◌≤◌, ◌==◌, Bool, true, false, cond, List, [], ◌∷◌, Option, Some, None, length, refl, sym, ap, ◌∙◌, subst, arith, inl, inr, eq-eqb}
+use Rattle.std.proofs.Common.{◌≡◌, ℕ, zero, suc, ◌+◌, ◌<◌, ◌≤◌, ◌==◌, Bool, true, false, cond, List, [], ◌∷◌}
+use Rattle.std.proofs.Common.{Option, Some, None, length, refl, sym, ap, ◌∙◌, subst, arith, inl, inr, eq-eqb}
 use Rattle.std.proofs.lemmas.Bool.{cases_lt}
 use Rattle.std.proofs.lemmas.List.{get_or_past}
 use Rattle.plain_monitor.specs.Limits.{most_in_all}
@@ -7,13 +8,13 @@ use Rattle.plain_monitor.specs.Objects.{PlainObject, new_object}
 use Rattle.plain_monitor.specs.declared.entry.Logged.{Logged}
 use Rattle.core_world.specs.Clauses.Draws.{Draw, draw_in, drawn_by, drawn_for, draws_in, draws_for, all_draws}
 use Rattle.core_world.specs.Locks.{hash_at, or_zero}
-use Rattle.core_world.specs.Threads.Known.{Known}
+use Rattle.core_world.specs.Threads.ThreadView.{ThreadView}
 use Rattle.core_world.specs.Threads.Stages.{one_if}
 use Rattle.core_world.specs.Valid.{Fits, IsValid}
 use Rattle.core_world.specs.Words.Shape.{Shape}
 use Rattle.core_world.specs.World.{World, logs_from}
 use Rattle.core_world.proofs.KnowledgeParts.{by_equal}
-use Rattle.core_law.specs.Logic.{Stands}
+use Rattle.core_law.specs.Logic.{SoundWorldWith}
 use Rattle.core_law.proofs.Standing.{home, valid_here}
 use Rattle.heap_table.specs.Seen.{HeapSeen, PassSeen, IsOf}
 
@@ -68,7 +69,7 @@ each_once zero log once = omega arith
 each_once (suc n) log once = let a = each_once n log once in let b = once n in omega (arith, a, b)
 
 -- the draws of one log are among those of all
-among : (o u n t i : ℕ) (f : ℕ → Known) → i ≡ u + t → t < n → draws_for o (f i).log ≤ all_draws o (logs_from u n f)
+among : (o u n t i : ℕ) (f : ℕ → ThreadView) → i ≡ u + t → t < n → draws_for o (f i).log ≤ all_draws o (logs_from u n f)
 among o u zero t i f e lt = absurd (omega (arith, lt))
 among o u (suc n) zero i f e lt =
     let here : i ≡ u = omega (arith, e) in
@@ -104,13 +105,20 @@ valid_few w P t within (inr s) =
     let before = fits_few s.before P t there s.fits in
     by_equal t s.requester
     (λ e. let same : (w.known t).draws ≡ (s.before.known t).draws =
-    ap (λ u. (w.known u).draws) e ∙ ap (λ (k : Known). k.draws) s.knows ∙ ap (λ u. (s.before.known u).draws) (sym e) in omega (arith, same, before))
-    (λ d. let same = ap (λ (k : Known). k.draws) (s.others t d) in omega (arith, same, before))
+    ap (λ u. (w.known u).draws) e ∙ ap (λ (k : ThreadView). k.draws) s.knows ∙ ap (λ u. (s.before.known u).draws) (sym e) in omega (arith, same, before))
+    (λ d. let same = ap (λ (k : ThreadView). k.draws) (s.others t d) in omega (arith, same, before))
 
 pub few_draws : (h : HeapSeen) (p : PassSeen) → IsOf h p → p.known.draws ≤ most_in_all
 few_draws h p is_of =
     let r = is_of.real in
-    let stands : Stands h.heap p.known = record { world = r.world; objects = r.sound.valid.objects; is_of = r.is_of; knows = r.knew; within = is_of.within; valid = r.sound.valid.is } in
+    let stands : SoundWorldWith h.heap p.known = record {
+      world = r.world;
+      objects = r.sound.valid.objects;
+      is_of = r.is_of;
+      knows = r.knew;
+      within = is_of.within;
+      valid = r.sound.valid.is;
+    } in
     let there : p.known.thread < r.world.shape.threads = subst (λ z. p.known.thread < z.shape.threads) (sym r.is_of) is_of.within in
     home h.heap p.known stands (λ s y. y.draws ≤ most_in_all)
     (valid_few r.world r.sound.valid.objects p.known.thread there (valid_here h.heap p.known stands))

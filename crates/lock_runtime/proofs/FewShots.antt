@@ -1,11 +1,11 @@
 -- A thread has taken at most four shots, since it has in each valid world.
 use Rattle.std.proofs.Common.{◌≡◌, ℕ, ◌≤◌, List, length, sym, ap, ◌∙◌, subst, inl, inr}
 use Rattle.plain_monitor.specs.Objects.{PlainObject}
-use Rattle.core_world.specs.Threads.Known.{Known, DumpShot}
+use Rattle.core_world.specs.Threads.ThreadView.{ThreadView, DumpShot}
 use Rattle.core_world.specs.Valid.{IsValid}
 use Rattle.core_world.specs.World.{World}
 use Rattle.core_world.proofs.KnowledgeParts.{by_equal}
-use Rattle.core_world.proofs.LookWhileRevoking.{forgotten}
+use Rattle.core_world.proofs.bias.LookWhileRevoking.{forgotten}
 use Rattle.core_law.specs.WholeLaw.{LawsHold}
 use Rattle.heap_table.specs.Seen.{HeapSeen, PassSeen, IsOf}
 
@@ -17,12 +17,12 @@ valid_few w P (inr s) t =
     by_equal t s.requester
     (λ e.
     let mine : (w.known t).shots ≡ (s.before.known t).shots =
-    ap (λ (u : ℕ). (w.known u).shots) e ∙ ap (λ (k : Known). k.shots) s.knows ∙ ap (λ (u : ℕ). (s.before.known u).shots) (sym e) in
+    ap (λ (u : ℕ). (w.known u).shots) e ∙ ap (λ (k : ThreadView). k.shots) s.knows ∙ ap (λ (u : ℕ). (s.before.known u).shots) (sym e) in
     subst (λ (l : List DumpShot). length l ≤ 4) (sym mine) (then t))
-    (λ d. subst (λ (k : Known). length k.shots ≤ 4) (sym (s.others t d)) (then t))
+    (λ d. subst (λ (k : ThreadView). length k.shots ≤ 4) (sym (s.others t d)) (then t))
 
 pub few_shots : (h : HeapSeen) (p : PassSeen) → IsOf h p → length p.known.shots ≤ 4
 few_shots h p is_of =
     let r = is_of.real in
     let v = r.sound.valid in
-    subst (λ (k : Known). length k.shots ≤ 4) r.knew (valid_few r.world v.objects (forgotten LawsHold r.world v.objects v.is) p.known.thread)
+    subst (λ (k : ThreadView). length k.shots ≤ 4) r.knew (valid_few r.world v.objects (forgotten LawsHold r.world v.objects v.is) p.known.thread)

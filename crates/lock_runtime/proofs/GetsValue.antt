@@ -5,11 +5,11 @@ use Rattle.plain_monitor.specs.declared.entry.Value.{Value}
 use Rattle.plain_monitor.specs.declared.entry.Value.TheVariants.{Nil, Int, Ref}
 use Rattle.plain_monitor.specs.ValueWords.{IsSpellable, read_value}
 use Rattle.plain_monitor.proofs.ValuesRead.{read_value-spells}
-use Rattle.core_world.specs.declared.name.Name.TheVariants.{Slot}
+use Rattle.core_world.specs.declared.word_id.WordId.TheVariants.{Slot}
 use Rattle.core_world.specs.declared.plan.StepPlan.{StepPlan}
 use Rattle.core_world.specs.Clauses.Slots.{IsHere}
 use Rattle.core_world.specs.Locks.{object_of}
-use Rattle.core_world.specs.Threads.Known.{Known}
+use Rattle.core_world.specs.Threads.ThreadView.{ThreadView}
 use Rattle.core_world.specs.Trees.Calls.{is_value}
 use Rattle.core_world.specs.Trees.Operations.{value_found}
 use Rattle.core_world.specs.Valid.{Fits}
@@ -31,7 +31,7 @@ value_here s Nil spells here = refl
 value_here s (Int i) spells here = λ j. passed _ spells.0.le j && passed _ spells.1.le j
 value_here s (Ref o) spells here = lt-ltb o (length s.objects) here
 
-pub slot_value : (heap : Heap) (k : Known) (plan : StepPlan) (o slot word : ℕ) → plan.at ≡ Slot o slot → Stepped heap k plan word
+pub slot_value : (heap : Heap) (k : ThreadView) (plan : StepPlan) (o slot word : ℕ) → plan.at ≡ Slot o slot → Stepped heap k plan word
     → k.thread < heap.shape.threads → k.running ≡ true → slot < slots_of heap.shape o
     → is_value heap.shape (value_found (read_value word)) ≡ true
 slot_value heap k plan o slot word at stepped within runs low =

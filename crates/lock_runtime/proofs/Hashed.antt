@@ -3,37 +3,39 @@ use Rattle.std.proofs.Common.{◌≡◌, ℕ, ◌+◌, ◌≤◌, List, [], ◌�
 use Rattle.plain_monitor.specs.Objects.{PlainObject}
 use Rattle.plain_monitor.specs.declared.entry.Logged.{Logged}
 use Rattle.core_world.specs.Clauses.Lengths.{log_limit}
-use Rattle.core_world.specs.declared.answer.Turn.{Turn}
-use Rattle.core_world.specs.declared.answer.Turn.TheVariants.{Done, Pending}
+use Rattle.core_world.specs.declared.answer.Progress.{Progress}
+use Rattle.core_world.specs.declared.answer.Progress.TheVariants.{Done, Pending}
 use Rattle.core_world.specs.Clauses.Draws.{Draw, draw_in, drawn_by, draws_in}
-use Rattle.core_world.specs.Threads.Known.{Known, Start, draw_of}
+use Rattle.core_world.specs.Threads.ThreadView.{ThreadView, Start, draw_of}
 use Rattle.core_world.specs.Trees.HashSteps.{hash_header_steps}
 use Rattle.core_world.specs.Trees.Operations.{and_then, no_bias, unbias_steps}
-use Rattle.core_world.specs.Trees.Plans.{Purpose}
+use Rattle.core_world.specs.Trees.Plans.{CallContext}
 use Rattle.core_world.specs.Valid.{Fits, IsValid}
 use Rattle.core_world.specs.World.{World}
 use Rattle.core_world.specs.Words.Shape.{Shape}
 use Rattle.core_world.proofs.KnowledgeParts.{by_equal}
-use Rattle.core_law.specs.Logic.{Stands}
+use Rattle.core_law.specs.Logic.{SoundWorldWith}
 use Rattle.core_law.proofs.Standing.{home, valid_here}
 use Rattle.heap_table.specs.Resting.{start_now}
 use Rattle.heap_table.specs.Seen.{HeapSeen, PassSeen, IsOf}
 use Rattle.heap_table.proofs.Aside.{StartsAlike}
 use Rattle.heap_table.proofs.Resting.{IsCallOf}
 use Rattle.lock_runtime.specs.inner.HashParts.{hash_unbiased, hash_going}
-use Rattle.lock_runtime.proofs.Behind.{first_then}
+use Rattle.lock_runtime.proofs.After.{first_then}
 use Rattle.lock_runtime.proofs.Unbiased.{first_unbias}
 
 -- THE NEXT DRAW is the one of the pass's generator
-pub hash_alike : (h : HeapSeen) (p q : PassSeen) (e : Purpose) (o : ℕ) → StartsAlike p.known q.known → hash_unbiased h.heap.shape e (start_now h p) o ≡ hash_unbiased h.heap.shape e (start_now h q) o
+pub hash_alike : (h : HeapSeen) (p q : PassSeen) (e : CallContext) (o : ℕ) → StartsAlike p.known q.known
+    → hash_unbiased h.heap.shape e (start_now h p) o ≡ hash_unbiased h.heap.shape e (start_now h q) o
 hash_alike h p q e o alike = λ i.
     hash_header_steps h.heap.shape e (sym alike.local i) (sym alike.kept i)
     (record { number = sym alike.draws i + 1; value = draw_of h.heap.start (sym alike.local i).thread (sym alike.draws i + 1) }) o
 
 -- its first step is one of its call
-pub first_hash : (s : Shape) (e : Purpose) (k : Start) (o now : ℕ) → IsCallOf e.task (hash_going s e k o now)
-first_hash s e k o now = first_then e.task (unbias_steps s e k (no_bias o now)) (λ turn. and_then turn (λ _. hash_unbiased s e k o)) (first_unbias s e k (no_bias o now)) behind
+pub first_hash : (s : Shape) (e : CallContext) (k : Start) (o now : ℕ) → IsCallOf e.task (hash_going s e k o now)
+first_hash s e k o now = first_then e.task (unbias_steps s e k (no_bias o now))
+    (λ progress. and_then progress (λ _. hash_unbiased s e k o)) (first_unbias s e k (no_bias o now)) after
   where
-    behind : (turn : Turn (Unit {0})) → IsCallOf e.task (and_then turn (λ _. hash_unbiased s e k o))
-    behind (Done x) = refl
-    behind (Pending cause) = tt
+    after : (progress : Progress (Unit {0})) → IsCallOf e.task (and_then progress (λ _. hash_unbiased s e k o))
+    after (Done x) = refl
+    after (Pending cause) = tt

@@ -5,69 +5,72 @@ use Rattle.mark_word.specs.declared.mark.MarkForm.TheVariants.{Inflating, Neutra
 use Rattle.mark_word.specs.Mark.{read_mark}
 use Rattle.plain_monitor.specs.declared.entry.Path.{Path}
 use Rattle.plain_monitor.specs.declared.entry.Path.TheVariants.{BiasTaken, BiasOwn}
-use Rattle.core_world.specs.declared.plan.Own.{Own}
-use Rattle.core_world.specs.declared.plan.Own.TheVariants as own
+use Rattle.core_world.specs.declared.plan.LocalEffect.{LocalEffect}
+use Rattle.core_world.specs.declared.plan.LocalEffect.TheVariants as own
 use Rattle.core_world.specs.declared.plan.StepPlan.{StepPlan}
-use Rattle.core_world.specs.declared.stage.Stage.TheVariants.{Calm, Enters}
+use Rattle.core_world.specs.declared.stage.Stage.TheVariants.{Settled, Enters}
 use Rattle.core_world.specs.Due.{Runs}
 use Rattle.core_world.specs.Steps.{known_after, known_hit, known_miss, kept_after}
-use Rattle.core_world.specs.Threads.Known.{Known, Local}
-use Rattle.core_world.specs.Trees.BiasSteps.{took_steps, unbias_swap_steps, rebias_steps, bias_enter_at, bias_enter_by, bias_enter_steps, bias_after_at, bias_after_steps}
+use Rattle.core_world.specs.Threads.ThreadView.{ThreadView, Local}
+use Rattle.core_world.specs.Trees.BiasSteps.{took_steps, unbias_swap_steps, rebias_steps, bias_enter_at}
+use Rattle.core_world.specs.Trees.BiasSteps.{bias_enter_by, bias_enter_steps, bias_after_at, bias_after_steps}
 use Rattle.core_world.specs.Trees.LockSteps.{store_ready_plan, hold_steps, log_enter_steps}
-use Rattle.core_world.specs.Trees.Plans.{Purpose, free_place, class_steps}
-use Rattle.core_world.specs.Trees.Todo.{Todo, done, never, step, ◌>>=◌}
+use Rattle.core_world.specs.Trees.Plans.{CallContext, free_place, class_steps}
+use Rattle.core_world.specs.Trees.StepTree.{StepTree, done, unreachable, step, ◌>>=◌}
 use Rattle.core_world.specs.Words.Acts.{hits}
 use Rattle.core_world.specs.Words.Forms.{is_biased, is_entering}
 use Rattle.core_world.specs.Words.Shape.{Shape}
-use Rattle.heap_table.specs.Parts.{HasRun}
+use Rattle.heap_table.specs.Parts.{HasMadeSteps}
 use Rattle.heap_table.specs.Seen.{HeapSeen, PassSeen}
 
-abbrev pub AreSame : {A : Type 0} → Todo A → Type 0
+abbrev pub AreSame : {A : Type 0} → StepTree A → Type 0
 AreSame (done a) = Unit {0}
-AreSame never = Unit {0}
-AreSame (step p f) = (p.own ≡ own.Same) × ((n : ℕ) → AreSame (f n))
+AreSame unreachable = Unit {0}
+AreSame (step p f) = (p.own ≡ own.Unchanged) × ((n : ℕ) → AreSame (f n))
 
-step_keeps : (s : Shape) (start : ℕ) (p : StepPlan) (n : ℕ) (k : Known) → p.own ≡ own.Same → (known_after s start p n k).kept ≡ k.kept
+step_keeps : (s : Shape) (start : ℕ) (p : StepPlan) (n : ℕ) (k : ThreadView) → p.own ≡ own.Unchanged → (known_after s start p n k).kept ≡ k.kept
 step_keeps s start p n k same = cases (hits p.act n)
   where
     cases : (b : Bool) → (cond b (known_hit s start p n k) (known_miss s start p n k)).kept ≡ k.kept
-    cases true = ap (λ (o : Own). kept_after o n k.kept) same
+    cases true = ap (λ (o : LocalEffect). kept_after o n k.kept) same
     cases false = refl
 
-run_keeps : {A : Type 0} (s : Shape) (start : ℕ) (d : Todo A) (k l : Known) (a : A) → AreSame d → Runs s start d k l a → l.kept ≡ k.kept
-run_keeps s start (done b) k l a same run = ap (λ (x : Known). x.kept) run.0
-run_keeps s start never k l a same run = absurd run
-run_keeps s start (step p f) k l a same run = run_keeps s start (f run.0) (known_after s start p run.0 k) l a (same.1 run.0) run.1 ∙ step_keeps s start p run.0 k same.0
+run_keeps : {A : Type 0} (s : Shape) (start : ℕ) (d : StepTree A) (k l : ThreadView) (a : A) → AreSame d → Runs s start d k l a → l.kept ≡ k.kept
+run_keeps s start (done b) k l a same run = ap (λ (x : ThreadView). x.kept) run.0
+run_keeps s start unreachable k l a same run = absurd run
+run_keeps s start (step p f) k l a same run =
+    run_keeps s start (f run.0) (known_after s start p run.0 k) l a (same.1 run.0) run.1 ∙ step_keeps s start p run.0 k same.0
 
-pub keeps : {A : Type 0} (h : HeapSeen) (d : Todo A) (p q : PassSeen) (a : A) → AreSame d → HasRun h d p q a → q.known.kept ≡ p.known.kept
+pub keeps : {A : Type 0} (h : HeapSeen) (d : StepTree A) (p q : PassSeen) (a : A) → AreSame d → HasMadeSteps h d p q a → q.known.kept ≡ p.known.kept
 keeps h d p q a same run = run_keeps h.heap.shape h.heap.start d p.known q.known a same run.ran.by
 
-either : {A : Type 0} (b : Bool) (x y : Todo A) → AreSame x → AreSame y → AreSame (if b then x else y)
+either : {A : Type 0} (b : Bool) (x y : StepTree A) → AreSame x → AreSame y → AreSame (if b then x else y)
 either true x y one two = one
 either false x y one two = two
 
-in_order : {A B : Type 0} (d : Todo A) (g : A → Todo B) → AreSame d → ((a : A) → AreSame (g a)) → AreSame (d >>= g)
+in_order : {A B : Type 0} (d : StepTree A) (g : A → StepTree B) → AreSame d → ((a : A) → AreSame (g a)) → AreSame (d >>= g)
 in_order (done a) g one two = two a
-in_order never g one two = tt
+in_order unreachable g one two = tt
 in_order (step p f) g one two = (one.0, λ n. in_order (f n) g (one.1 n) two)
 
-holds : (e : Purpose) (k : Local) (o : ℕ) (path : Path) → AreSame (hold_steps e k o path)
+holds : (e : CallContext) (k : Local) (o : ℕ) (path : Path) → AreSame (hold_steps e k o path)
 holds e k o path = (refl, λ n. entered (is_entering k.wait))
   where
-    entered : (b : Bool) → AreSame (if b then (step (store_ready_plan e (Enters o (free_place k.holds) path) k.thread) (λ _. log_enter_steps e o path)) else log_enter_steps e o path)
+    entered : (b : Bool) → AreSame (if b
+        then (step (store_ready_plan e (Enters o (free_place k.holds) path) k.thread) (λ _. log_enter_steps e o path)) else log_enter_steps e o path)
     entered true = (refl, λ m. (refl, λ i. tt))
     entered false = (refl, λ m. tt)
 
-takes : (e : Purpose) (k : Local) (o : ℕ) (path : Path) → AreSame (took_steps e k o path)
+takes : (e : CallContext) (k : Local) (o : ℕ) (path : Path) → AreSame (took_steps e k o path)
 takes e k o path = in_order (hold_steps e k o path) _ (holds e k o path) (λ p. tt)
 
-unbiases : (e : Purpose) (o mark neutral : ℕ) → AreSame (unbias_swap_steps e o mark neutral)
+unbiases : (e : CallContext) (o mark neutral : ℕ) → AreSame (unbias_swap_steps e o mark neutral)
 unbiases e o mark neutral = (refl, λ found. either (found == mark) _ _ tt tt)
 
-rebiases : (e : Purpose) (k : Local) (o mark epoch : ℕ) → AreSame (rebias_steps e k o mark epoch)
+rebiases : (e : CallContext) (k : Local) (o mark epoch : ℕ) → AreSame (rebias_steps e k o mark epoch)
 rebiases e k o mark epoch = (refl, λ found. either (found == mark) _ _ (takes e k o BiasTaken) tt)
 
-at_form : (f : Option MarkForm) (epoch : ℕ) (e : Purpose) (k : Local) (o mark : ℕ) → AreSame (bias_enter_at f epoch e k o mark)
+at_form : (f : Option MarkForm) (epoch : ℕ) (e : CallContext) (k : Local) (o mark : ℕ) → AreSame (bias_enter_at f epoch e k o mark)
 at_form (Some (Biased t old age)) epoch e k o mark = either (old == epoch) _ _ (either (t == k.thread) _ _ (takes e k o BiasOwn) tt) (rebiases e k o mark epoch)
 at_form (Some (Anonymous old age)) epoch e k o mark = rebiases e k o mark epoch
 at_form None epoch e k o mark = tt
@@ -77,7 +80,7 @@ at_form (Some (Locked t p)) epoch e k o mark = tt
 at_form (Some (Inflated m)) epoch e k o mark = tt
 at_form (Some Marked) epoch e k o mark = tt
 
-by_prototype : (f : Option MarkForm) (e : Purpose) (k : Local) (o mark prototype : ℕ) → AreSame (bias_enter_by f e k o mark prototype)
+by_prototype : (f : Option MarkForm) (e : CallContext) (k : Local) (o mark prototype : ℕ) → AreSame (bias_enter_by f e k o mark prototype)
 by_prototype (Some (Neutral hash age)) e k o mark prototype = unbiases e o mark prototype
 by_prototype (Some (Anonymous epoch age)) e k o mark prototype = at_form (read_mark mark) epoch e k o mark
 by_prototype None e k o mark prototype = tt
@@ -87,17 +90,17 @@ by_prototype (Some (Locked t p)) e k o mark prototype = tt
 by_prototype (Some (Inflated m)) e k o mark prototype = tt
 by_prototype (Some Marked) e k o mark prototype = tt
 
-class : (s : Shape) (e : Purpose) (o : ℕ) → AreSame (class_steps e Calm s o)
+class : (s : Shape) (e : CallContext) (o : ℕ) → AreSame (class_steps e Settled s o)
 class s e o = either (nat_lt o s.declared) _ _ tt (refl, λ n. tt)
 
-pub enter_keeps : (s : Shape) (e : Purpose) (k : Local) (o : ℕ) → AreSame (bias_enter_steps s e k o)
+pub enter_keeps : (s : Shape) (e : CallContext) (k : Local) (o : ℕ) → AreSame (bias_enter_steps s e k o)
 enter_keeps s e k o = (
   refl,
   λ mark. either (is_biased mark) _ _
-      (in_order (class_steps e Calm s o) _ (class s e o) (λ c. (refl, λ prototype. by_prototype (read_mark prototype) e k o mark prototype))) tt,
+      (in_order (class_steps e Settled s o) _ (class s e o) (λ c. (refl, λ prototype. by_prototype (read_mark prototype) e k o mark prototype))) tt,
 )
 
-own_bias : (f : Option MarkForm) (e : Purpose) (k : Local) (o : ℕ) → AreSame (bias_after_at f e k o)
+own_bias : (f : Option MarkForm) (e : CallContext) (k : Local) (o : ℕ) → AreSame (bias_after_at f e k o)
 own_bias (Some (Biased t epoch age)) e k o = either (t == k.thread) _ _ (takes e k o BiasTaken) tt
 own_bias (Some (Anonymous epoch age)) e k o = tt
 own_bias None e k o = tt
@@ -107,5 +110,5 @@ own_bias (Some (Locked t p)) e k o = tt
 own_bias (Some (Inflated m)) e k o = tt
 own_bias (Some Marked) e k o = tt
 
-pub after_keeps : (e : Purpose) (k : Local) (o : ℕ) (took : Bool) → AreSame (bias_after_steps e k o took)
+pub after_keeps : (e : CallContext) (k : Local) (o : ℕ) (took : Bool) → AreSame (bias_after_steps e k o took)
 after_keeps e k o took = (refl, λ mark. either (is_biased mark) _ _ (own_bias (read_mark mark) e k o) tt)

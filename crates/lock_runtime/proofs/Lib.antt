@@ -1,6 +1,6 @@
 pub mod Begins
 pub mod LeftNothing
-pub mod Behind
+pub mod After
 pub mod Entered
 pub mod Asides
 pub mod Revoked

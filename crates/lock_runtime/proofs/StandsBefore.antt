@@ -1,12 +1,13 @@
 -- How a thread stands as a call begins.
-use Rattle.std.proofs.Common.{◌≡◌, ℕ, ◌==◌, ◌&&◌, ◌||◌, not, cond, Bool, true, false, Option, Some, None, refl, sym, ap, ◌∙◌, true≢false, eqb-true, nat_lt, length}
-use Rattle.core_world.specs.declared.task.Op.{Op}
-use Rattle.core_world.specs.declared.task.Op.TheVariants as op
-use Rattle.core_world.specs.declared.task.Unfinished.{Unfinished}
+use Rattle.std.proofs.Common.{◌≡◌, ℕ, ◌==◌, ◌&&◌, ◌||◌, not, cond, Bool, true, false, Option, Some}
+use Rattle.std.proofs.Common.{None, refl, sym, ap, ◌∙◌, true≢false, eqb-true, nat_lt, length}
+use Rattle.core_world.specs.declared.heap_call.Operation.{Operation}
+use Rattle.core_world.specs.declared.heap_call.Operation.TheVariants as op
+use Rattle.core_world.specs.declared.heap_call.Unfinished.{Unfinished}
 use Rattle.core_world.specs.Clauses.Lengths.{log_limit}
 use Rattle.core_world.specs.Clauses.Safepoints.{ends}
 use Rattle.core_world.specs.Threads.AtRest.{AtRest, MayAsk}
-use Rattle.core_world.specs.Threads.Known.{Known}
+use Rattle.core_world.specs.Threads.ThreadView.{ThreadView}
 use Rattle.core_world.specs.Trees.Calls.{may_operate, may_act, is_free_for}
 use Rattle.core_world.specs.Trees.Operations.{same_op, goes_on_with}
 use Rattle.core_world.specs.Words.Forms.{waits_on}
@@ -44,7 +45,7 @@ not_true true h = absurd (h refl)
 not_true false h = refl
 
 -- an exit asks for no safepoint, nor does a wait that has let go
-exit_asks : (s : Shape) (k : Known) (which : Op) (on o : ℕ) → (same_op which op.Exit && (on == o)) ≡ true
+exit_asks : (s : Shape) (k : ThreadView) (which : Operation) (on o : ℕ) → (same_op which op.Exit && (on == o)) ≡ true
     → MayAsk s k (Some (record { op = which; object = on })) → ⊥
 exit_asks s k op.Exit on o e asks = asks
 exit_asks s k op.Enter on o e asks = absurd (cc e)
@@ -55,7 +56,7 @@ exit_asks s k op.Hash on o e asks = absurd (cc e)
 exit_asks s k op.Dump on o e asks = absurd (cc e)
 exit_asks s k op.Create on o e asks = absurd (cc e)
 
-wait_asks : (s : Shape) (k : Known) (which : Op) (on o : ℕ) → (same_op which op.Wait && (on == o)) ≡ true → waits_on k.wait o ≡ true
+wait_asks : (s : Shape) (k : ThreadView) (which : Operation) (on o : ℕ) → (same_op which op.Wait && (on == o)) ≡ true → waits_on k.wait o ≡ true
     → MayAsk s k (Some (record { op = which; object = on })) → ⊥
 wait_asks s k op.Wait on o e waits asks = true≢false (sym waits ∙ ap (waits_on k.wait) (sym (eqb-true on o e)) ∙ asks.0)
 wait_asks s k op.Enter on o e waits asks = absurd (cc e)
@@ -66,7 +67,7 @@ wait_asks s k op.Hash on o e waits asks = absurd (cc e)
 wait_asks s k op.Dump on o e waits asks = absurd (cc e)
 wait_asks s k op.Create on o e waits asks = absurd (cc e)
 
-module _ (s : Shape) (k : Known) (rest : AtRest s k) where
+module _ (s : Shape) (k : ThreadView) (rest : AtRest s k) where
   -- a thread that runs asks for no safepoint
   pub unasked : k.running ≡ true → k.requesting ≡ false
   unasked runs = not_true k.requesting (λ asks. true≢false (sym runs ∙ rest.stopped asks))
@@ -113,7 +114,7 @@ check_stands true requesting checking running e stopped = absurd (cc e)
 check_stands false true checking running e stopped = sym (stopped refl)
 check_stands false false checking running e stopped = sym e
 
-pub check_before : (s : Shape) (k : Known) → AtRest s k → (not (ends k.log) && cond k.requesting k.checking k.running) ≡ true
+pub check_before : (s : Shape) (k : ThreadView) → AtRest s k → (not (ends k.log) && cond k.requesting k.checking k.running) ≡ true
     → not k.requesting ≡ k.running
 check_before s k rest may = check_stands (ends k.log) k.requesting k.checking k.running may rest.stopped
 

@@ -1,4 +1,4 @@
--- How a thread stands behind each call.
+-- How a thread stands after each call.
 use Rattle.std.proofs.Common.{◌≡◌, ℕ, ◌&&◌, not, cond, Bool, true, false, List, [], length, Option, Result, Ok, Err, sym, ap, ◌∙◌, subst}
 use Rattle.plain_monitor.specs.declared.entry.Ending.{Ending}
 use Rattle.plain_monitor.specs.declared.entry.Path.{Path}
@@ -7,71 +7,75 @@ use Rattle.core_world.specs.declared.answer.IllegalMonitorState.{IllegalMonitorS
 use Rattle.core_world.specs.declared.answer.TooDeep.{TooDeep}
 use Rattle.core_world.specs.declared.answer.TooMany.{TooMany}
 use Rattle.core_world.specs.declared.answer.TooManyDumps.{TooManyDumps}
-use Rattle.core_world.specs.declared.answer.Turn.{Turn}
-use Rattle.core_world.specs.declared.answer.Turn.TheVariants.{Done, Pending}
-use Rattle.core_world.specs.declared.answer.Why.TheVariants as why
+use Rattle.core_world.specs.declared.answer.Progress.{Progress}
+use Rattle.core_world.specs.declared.answer.Progress.TheVariants.{Done, Pending}
+use Rattle.core_world.specs.declared.answer.PendingCause.TheVariants as why
 use Rattle.core_world.specs.declared.answer.Unguarded.{Unguarded}
-use Rattle.core_world.specs.declared.task.Op.TheVariants as op
-use Rattle.core_world.specs.declared.task.Task.TheVariants as task
+use Rattle.core_world.specs.declared.heap_call.Operation.TheVariants as op
+use Rattle.core_world.specs.declared.heap_call.HeapCall.TheVariants as task
 use Rattle.core_world.specs.Clauses.Safepoints.{ends}
 use Rattle.core_world.specs.Due.{Ran}
 use Rattle.core_world.specs.Threads.AtRest.{AtRest}
-use Rattle.core_world.specs.Threads.Known.{Known, StepMade}
+use Rattle.core_world.specs.Threads.ThreadView.{ThreadView, StepMade}
 use Rattle.core_world.specs.Threads.References.{has_reference}
-use Rattle.core_world.specs.Trees.Calls.{may_act, may_operate, side_purpose}
-use Rattle.core_world.specs.Trees.Operations.{goes_on_with, enter_steps, exit_steps, wait_steps, notify_steps, notify_all_steps, hash_steps, get_steps, put_steps, print_steps, finish_steps, dump_steps, create_steps, check_steps}
+use Rattle.core_world.specs.Trees.Calls.{may_act, may_operate, side_context}
+use Rattle.core_world.specs.Trees.Operations.{goes_on_with, enter_steps, exit_steps, wait_steps, notify_steps, notify_all_steps, hash_steps}
+use Rattle.core_world.specs.Trees.Operations.{get_steps, put_steps, print_steps, finish_steps, dump_steps, create_steps, check_steps}
 use Rattle.core_world.specs.Trees.SafepointSteps.{poll_steps, stop_steps, resume_steps}
-use Rattle.core_world.specs.Trees.Todo.{Todo}
-use Rattle.core_calls.specs.Stands.{Stand, IsGoing, IsOff, RunsBehind, TurnStands, ResultStands, PollStands, ResumeStands, CheckStands, StandsSo, stand_of, begun}
+use Rattle.core_world.specs.Trees.StepTree.{StepTree}
+use Rattle.core_calls.specs.Stands.{Stand, IsGoing, IsOff, RunsAfter, ProgressStands, ResultStands, PollStands}
+use Rattle.core_calls.specs.Stands.{ResumeStands, CheckStands, ThreadStandsAlong, stand_of, begun}
 use Rattle.core_calls.specs.Paths.{Says}
-use Rattle.core_calls.proofs.CreatesSay.{create_says}
-use Rattle.core_calls.proofs.EntersSay.{enter_says, exit_says}
-use Rattle.core_calls.proofs.Leaving.{check_halts}
+use Rattle.core_calls.proofs.made.CreatesSay.{create_says}
+use Rattle.core_calls.proofs.enter_exit.EntersSay.{enter_says, exit_says}
+use Rattle.core_calls.proofs.safepoint.Leaving.{check_halts}
 use Rattle.core_calls.proofs.OtherCallsSay.{get_says, put_says, dump_says}
-use Rattle.core_calls.proofs.WaitCallsSay.{wait_says, notify_says, notify_all_says}
-use Rattle.core_calls.proofs.StandsCalls.{enter_stands, exit_stands, wait_stands, notify_call_stands, notify_all_call_stands, hash_stands, dump_stands, check_stands, poll_call_stands, stop_call_stands, resume_call_stands, get_stands, put_stands, print_stands, finish_stands, create_stands}
+use Rattle.core_calls.proofs.wait.WaitCallsSay.{wait_says, notify_says, notify_all_says}
+use Rattle.core_calls.proofs.StandsCalls.{enter_stands, exit_stands, wait_stands, notify_call_stands, notify_all_call_stands}
+use Rattle.core_calls.proofs.StandsCalls.{hash_stands, dump_stands, check_stands, poll_call_stands, stop_call_stands}
+use Rattle.core_calls.proofs.StandsCalls.{resume_call_stands, get_stands, put_stands, print_stands, finish_stands, create_stands}
 use Rattle.heap_table.specs.Resting.{Rests, start_now}
 use Rattle.heap_table.specs.Seen.{HeapSeen, PassSeen, IsOf}
 use Rattle.heap_table.proofs.Resting.{at_rest}
-use Rattle.lock_runtime.specs.Standing.{IsRunning, HasStopped, StandsBehind, StandsOrSame, RunsOrSame, StandsBehindResume, StandsBehindCheck}
+use Rattle.lock_runtime.specs.Standing.{IsRunning, HasStopped, StandsAfterTurn, StandsOrSame, RunsOrSame, StandsAfterResumeTurn, StandsAfterCheckTurn}
 use Rattle.lock_runtime.specs.Others.{PendsForAnother, PendsOrRefused}
 use Rattle.lock_runtime.proofs.Begins.{second_of}
-use Rattle.lock_runtime.proofs.Stands.{low, stands, operates, turn_behind, result_behind, refused_same}
+use Rattle.lock_runtime.proofs.Stands.{low, stands, operates, progress_after, result_after, refused_same}
 use Rattle.lock_runtime.proofs.StandsBefore.{unasked, stands_before, exit_unasked, wait_unasked, act_unasked, check_before, resume_before}
 
 module _ (h : HeapSeen) (p q : PassSeen) (of_q : IsOf h q) where
   -- the run of a call
-  abbrev pub CallRan : {A : Type 0} → Todo A → A → Type 0
+  abbrev pub CallRan : {A : Type 0} → StepTree A → A → Type 0
   CallRan d a = Ran h.heap.shape h.heap.start d p.known q.known a
 
   module _ (rests : Rests h p) where
     rest : AtRest h.heap.shape p.known
     rest = at_rest h p rests
 
-    -- behind an operation, by what is said of it
+    -- after an operation, by what is said of it
     result_so : {A E : Type 0} (going : Bool) → may_operate p.known going ≡ true
-        → (d : Todo (Result (Turn A) E)) (r : Result (Turn A) E) (P : List StepMade → Result (Turn A) E → Type 0) → Says d P
+        → (d : StepTree (Result (Progress A) E)) (r : Result (Progress A) E) (P : List StepMade → Result (Progress A) E → Type 0) → Says d P
         → ((ms : List StepMade) (e : E) → P ms (Err e) → ms ≡ [])
-        → StandsSo p.known.thread (begun (start_now h p)) d (ResultStands p.known.thread) → CallRan d r
+        → ThreadStandsAlong p.known.thread (begun (start_now h p)) d (ResultStands p.known.thread) → CallRan d r
         → StandsOrSame p.known q.known r × PendsOrRefused p.known.thread r
     result_so going may d r P says none law ran =
-        result_behind h.heap.shape h.heap.start d p.known q.known r P says none ran
+        result_after h.heap.shape h.heap.start d p.known q.known r P says none ran
         (operates h p q rests.is_of of_q d r ran (stands_before h.heap.shape p.known rest going may) (ResultStands p.known.thread) law)
 
-    -- and behind one that makes its entry at once
-    runs_so : {A E : Type 0} → may_act p.known ≡ true → (d : Todo (Result A E)) (r : Result A E) (P : List StepMade → Result A E → Type 0) → Says d P
+    -- and after one that makes its entry at once
+    runs_so : {A E : Type 0} → may_act p.known ≡ true → (d : StepTree (Result A E)) (r : Result A E) (P : List StepMade → Result A E → Type 0) → Says d P
         → ((ms : List StepMade) (e : E) → P ms (Err e) → ms ≡ [])
-        → StandsSo p.known.thread (begun (start_now h p)) d RunsBehind → CallRan d r → RunsOrSame p.known q.known r
+        → ThreadStandsAlong p.known.thread (begun (start_now h p)) d RunsAfter → CallRan d r → RunsOrSame p.known q.known r
     runs_so {A} {E} may d r P says none law ran =
-        cases r ran (operates h p q rests.is_of of_q d r ran (stands_before h.heap.shape p.known rest false may) RunsBehind law)
+        cases r ran (operates h p q rests.is_of of_q d r ran (stands_before h.heap.shape p.known rest false may) RunsAfter law)
       where
-        cases : (r : Result A E) → CallRan d r → RunsBehind (stand_of q.known) r → RunsOrSame p.known q.known r
+        cases : (r : Result A E) → CallRan d r → RunsAfter (stand_of q.known) r → RunsOrSame p.known q.known r
         cases (Ok a) ran so = record { runs = so.runs; asks = so.asks }
         cases (Err e) ran so = refused_same h.heap.shape h.heap.start d p.known q.known e P says (λ ms x. none ms e x) ran
 
     module _ (o : ℕ) where
       module _ (now : ℕ) where
-        pub enter_leaves : (r : Result (Turn Path) TooDeep)
+        pub enter_leaves : (r : Result (Progress Path) TooDeep)
             → (has_reference h.heap.shape p.known o && may_operate p.known (goes_on_with op.Enter o p.known.unfinished)) ≡ true
             → CallRan (enter_steps h.heap.shape (start_now h p) o now) r → StandsOrSame p.known q.known r × PendsOrRefused p.known.thread r
         enter_leaves r may ran =
@@ -79,7 +83,7 @@ module _ (h : HeapSeen) (p q : PassSeen) (of_q : IsOf h q) where
             (enter_steps h.heap.shape (start_now h p) o now) r _ (enter_says h.heap.shape (start_now h p) o now) (λ ms e x. x.1)
             (enter_stands (start_now h p) (low h p q rests.is_of of_q) h.heap.shape o now) ran
 
-        pub wait_leaves : (r : Result (Turn (Unit {0})) IllegalMonitorState)
+        pub wait_leaves : (r : Result (Progress (Unit {0})) IllegalMonitorState)
             → (has_reference h.heap.shape p.known o && may_operate p.known (goes_on_with op.Wait o p.known.unfinished)) ≡ true
             → CallRan (wait_steps h.heap.shape (start_now h p) o now) r → StandsOrSame p.known q.known r × PendsOrRefused p.known.thread r
         wait_leaves r both ran =
@@ -88,7 +92,7 @@ module _ (h : HeapSeen) (p q : PassSeen) (of_q : IsOf h q) where
             (wait_says h.heap.shape (start_now h p) o now) (λ ms e x. x.1)
             (wait_stands (start_now h p) (low h p q rests.is_of of_q) h.heap.shape o now (wait_unasked h.heap.shape p.known rest o may)) ran
 
-        pub notify_leaves : (r : Result (Turn (Option ℕ)) IllegalMonitorState)
+        pub notify_leaves : (r : Result (Progress (Option ℕ)) IllegalMonitorState)
             → (has_reference h.heap.shape p.known o && may_operate p.known (goes_on_with op.Notify o p.known.unfinished)) ≡ true
             → CallRan (notify_steps h.heap.shape (start_now h p) o now) r → StandsOrSame p.known q.known r × PendsOrRefused p.known.thread r
         notify_leaves r may ran =
@@ -96,7 +100,7 @@ module _ (h : HeapSeen) (p q : PassSeen) (of_q : IsOf h q) where
             (notify_steps h.heap.shape (start_now h p) o now) r _ (notify_says h.heap.shape (start_now h p) o now) (λ ms e x. x.1)
             (notify_call_stands (start_now h p) (low h p q rests.is_of of_q) h.heap.shape o now) ran
 
-        pub notify_all_leaves : (r : Result (Turn ℕ) IllegalMonitorState)
+        pub notify_all_leaves : (r : Result (Progress ℕ) IllegalMonitorState)
             → (has_reference h.heap.shape p.known o && may_operate p.known (goes_on_with op.NotifyAll o p.known.unfinished)) ≡ true
             → CallRan (notify_all_steps h.heap.shape (start_now h p) o now) r → StandsOrSame p.known q.known r × PendsOrRefused p.known.thread r
         notify_all_leaves r may ran =
@@ -104,16 +108,17 @@ module _ (h : HeapSeen) (p q : PassSeen) (of_q : IsOf h q) where
             (notify_all_steps h.heap.shape (start_now h p) o now) r _ (notify_all_says h.heap.shape (start_now h p) o now) (λ ms e x. x.1)
             (notify_all_call_stands (start_now h p) (low h p q rests.is_of of_q) h.heap.shape o now) ran
 
-        pub hash_leaves : (turn : Turn ℕ) → (has_reference h.heap.shape p.known o && may_operate p.known (goes_on_with op.Hash o p.known.unfinished)) ≡ true
-            → CallRan (hash_steps h.heap.shape (start_now h p) o now) turn → StandsBehind q.known turn × PendsForAnother p.known.thread turn
-        hash_leaves turn may ran =
+        pub hash_leaves : (progress : Progress ℕ)
+            → (has_reference h.heap.shape p.known o && may_operate p.known (goes_on_with op.Hash o p.known.unfinished)) ≡ true
+            → CallRan (hash_steps h.heap.shape (start_now h p) o now) progress → StandsAfterTurn q.known progress × PendsForAnother p.known.thread progress
+        hash_leaves progress may ran =
             let k = start_now h p in
-            turn_behind p.known.thread q.known turn
-            (operates h p q rests.is_of of_q (hash_steps h.heap.shape k o now) turn ran (stands_before h.heap.shape p.known rest
-            (goes_on_with op.Hash o p.known.unfinished) (second_of (has_reference h.heap.shape p.known o) _ may)) (TurnStands p.known.thread)
+            progress_after p.known.thread q.known progress
+            (operates h p q rests.is_of of_q (hash_steps h.heap.shape k o now) progress ran (stands_before h.heap.shape p.known rest
+            (goes_on_with op.Hash o p.known.unfinished) (second_of (has_reference h.heap.shape p.known o) _ may)) (ProgressStands p.known.thread)
             (hash_stands k (low h p q rests.is_of of_q) h.heap.shape o now))
 
-      pub exit_leaves : (r : Result (Turn (Unit {0})) IllegalMonitorState)
+      pub exit_leaves : (r : Result (Progress (Unit {0})) IllegalMonitorState)
           → (has_reference h.heap.shape p.known o && may_operate p.known (goes_on_with op.Exit o p.known.unfinished)) ≡ true
           → CallRan (exit_steps (start_now h p) o) r → StandsOrSame p.known q.known r × PendsOrRefused p.known.thread r
       exit_leaves r both ran =
@@ -134,7 +139,7 @@ module _ (h : HeapSeen) (p q : PassSeen) (of_q : IsOf h q) where
             (put_stands (start_now h p) (low h p q rests.is_of of_q) (act_unasked h.heap.shape p.known rest may) o slot value) ran
 
     module _ (may : may_act p.known ≡ true) where
-      running : (d : Todo (Unit {0})) → StandsSo p.known.thread (begun (start_now h p)) d (λ b _. IsGoing b) → CallRan d tt → IsRunning q.known
+      running : (d : StepTree (Unit {0})) → ThreadStandsAlong p.known.thread (begun (start_now h p)) d (λ b _. IsGoing b) → CallRan d tt → IsRunning q.known
       running d law ran =
           let g = operates h p q rests.is_of of_q d tt ran (stands_before h.heap.shape p.known rest false may) (λ b _. IsGoing b) law in
           record { runs = g.runs; asks = g.asks }
@@ -154,7 +159,7 @@ module _ (h : HeapSeen) (p q : PassSeen) (of_q : IsOf h q) where
           runs_so may (create_steps h.heap.shape (start_now h p) c) r _ (create_says h.heap.shape (start_now h p) c) (λ ms e x. x.1)
           (create_stands (start_now h p) (low h p q rests.is_of of_q) (act_unasked h.heap.shape p.known rest may) h.heap.shape c) ran
 
-    pub dump_leaves : (r : Result (Turn ℕ) TooManyDumps) → may_operate p.known (goes_on_with op.Dump 0 p.known.unfinished) ≡ true
+    pub dump_leaves : (r : Result (Progress ℕ) TooManyDumps) → may_operate p.known (goes_on_with op.Dump 0 p.known.unfinished) ≡ true
         → CallRan (dump_steps h.heap.shape (start_now h p)) r → StandsOrSame p.known q.known r × PendsOrRefused p.known.thread r
     dump_leaves r may ran =
         result_so (goes_on_with op.Dump 0 p.known.unfinished) may (dump_steps h.heap.shape (start_now h p)) r _ (dump_says h.heap.shape
@@ -166,38 +171,40 @@ module _ (h : HeapSeen) (p q : PassSeen) (of_q : IsOf h q) where
       before : not p.known.requesting ≡ p.known.running
       before = ap not (unasked h.heap.shape p.known rest runs) ∙ sym runs
 
-      pub poll_leaves : (turn : Turn (Unit {0})) → CallRan (poll_steps (side_purpose task.Poll (start_now h p))) turn
-          → IsRunning q.known × PendsForAnother p.known.thread turn
-      poll_leaves turn ran =
-          by_turn turn (operates h p q rests.is_of of_q (poll_steps (side_purpose task.Poll (start_now h p))) turn ran before (PollStands p.known.thread)
+      pub poll_leaves : (progress : Progress (Unit {0})) → CallRan (poll_steps (side_context task.Poll (start_now h p))) progress
+          → IsRunning q.known × PendsForAnother p.known.thread progress
+      poll_leaves progress ran =
+          by_progress progress (operates h p q rests.is_of of_q
+          (poll_steps (side_context task.Poll (start_now h p))) progress ran before (PollStands p.known.thread)
           (poll_call_stands (start_now h p) (low h p q rests.is_of of_q) (unasked h.heap.shape p.known rest runs)))
         where
-          by_turn : (turn : Turn (Unit {0})) → PollStands p.known.thread (stand_of q.known) turn
-              → IsRunning q.known × PendsForAnother p.known.thread turn
-          by_turn (Done x) so = (record { runs = so.runs; asks = so.asks }, tt)
-          by_turn (Pending why) so = (record { runs = so.0.runs; asks = so.0.asks }, so.1)
+          by_progress : (progress : Progress (Unit {0})) → PollStands p.known.thread (stand_of q.known) progress
+              → IsRunning q.known × PendsForAnother p.known.thread progress
+          by_progress (Done x) so = (record { runs = so.runs; asks = so.asks }, tt)
+          by_progress (Pending why) so = (record { runs = so.0.runs; asks = so.0.asks }, so.1)
 
       -- its log is published whole
-      pub stop_leaves : CallRan (stop_steps (side_purpose task.Stop (start_now h p)) (start_now h p).local) tt → HasStopped q.known
+      pub stop_leaves : CallRan (stop_steps (side_context task.Stop (start_now h p)) (start_now h p).local) tt → HasStopped q.known
       stop_leaves ran =
-          let d = stop_steps (side_purpose task.Stop (start_now h p)) (start_now h p).local in
+          let d = stop_steps (side_context task.Stop (start_now h p)) (start_now h p).local in
           let off = operates h p q rests.is_of of_q d tt ran before (λ b _. IsOff b) (stop_call_stands (start_now h p) (low h p q rests.is_of of_q)
           (unasked h.heap.shape p.known rest runs)) in
           let last = ran.by.1.1.0 in
-          let log : q.known.log ≡ p.known.log = ap (λ (x : Known). x.log) last in
-          record { stopped = record { runs = off.runs; asks = off.asks }; published = ap (λ (x : Known). x.published) last ∙ ap length (sym log) }
+          let log : q.known.log ≡ p.known.log = ap (λ (x : ThreadView). x.log) last in
+          record { stopped = record { runs = off.runs; asks = off.asks }; published = ap (λ (x : ThreadView). x.published) last ∙ ap length (sym log) }
 
-    pub check_leaves : (turn : Turn Bool) → (not (ends p.known.log) && cond p.known.requesting p.known.checking p.known.running) ≡ true
-        → CallRan (check_steps h.heap.shape (start_now h p)) turn
-        → StandsBehindCheck q.known turn × PendsForAnother p.known.thread turn
-    check_leaves turn may ran =
-        by_turn turn ran (operates h p q rests.is_of of_q (check_steps h.heap.shape (start_now h p)) turn ran
+    pub check_leaves : (progress : Progress Bool) → (not (ends p.known.log) && cond p.known.requesting p.known.checking p.known.running) ≡ true
+        → CallRan (check_steps h.heap.shape (start_now h p)) progress
+        → StandsAfterCheckTurn q.known progress × PendsForAnother p.known.thread progress
+    check_leaves progress may ran =
+        by_progress progress ran (operates h p q rests.is_of of_q (check_steps h.heap.shape (start_now h p)) progress ran
         (check_before h.heap.shape p.known rest may) (CheckStands p.known.thread)
         (check_stands (start_now h p) (low h p q rests.is_of of_q) h.heap.shape))
       where
-        by_turn : (turn : Turn Bool) → CallRan (check_steps h.heap.shape (start_now h p)) turn → CheckStands p.known.thread (stand_of q.known) turn
-            → StandsBehindCheck q.known turn × PendsForAnother p.known.thread turn
-        by_turn (Done true) ran so = (
+        by_progress : (progress : Progress Bool) → CallRan (check_steps h.heap.shape (start_now h p)) progress
+            → CheckStands p.known.thread (stand_of q.known) progress
+            → StandsAfterCheckTurn q.known progress × PendsForAnother p.known.thread progress
+        by_progress (Done true) ran so = (
           record {
             stopped = record { runs = so.runs; asks = so.asks };
             halted = check_halts h.heap.shape h.heap.start h.heap.shape
@@ -205,22 +212,22 @@ module _ (h : HeapSeen) (p q : PassSeen) (of_q : IsOf h q) where
           },
           tt,
         )
-        by_turn (Done false) ran so = (record { runs = so.runs; asks = so.asks }, tt)
-        by_turn (Pending (why.Stopping word)) ran so = (record { runs = so.0.runs; asks = so.0.asks }, so.1)
-        by_turn (Pending _) ran so = (record { runs = so.0.runs; asks = so.0.asks }, so.1)
+        by_progress (Done false) ran so = (record { runs = so.runs; asks = so.asks }, tt)
+        by_progress (Pending (why.Stopping word)) ran so = (record { runs = so.0.runs; asks = so.0.asks }, so.1)
+        by_progress (Pending _) ran so = (record { runs = so.0.runs; asks = so.0.asks }, so.1)
 
-    pub resume_leaves : (turn : Turn (Unit {0})) → (not p.known.running && not p.known.requesting) ≡ true
-        → CallRan (resume_steps (side_purpose task.Resume (start_now h p)) (start_now h p).local) turn
-        → StandsBehindResume q.known turn × PendsForAnother p.known.thread turn
-    resume_leaves turn may ran =
+    pub resume_leaves : (progress : Progress (Unit {0})) → (not p.known.running && not p.known.requesting) ≡ true
+        → CallRan (resume_steps (side_context task.Resume (start_now h p)) (start_now h p).local) progress
+        → StandsAfterResumeTurn q.known progress × PendsForAnother p.known.thread progress
+    resume_leaves progress may ran =
         let off = resume_before p.known.running p.known.requesting may in
-        by_turn turn (stands h p q rests.is_of of_q (resume_steps (side_purpose task.Resume (start_now h p)) (start_now h p).local) turn ran
+        by_progress progress (stands h p q rests.is_of of_q (resume_steps (side_context task.Resume (start_now h p)) (start_now h p).local) progress ran
         (ResumeStands p.known.thread)
-        (subst (λ (b : Stand). StandsSo p.known.thread b (resume_steps (side_purpose task.Resume (start_now h p)) (start_now h p).local)
+        (subst (λ (b : Stand). ThreadStandsAlong p.known.thread b (resume_steps (side_context task.Resume (start_now h p)) (start_now h p).local)
         (ResumeStands p.known.thread)) (λ i. record { running = sym off.0 i; asking = sym off.1 i })
         (resume_call_stands (start_now h p) (low h p q rests.is_of of_q))))
       where
-        by_turn : (turn : Turn (Unit {0})) → ResumeStands p.known.thread (stand_of q.known) turn
-            → StandsBehindResume q.known turn × PendsForAnother p.known.thread turn
-        by_turn (Done x) so = (record { runs = so.runs; asks = so.asks }, tt)
-        by_turn (Pending why) so = (record { runs = so.0.runs; asks = so.0.asks }, so.1)
+        by_progress : (progress : Progress (Unit {0})) → ResumeStands p.known.thread (stand_of q.known) progress
+            → StandsAfterResumeTurn q.known progress × PendsForAnother p.known.thread progress
+        by_progress (Done x) so = (record { runs = so.runs; asks = so.asks }, tt)
+        by_progress (Pending why) so = (record { runs = so.0.runs; asks = so.0.asks }, so.1)

@@ -7,28 +7,28 @@ use Rattle.plain_monitor.specs.declared.entry.Logged.{Logged}
 use Rattle.core_world.specs.declared.plan.StepPlan.{StepPlan}
 use Rattle.core_world.specs.Due.{Runs}
 use Rattle.core_world.specs.Steps.{known_after, known_hit, known_miss}
-use Rattle.core_world.specs.Threads.Known.{Known, Local, Start}
+use Rattle.core_world.specs.Threads.ThreadView.{ThreadView, Local, Start}
 use Rattle.core_world.specs.Trees.Operations.{answer, no_bias, wait_going, wait_beginning, notify_at, notify_going, notify_all_at, notify_all_going}
-use Rattle.core_world.specs.Trees.Plans.{Purpose}
-use Rattle.core_world.specs.Trees.Todo.{Todo, done, never, step, ◌>>=◌}
+use Rattle.core_world.specs.Trees.Plans.{CallContext}
+use Rattle.core_world.specs.Trees.StepTree.{StepTree, done, unreachable, step, ◌>>=◌}
 use Rattle.core_world.specs.Trees.WaitSteps.{monitor_wait_steps, monitor_resume_steps}
 use Rattle.core_world.specs.Words.Acts.{hits}
 use Rattle.core_world.specs.Words.Forms.{waits_on}
 use Rattle.core_world.specs.Words.Shape.{Shape}
 use Rattle.core_calls.specs.Paths.{Says}
 use Rattle.core_calls.proofs.Runs.{tells, did, did_one}
-use Rattle.core_calls.proofs.WaitsSay.{LetGo, monitor_wait_says}
-use Rattle.heap_table.specs.Parts.{HasRun}
+use Rattle.core_calls.proofs.wait.WaitsSay.{LetGo, monitor_wait_says}
+use Rattle.heap_table.specs.Parts.{HasMadeSteps}
 use Rattle.heap_table.specs.Seen.{HeapSeen, PassSeen, IsOf}
 use Rattle.heap_table.proofs.Arms.{run_then}
 use Rattle.heap_table.proofs.Parts.{ends}
 use Rattle.heap_table.proofs.Resting.{IsCallOf}
 use Rattle.lock_runtime.specs.inner.WaitParts.{inflated_wait, marked_notify, marked_notify_all}
-use Rattle.lock_runtime.proofs.Behind.{arm_first}
-use Rattle.lock_runtime.proofs.Unbiased.{first_behind}
+use Rattle.lock_runtime.proofs.After.{arm_first}
+use Rattle.lock_runtime.proofs.Unbiased.{first_after}
 
 -- LETTING GO
-pub logs_wait : (h : HeapSeen) (e : Purpose) (k : Local) (o m : ℕ) (p q : PassSeen) (saved : ℕ) → HasRun h (monitor_wait_steps e k o m) p q saved
+pub logs_wait : (h : HeapSeen) (e : CallContext) (k : Local) (o m : ℕ) (p q : PassSeen) (saved : ℕ) → HasMadeSteps h (monitor_wait_steps e k o m) p q saved
     → length q.known.log ≡ length p.known.log + 1
 logs_wait h e k o m p q saved run =
     let says : Says (monitor_wait_steps e k o m) (LetGo e k o) = record { by = monitor_wait_says e k o m [] (record { are = refl }) } in
@@ -36,24 +36,25 @@ logs_wait h e k o m p q saved run =
     ap (λ (l : List Logged). length l) one.1 ∙ length-append p.known.log (record { stamp = one.0; entry = entry.Wait o } ∷ [])
 
 -- no step is another thread's
-step_thread : (s : Shape) (start : ℕ) (plan : StepPlan) (n : ℕ) (k : Known) → (known_after s start plan n k).thread ≡ k.thread
+step_thread : (s : Shape) (start : ℕ) (plan : StepPlan) (n : ℕ) (k : ThreadView) → (known_after s start plan n k).thread ≡ k.thread
 step_thread s start plan n k = cases (hits plan.act n)
   where
     cases : (b : Bool) → (cond b (known_hit s start plan n k) (known_miss s start plan n k)).thread ≡ k.thread
     cases true = refl
     cases false = refl
 
-run_thread : {A : Type 0} (s : Shape) (start : ℕ) (d : Todo A) (k l : Known) (a : A) → Runs s start d k l a → l.thread ≡ k.thread
-run_thread s start (done b) k l a run = ap (λ (x : Known). x.thread) run.0
-run_thread s start never k l a run = absurd run
+run_thread : {A : Type 0} (s : Shape) (start : ℕ) (d : StepTree A) (k l : ThreadView) (a : A) → Runs s start d k l a → l.thread ≡ k.thread
+run_thread s start (done b) k l a run = ap (λ (x : ThreadView). x.thread) run.0
+run_thread s start unreachable k l a run = absurd run
 run_thread s start (step plan f) k l a run = run_thread s start (f run.0) (known_after s start plan run.0 k) l a run.1 ∙ step_thread s start plan run.0 k
 
-pub same_thread : {A : Type 0} (h : HeapSeen) (d : Todo A) (p q : PassSeen) (a : A) → HasRun h d p q a → q.known.thread ≡ p.known.thread
+pub same_thread : {A : Type 0} (h : HeapSeen) (d : StepTree A) (p q : PassSeen) (a : A) → HasMadeSteps h d p q a → q.known.thread ≡ p.known.thread
 same_thread h d p q a run = run_thread h.heap.shape h.heap.start d p.known q.known a run.ran.by
 
 -- NOTIFIES
-pub never_notified : (f : MarkForm) (s : Shape) (e : Purpose) (k : Local) (o : ℕ) → (f ≡ Inflating → ⊥) → ((t p : ℕ) → f ≡ Locked t p → ⊥) → ((m : ℕ) → f ≡ Inflated m → ⊥)
-    → notify_at (Some f) s e k o ≡ never
+pub never_notified : (f : MarkForm) (s : Shape) (e : CallContext) (k : Local) (o : ℕ)
+    → (f ≡ Inflating → ⊥) → ((t p : ℕ) → f ≡ Locked t p → ⊥) → ((m : ℕ) → f ≡ Inflated m → ⊥)
+    → notify_at (Some f) s e k o ≡ unreachable
 never_notified Inflating s e k o inflating locked inflated = absurd (inflating refl)
 never_notified (Neutral hash age) s e k o inflating locked inflated = refl
 never_notified (Anonymous epoch age) s e k o inflating locked inflated = refl
@@ -62,8 +63,9 @@ never_notified (Locked t p) s e k o inflating locked inflated = absurd (locked t
 never_notified (Inflated m) s e k o inflating locked inflated = absurd (inflated m refl)
 never_notified Marked s e k o inflating locked inflated = refl
 
-pub never_all_notified : (f : MarkForm) (s : Shape) (e : Purpose) (k : Local) (o : ℕ) → (f ≡ Inflating → ⊥) → ((t p : ℕ) → f ≡ Locked t p → ⊥) → ((m : ℕ) → f ≡ Inflated m → ⊥)
-    → notify_all_at (Some f) s e k o ≡ never
+pub never_all_notified : (f : MarkForm) (s : Shape) (e : CallContext) (k : Local) (o : ℕ)
+    → (f ≡ Inflating → ⊥) → ((t p : ℕ) → f ≡ Locked t p → ⊥) → ((m : ℕ) → f ≡ Inflated m → ⊥)
+    → notify_all_at (Some f) s e k o ≡ unreachable
 never_all_notified Inflating s e k o inflating locked inflated = absurd (inflating refl)
 never_all_notified (Neutral hash age) s e k o inflating locked inflated = refl
 never_all_notified (Anonymous epoch age) s e k o inflating locked inflated = refl
@@ -73,18 +75,19 @@ never_all_notified (Inflated m) s e k o inflating locked inflated = absurd (infl
 never_all_notified Marked s e k o inflating locked inflated = refl
 
 -- WHOLE CALLS
-pub first_to_wait : (s : Shape) (e : Purpose) (k : Start) (o now : ℕ) → IsCallOf e.task (wait_going s e k o now)
+pub first_to_wait : (s : Shape) (e : CallContext) (k : Start) (o now : ℕ) → IsCallOf e.task (wait_going s e k o now)
 first_to_wait s e k o now =
     arm_first e.task (waits_on k.local.wait o) (monitor_resume_steps e k.local.thread k.saved o) (wait_beginning s e k o now) refl
-    (first_behind s e k (no_bias o now) (inflated_wait s e k.kept k.local o) refl)
+    (first_after s e k (no_bias o now) (inflated_wait s e k.kept k.local o) refl)
 
-pub first_to_notify : (s : Shape) (e : Purpose) (k : Start) (o now : ℕ) → IsCallOf e.task (notify_going s e k o now)
-first_to_notify s e k o now = first_behind s e k (no_bias o now) (marked_notify s e k.local o) refl
+pub first_to_notify : (s : Shape) (e : CallContext) (k : Start) (o now : ℕ) → IsCallOf e.task (notify_going s e k o now)
+first_to_notify s e k o now = first_after s e k (no_bias o now) (marked_notify s e k.local o) refl
 
-pub first_to_notify_all : (s : Shape) (e : Purpose) (k : Start) (o now : ℕ) → IsCallOf e.task (notify_all_going s e k o now)
-first_to_notify_all s e k o now = first_behind s e k (no_bias o now) (marked_notify_all s e k.local o) refl
+pub first_to_notify_all : (s : Shape) (e : CallContext) (k : Start) (o now : ℕ) → IsCallOf e.task (notify_all_going s e k o now)
+first_to_notify_all s e k o now = first_after s e k (no_bias o now) (marked_notify_all s e k.local o) refl
 
 -- one that is refused makes no step
-pub refused_run : {A E : Type 0} (h : HeapSeen) (p : PassSeen) (refuses : Bool) (err : E) (d : Todo A) → refuses ≡ true → IsOf h p
-    → HasRun h (if refuses then done (Err err) else (d >>= answer)) p p (Err err)
-refused_run {A = A} {E = E} h p refuses err d refused is_of = run_then h p refuses (done (Err err)) (d >>= (answer {A = A} {E = E})) p (Err err) refused (ends h p (Err err) is_of)
+pub refused_run : {A E : Type 0} (h : HeapSeen) (p : PassSeen) (refuses : Bool) (err : E) (d : StepTree A) → refuses ≡ true → IsOf h p
+    → HasMadeSteps h (if refuses then done (Err err) else (d >>= answer)) p p (Err err)
+refused_run {A = A} {E = E} h p refuses err d refused is_of =
+    run_then h p refuses (done (Err err)) (d >>= (answer {A = A} {E = E})) p (Err err) refused (ends h p (Err err) is_of)

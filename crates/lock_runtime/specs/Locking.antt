@@ -1,6 +1,6 @@
 -- Whom a notify wakes: where a lock record has the lock, it is the caller's own.
 use Rattle.std.specs.Prelude.{◌≡◌, ◌⊎◌, ℕ, List, Option, None}
-use Rattle.core_world.specs.Threads.Known.{StepMade}
+use Rattle.core_world.specs.Threads.ThreadView.{StepMade}
 use Rattle.core_world.specs.Words.Shape.{Shape}
 use Rattle.core_calls.specs.Woken.{IsRecordLocked, WakesOldest, WakesEach}
 

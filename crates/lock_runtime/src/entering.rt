@@ -1,112 +1,127 @@
 //! The call that enters an object.
 ghost use Rattle.std.specs.Prelude.{◌≡◌, ◌<◌, length, Some};
 ghost use Rattle.mark_word.specs.Mark.{read_mark};
-ghost use Rattle.core_world.specs.declared.task.Task.TheVariants.{Enter};
+ghost use Rattle.core_world.specs.declared.heap_call.HeapCall.TheVariants.{Enter};
 ghost use Rattle.core_world.specs.Trees.Operations.{enter_at, enter_monitor_steps, enter_revoked, enter_going, enter_steps};
 ghost use Rattle.core_calls.specs.Paths.{Tells};
 ghost use Rattle.core_calls.specs.CallsSay.{EnterSays};
-ghost use Rattle.heap_table.specs.Parts.{IsDueOn, HasRun};
+ghost use Rattle.heap_table.specs.Parts.{IsDueOn, HasMadeSteps};
 ghost use Rattle.heap_table.specs.Resting.{MayOperate, Rests, start_now};
 ghost use Rattle.heap_table.specs.Seen.{IsOf};
 ghost use Rattle.lock_runtime.specs.inner.Parts.{enter_again, enter_first};
 ghost use Rattle.lock_runtime.specs.Standing.{StandsOrSame};
 ghost use Rattle.lock_runtime.specs.Others.{PendsOrRefused};
 
-use crate::purposes::unfinished;
+use crate::contexts::unfinished;
 use crate::revoking::revocation;
 use bias_lock::{bias_after, bias_enter};
-use core_world::{BiasTry, Op, Task, TooDeep, Turn, Why};
-use heap_table::{Heap, Pass, Purpose, mark_of_word};
+use core_world::{BiasTry, HeapCall, Operation, PendingCause, Progress, TooDeep};
+use heap_table::{CallContext, Heap, Pass, mark_of_word};
 use mark_word::MarkForm;
 use object_monitor::{inflate, monitor_enter};
 use plain_monitor::Path;
-use revoke_walk::Revocation;
+use safepoint_work::Revocation;
 use stack_lock::stack_enter;
 
 // Another thread has the lock by a record: it is inflated, and entered by the monitor.
-fn enter_monitor(heap: &Heap, pass: &mut Pass, why: &Purpose, object: u32) -> Turn<Path>
+fn enter_monitor(heap: &Heap, pass: &mut Pass, context: &CallContext, object: u32) -> Progress<Path>
     requires heap { IsOf heap.now pass.old }
     requires object { object < length heap.now.heap.shape.objects }
-    requires due { IsDueOn heap.now pass.old why.now.task
-        (enter_monitor_steps heap.now.heap.shape why.now (start_now heap.now pass.old) object) }
+    requires due { IsDueOn heap.now pass.old context.now.task
+        (enter_monitor_steps heap.now.heap.shape context.now (start_now heap.now pass.old) object) }
     requires room { length pass.old.known.log < pass.old.limit }
-    ensures { HasRun heap.now
-        (enter_monitor_steps heap.now.heap.shape why.now (start_now heap.now pass.old) object)
+    ensures { HasMadeSteps heap.now
+        (enter_monitor_steps heap.now.heap.shape context.now (start_now heap.now pass.old) object)
         pass.old pass.new result }
 {
-    match inflate(heap, pass, why, object) {
-        Turn::Done(monitor) => monitor_enter(heap, pass, why, object, monitor),
-        Turn::Pending(cause) => Turn::Pending(cause),
+    match inflate(heap, pass, context, object) {
+        Progress::Done(monitor) => monitor_enter(heap, pass, context, object, monitor),
+        Progress::Pending(cause) => Progress::Pending(cause),
     }
 }
 
 // The object's mark has this form.
-fn enter_by(
+fn enter_by_mark(
     heap: &Heap,
     pass: &mut Pass,
-    why: &Purpose,
+    context: &CallContext,
     object: u32,
     mark: u64,
     form: MarkForm,
-) -> Turn<Path>
+) -> Progress<Path>
     requires heap { IsOf heap.now pass.old }
     requires object { object < length heap.now.heap.shape.objects }
     requires form { read_mark mark ≡ Some form }
-    requires due { IsDueOn heap.now pass.old why.now.task
-        (enter_at (Some form) heap.now.heap.shape why.now (start_now heap.now pass.old) object mark) }
+    requires due { IsDueOn heap.now pass.old context.now.task
+        (enter_at (Some form) heap.now.heap.shape context.now (start_now heap.now pass.old) object mark) }
     requires room { length pass.old.known.log < pass.old.limit }
-    ensures { HasRun heap.now
-        (enter_at (Some form) heap.now.heap.shape why.now (start_now heap.now pass.old) object mark)
+    ensures { HasMadeSteps heap.now
+        (enter_at (Some form) heap.now.heap.shape context.now (start_now heap.now pass.old) object mark)
         pass.old pass.new result }
 {
     match form {
-        MarkForm::Inflating => Turn::Pending(Why::Inflating),
-        MarkForm::Neutral { .. } => stack_enter(heap, pass, why, object, mark),
+        MarkForm::Inflating => Progress::Pending(PendingCause::Inflating),
+        MarkForm::Neutral { .. } => stack_enter(heap, pass, context, object, mark),
         MarkForm::Locked { thread, .. } => {
             if thread == pass.thread() {
-                stack_enter(heap, pass, why, object, mark)
+                stack_enter(heap, pass, context, object, mark)
             } else {
-                enter_monitor(heap, pass, why, object)
+                enter_monitor(heap, pass, context, object)
             }
         }
-        MarkForm::Inflated { monitor } => monitor_enter(heap, pass, why, object, monitor),
+        MarkForm::Inflated { monitor } => monitor_enter(heap, pass, context, object, monitor),
         _ => unreachable!(),
     }
 }
 
 // The object's mark, as it was found or made, has no bias pattern.
-fn enter_marked(heap: &Heap, pass: &mut Pass, why: &Purpose, object: u32, mark: u64) -> Turn<Path>
+fn enter_marked(
+    heap: &Heap,
+    pass: &mut Pass,
+    context: &CallContext,
+    object: u32,
+    mark: u64,
+) -> Progress<Path>
     requires heap { IsOf heap.now pass.old }
     requires object { object < length heap.now.heap.shape.objects }
-    requires due { IsDueOn heap.now pass.old why.now.task
-        (enter_at (read_mark mark) heap.now.heap.shape why.now (start_now heap.now pass.old) object mark) }
+    requires due { IsDueOn heap.now pass.old context.now.task
+        (enter_at (read_mark mark) heap.now.heap.shape context.now (start_now heap.now pass.old) object mark) }
     requires room { length pass.old.known.log < pass.old.limit }
-    ensures { HasRun heap.now
-        (enter_at (read_mark mark) heap.now.heap.shape why.now (start_now heap.now pass.old) object mark)
+    ensures { HasMadeSteps heap.now
+        (enter_at (read_mark mark) heap.now.heap.shape context.now (start_now heap.now pass.old) object mark)
         pass.old pass.new result }
 {
     match mark_of_word(mark) {
-        Some(form) => enter_by(heap, pass, why, object, mark, form),
+        Some(form) => enter_by_mark(heap, pass, context, object, mark, form),
         None => unreachable!(),
     }
 }
 
 // The object's bias was revoked at the thread's safepoint, which is over. `took` says whether the thread gave itself a new
 // one.
-fn enter_again(heap: &Heap, pass: &mut Pass, why: &Purpose, object: u32, took: bool) -> Turn<Path>
+fn enter_again(
+    heap: &Heap,
+    pass: &mut Pass,
+    context: &CallContext,
+    object: u32,
+    took: bool,
+) -> Progress<Path>
     requires heap { IsOf heap.now pass.old }
     requires object { object < length heap.now.heap.shape.objects }
-    requires due { IsDueOn heap.now pass.old why.now.task
-        (enter_again heap.now.heap.shape why.now (start_now heap.now pass.old) object took) }
+    requires due { IsDueOn heap.now pass.old context.now.task
+        (enter_again heap.now.heap.shape context.now (start_now heap.now pass.old) object took) }
     requires room { length pass.old.known.log < pass.old.limit }
-    ensures { HasRun heap.now
-        (enter_again heap.now.heap.shape why.now (start_now heap.now pass.old) object took)
+    ensures { HasMadeSteps heap.now
+        (enter_again heap.now.heap.shape context.now (start_now heap.now pass.old) object took)
         pass.old pass.new result }
 {
-    match bias_after(heap, pass, why, object, took) {
-        BiasTry::Took(path) => Turn::Done(path),
-        BiasTry::Unbiased { mark } => enter_marked(heap, pass, why, object, mark),
-        BiasTry::Raced { expected, found } => Turn::Pending(Why::Raced { expected, found }),
+    match bias_after(heap, pass, context, object, took) {
+        BiasTry::Took(path) => Progress::Done(path),
+        BiasTry::Unbiased { mark } => enter_marked(heap, pass, context, object, mark),
+        BiasTry::Raced { expected, found } => Progress::Pending(PendingCause::Raced {
+            expected,
+            found,
+        }),
         BiasTry::Valid { .. } => unreachable!(),
     }
 }
@@ -115,57 +130,70 @@ fn enter_again(heap: &Heap, pass: &mut Pass, why: &Purpose, object: u32, took: b
 fn enter_revoked(
     heap: &Heap,
     pass: &mut Pass,
-    why: &Purpose,
+    context: &CallContext,
     bias: &Revocation,
     requesting: bool,
-) -> Turn<Path>
+) -> Progress<Path>
     requires heap { IsOf heap.now pass.old }
     requires object { bias.now.object < length heap.now.heap.shape.objects }
-    requires due { IsDueOn heap.now pass.old why.now.task
-        (enter_revoked heap.now.heap.shape requesting why.now (start_now heap.now pass.old) bias.now) }
+    requires due { IsDueOn heap.now pass.old context.now.task
+        (enter_revoked heap.now.heap.shape requesting context.now (start_now heap.now pass.old) bias.now) }
     requires room { length pass.old.known.log < pass.old.limit }
-    ensures { HasRun heap.now
-        (enter_revoked heap.now.heap.shape requesting why.now (start_now heap.now pass.old) bias.now)
+    ensures { HasMadeSteps heap.now
+        (enter_revoked heap.now.heap.shape requesting context.now (start_now heap.now pass.old) bias.now)
         pass.old pass.new result }
 {
-    match revocation(heap, pass, why, bias, requesting) {
-        Turn::Done(took) => enter_again(heap, pass, why, bias.object, took),
-        Turn::Pending(cause) => Turn::Pending(cause),
+    match revocation(heap, pass, context, bias, requesting) {
+        Progress::Done(took) => enter_again(heap, pass, context, bias.object, took),
+        Progress::Pending(cause) => Progress::Pending(cause),
     }
 }
 
 // No request of the thread stands: it tries the bias first.
-fn enter_first(heap: &Heap, pass: &mut Pass, why: &Purpose, bias: &Revocation) -> Turn<Path>
+fn enter_first(
+    heap: &Heap,
+    pass: &mut Pass,
+    context: &CallContext,
+    bias: &Revocation,
+) -> Progress<Path>
     requires heap { IsOf heap.now pass.old }
     requires object { bias.now.object < length heap.now.heap.shape.objects }
-    requires due { IsDueOn heap.now pass.old why.now.task
-        (enter_first heap.now.heap.shape why.now (start_now heap.now pass.old) bias.now) }
+    requires due { IsDueOn heap.now pass.old context.now.task
+        (enter_first heap.now.heap.shape context.now (start_now heap.now pass.old) bias.now) }
     requires room { length pass.old.known.log < pass.old.limit }
-    ensures { HasRun heap.now (enter_first heap.now.heap.shape why.now (start_now heap.now pass.old) bias.now)
+    ensures { HasMadeSteps heap.now (enter_first heap.now.heap.shape context.now (start_now heap.now pass.old) bias.now)
         pass.old pass.new result }
 {
-    match bias_enter(heap, pass, why, bias.object) {
-        BiasTry::Took(path) => Turn::Done(path),
-        BiasTry::Unbiased { mark } => enter_marked(heap, pass, why, bias.object, mark),
-        BiasTry::Valid { .. } => enter_revoked(heap, pass, why, bias, false),
-        BiasTry::Raced { expected, found } => Turn::Pending(Why::Raced { expected, found }),
+    match bias_enter(heap, pass, context, bias.object) {
+        BiasTry::Took(path) => Progress::Done(path),
+        BiasTry::Unbiased { mark } => enter_marked(heap, pass, context, bias.object, mark),
+        BiasTry::Valid { .. } => enter_revoked(heap, pass, context, bias, false),
+        BiasTry::Raced { expected, found } => Progress::Pending(PendingCause::Raced {
+            expected,
+            found,
+        }),
     }
 }
 
 // The thread has a place for one more hold.
-fn enter_placed(heap: &Heap, pass: &mut Pass, why: &Purpose, bias: &Revocation) -> Turn<Path>
+fn enter_placed(
+    heap: &Heap,
+    pass: &mut Pass,
+    context: &CallContext,
+    bias: &Revocation,
+) -> Progress<Path>
     requires heap { IsOf heap.now pass.old }
     requires object { bias.now.object < length heap.now.heap.shape.objects }
-    requires due { IsDueOn heap.now pass.old why.now.task
-        (enter_going heap.now.heap.shape why.now (start_now heap.now pass.old) bias.now) }
+    requires due { IsDueOn heap.now pass.old context.now.task
+        (enter_going heap.now.heap.shape context.now (start_now heap.now pass.old) bias.now) }
     requires room { length pass.old.known.log < pass.old.limit }
-    ensures { HasRun heap.now (enter_going heap.now.heap.shape why.now (start_now heap.now pass.old) bias.now)
+    ensures { HasMadeSteps heap.now (enter_going heap.now.heap.shape context.now (start_now heap.now pass.old) bias.now)
         pass.old pass.new result }
 {
     if pass.requesting() {
-        return enter_revoked(heap, pass, why, bias, true);
+        return enter_revoked(heap, pass, context, bias, true);
     }
-    enter_first(heap, pass, why, bias)
+    enter_first(heap, pass, context, bias)
 }
 
 /// Takes a hold of the object. `now` is the moment for the policy of bulk operations, in milliseconds from 1.
@@ -185,10 +213,10 @@ fn enter_placed(heap: &Heap, pass: &mut Pass, why: &Purpose, bias: &Revocation) 
 /// `TooDeep` exactly where the thread has 64 holds. Then no step is made.
 ///
 /// In OpenJDK 8: `ObjectSynchronizer::fast_enter` and `slow_enter` (`synchronizer.cpp`).
-pub fn enter(heap: &Heap, pass: &mut Pass, object: u32, now: u64) -> Result<Turn<Path>, TooDeep>
+pub fn enter(heap: &Heap, pass: &mut Pass, object: u32, now: u64) -> Result<Progress<Path>, TooDeep>
     requires { MayOperate heap.now pass.old (Enter object now) }
     ensures rests { Rests heap.now pass.new }
-    ensures run { HasRun heap.now (enter_steps heap.now.heap.shape (start_now heap.now pass.old) object now)
+    ensures run { HasMadeSteps heap.now (enter_steps heap.now.heap.shape (start_now heap.now pass.old) object now)
         pass.old pass.new result }
     ensures says { Tells pass.old.known pass.new.known
         (λ ms. EnterSays (start_now heap.now pass.old) object ms result) }
@@ -198,11 +226,11 @@ pub fn enter(heap: &Heap, pass: &mut Pass, object: u32, now: u64) -> Result<Turn
     if pass.is_full() {
         return Err(TooDeep);
     }
-    let why = unfinished(Task::Enter { object, now }, Op::Enter, object);
+    let context = unfinished(HeapCall::Enter { object, now }, Operation::Enter, object);
     let bias = Revocation {
         object,
         rebias: true,
         moment: now,
     };
-    Ok(enter_placed(heap, pass, &why, &bias))
+    Ok(enter_placed(heap, pass, &context, &bias))
 }

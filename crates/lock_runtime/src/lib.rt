@@ -6,12 +6,12 @@
 //! steps. None takes memory, none waits, and none tries again.
 #![tactic(auto)]
 
+mod contexts;
 mod entering;
 mod hashing;
 mod leaving;
 mod looking;
 mod making;
-mod purposes;
 mod revoking;
 mod running;
 mod values;

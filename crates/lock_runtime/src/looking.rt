@@ -1,78 +1,83 @@
 //! Calls that look at all threads and objects at a safepoint: a check whether the run is stuck, and a dump. Both give
 //! idle monitors back before the safepoint ends.
 ghost use Rattle.std.specs.Prelude.{◌≡◌, ◌+◌, ◌<◌, ℕ, length, true, Ok};
-ghost use Rattle.core_world.specs.declared.task.Task.TheVariants.{Check, Dump};
-ghost use Rattle.core_world.specs.declared.answer.Turn.TheVariants as turn;
-ghost use Rattle.core_world.specs.Threads.Known.{local_of};
+ghost use Rattle.core_world.specs.declared.heap_call.HeapCall.TheVariants.{Check, Dump};
+ghost use Rattle.core_world.specs.declared.answer.Progress.TheVariants as progress;
+ghost use Rattle.core_world.specs.Threads.ThreadView.{local_of};
 ghost use Rattle.core_world.specs.Trees.Operations.{check_ending, check_steps, dump_steps};
 ghost use Rattle.core_calls.specs.Paths.{Tells};
 ghost use Rattle.core_calls.specs.CallsSay.{CheckSays, DumpSays};
 ghost use Rattle.core_calls.specs.Stuck.{CheckFinds};
-ghost use Rattle.heap_table.specs.Parts.{IsDueOn, HasRun};
+ghost use Rattle.heap_table.specs.Parts.{IsDueOn, HasMadeSteps};
 ghost use Rattle.heap_table.specs.Resting.{MayCall, MayOperate, Rests, start_now};
 ghost use Rattle.heap_table.specs.Seen.{IsOf};
 ghost use Rattle.lock_runtime.specs.inner.LookParts.{checking, reached_check, check_going};
 ghost use Rattle.lock_runtime.specs.LookParts.{HasDumped};
 ghost use Rattle.lock_runtime.specs.inner.LookParts.{told_dump, reached_dump, numbered_dump};
-ghost use Rattle.lock_runtime.specs.Standing.{StandsOrSame, StandsBehindCheck};
+ghost use Rattle.lock_runtime.specs.Standing.{StandsOrSame, StandsAfterCheckTurn};
 ghost use Rattle.lock_runtime.specs.Others.{PendsForAnother, PendsOrRefused};
 ghost use Rattle.lock_runtime.specs.Shots.{HasShots};
 
-use crate::purposes::unfinished;
-use core_world::{Op, Stage, Task, TooManyDumps, Turn};
-use heap_table::{Heap, Pass, Purpose};
+use crate::contexts::unfinished;
+use core_world::{HeapCall, Operation, Progress, Stage, TooManyDumps};
+use heap_table::{CallContext, Heap, Pass};
 use object_monitor::publish;
 use plain_monitor::Entry;
-use revoke_walk::{deflate_idle, stands_still, take_shot};
 use safepoint::{halt, release, safepoint};
+use safepoint_work::{deflate_idle, stands_still, take_shot};
 
 // The thread's safepoint ends: by the halt where the run stands still, and else by the release.
-fn end_check(heap: &Heap, pass: &mut Pass, why: &Purpose, still: bool) -> Turn<bool>
+fn end_check(heap: &Heap, pass: &mut Pass, context: &CallContext, still: bool) -> Progress<bool>
     requires heap { IsOf heap.now pass.old }
-    requires due { IsDueOn heap.now pass.old why.now.task (check_ending still why.now pass.old.known.thread) }
-    ensures { HasRun heap.now (check_ending still why.now pass.old.known.thread) pass.old pass.new result }
+    requires due { IsDueOn heap.now pass.old context.now.task (check_ending still context.now pass.old.known.thread) }
+    ensures { HasMadeSteps heap.now (check_ending still context.now pass.old.known.thread) pass.old pass.new result }
 {
     if still {
-        halt(heap, pass, why);
-        return Turn::Done(true);
+        halt(heap, pass, context);
+        return Progress::Done(true);
     }
-    release(heap, pass, why);
-    Turn::Done(false)
+    release(heap, pass, context);
+    Progress::Done(false)
 }
 
 // The thread has its safepoint.
-fn check_reached(heap: &Heap, pass: &mut Pass, why: &Purpose) -> Turn<bool>
+fn check_reached(heap: &Heap, pass: &mut Pass, context: &CallContext) -> Progress<bool>
     requires heap { IsOf heap.now pass.old }
-    requires due { IsDueOn heap.now pass.old why.now.task
-        (reached_check heap.now.heap.shape pass.old.known.thread why.now) }
-    ensures { HasRun heap.now (reached_check heap.now.heap.shape pass.old.known.thread why.now)
+    requires due { IsDueOn heap.now pass.old context.now.task
+        (reached_check heap.now.heap.shape pass.old.known.thread context.now) }
+    ensures { HasMadeSteps heap.now (reached_check heap.now.heap.shape pass.old.known.thread context.now)
         pass.old pass.new result }
 {
-    let still = stands_still(heap, pass, why);
-    deflate_idle(heap, pass, why, Stage::Calm);
-    end_check(heap, pass, why, still)
+    let still = stands_still(heap, pass, context);
+    deflate_idle(heap, pass, context, Stage::Settled);
+    end_check(heap, pass, context, still)
 }
 
 // A check asks for a safepoint, or goes on with the one that it asked for.
-fn check_asking(heap: &Heap, pass: &mut Pass, why: &Purpose, requesting: bool) -> Turn<bool>
+fn check_asking(
+    heap: &Heap,
+    pass: &mut Pass,
+    context: &CallContext,
+    requesting: bool,
+) -> Progress<bool>
     requires heap { IsOf heap.now pass.old }
-    requires due { IsDueOn heap.now pass.old why.now.task
-        (check_going heap.now.heap.shape pass.old.known.thread requesting why.now) }
-    ensures { HasRun heap.now (check_going heap.now.heap.shape pass.old.known.thread requesting why.now)
+    requires due { IsDueOn heap.now pass.old context.now.task
+        (check_going heap.now.heap.shape pass.old.known.thread requesting context.now) }
+    ensures { HasMadeSteps heap.now (check_going heap.now.heap.shape pass.old.known.thread requesting context.now)
         pass.old pass.new result }
 {
-    match safepoint(heap, pass, why, requesting) {
-        Turn::Done(()) => check_reached(heap, pass, why),
-        Turn::Pending(cause) => Turn::Pending(cause),
+    match safepoint(heap, pass, context, requesting) {
+        Progress::Done(()) => check_reached(heap, pass, context),
+        Progress::Pending(cause) => Progress::Pending(cause),
     }
 }
 
 // A check leaves the unfinished operation as it is.
-fn checking(pass: &Pass) -> Purpose
+fn checking(pass: &Pass) -> CallContext
     ensures { result ≡ checking pass.now.known.unfinished }
 {
-    Purpose {
-        task: Task::Check,
+    CallContext {
+        task: HeapCall::Check,
         unfinished: pass.unfinished(),
         check: true,
     }
@@ -94,75 +99,75 @@ fn checking(pass: &Pass) -> Purpose
 /// Nothing is logged, and an unfinished operation stays so.
 ///
 /// In OpenJDK 8: nothing; `VM_FindDeadlocks` (`vm_operations.hpp`) looks for circles.
-pub fn check_stuck(heap: &Heap, pass: &mut Pass) -> Turn<bool>
+pub fn check_stuck(heap: &Heap, pass: &mut Pass) -> Progress<bool>
     requires { MayCall heap.now pass.old Check }
     ensures rests { Rests heap.now pass.new }
-    ensures run { HasRun heap.now (check_steps heap.now.heap.shape (start_now heap.now pass.old))
+    ensures run { HasMadeSteps heap.now (check_steps heap.now.heap.shape (start_now heap.now pass.old))
         pass.old pass.new result }
     ensures says { Tells pass.old.known pass.new.known (λ ms. CheckSays (start_now heap.now pass.old) ms result) }
     ensures finds { Tells pass.old.known pass.new.known (λ ms. CheckFinds heap.now.heap.shape ms result) }
-    ensures stands { StandsBehindCheck pass.new.known result }
+    ensures stands { StandsAfterCheckTurn pass.new.known result }
     ensures others { PendsForAnother pass.old.known.thread result }
 {
-    let why = checking(pass);
+    let context = checking(pass);
     let requesting = pass.requesting();
-    check_asking(heap, pass, &why, requesting)
+    check_asking(heap, pass, &context, requesting)
 }
 
 // The shot is kept: the safepoint ends, and the dump of this number is logged.
-fn tell_dump(heap: &Heap, pass: &mut Pass, why: &Purpose, number: u32) -> Turn<u32>
+fn tell_dump(heap: &Heap, pass: &mut Pass, context: &CallContext, number: u32) -> Progress<u32>
     requires heap { IsOf heap.now pass.old }
-    requires due { IsDueOn heap.now pass.old why.now.task (told_dump why.now (local_of pass.old.known) number) }
+    requires due { IsDueOn heap.now pass.old context.now.task (told_dump context.now (local_of pass.old.known) number) }
     requires room { length pass.old.known.log < pass.old.limit }
-    ensures { HasRun heap.now (told_dump why.now (local_of pass.old.known) number) pass.old pass.new result }
+    ensures { HasMadeSteps heap.now (told_dump context.now (local_of pass.old.known) number) pass.old pass.new result }
 {
-    release(heap, pass, why);
-    publish(heap, pass, why, Entry::Dump { number });
-    Turn::Done(number)
+    release(heap, pass, context);
+    publish(heap, pass, context, Entry::Dump { number });
+    Progress::Done(number)
 }
 
 // The thread has its safepoint.
-fn dump_reached(heap: &Heap, pass: &mut Pass, why: &Purpose, number: u32) -> Turn<u32>
+fn dump_reached(heap: &Heap, pass: &mut Pass, context: &CallContext, number: u32) -> Progress<u32>
     requires heap { IsOf heap.now pass.old }
     requires reached { pass.old.known.reached ≡ true }
-    requires due { IsDueOn heap.now pass.old why.now.task
-        (reached_dump heap.now.heap.shape why.now (local_of pass.old.known) number) }
+    requires due { IsDueOn heap.now pass.old context.now.task
+        (reached_dump heap.now.heap.shape context.now (local_of pass.old.known) number) }
     requires room { length pass.old.known.log < pass.old.limit }
-    ensures { HasDumped heap.now (reached_dump heap.now.heap.shape why.now (local_of pass.old.known) number)
+    ensures { HasDumped heap.now (reached_dump heap.now.heap.shape context.now (local_of pass.old.known) number)
         pass.old pass.new result }
 {
-    take_shot(heap, pass, why);
-    deflate_idle(heap, pass, why, Stage::Calm);
-    tell_dump(heap, pass, why, number)
+    take_shot(heap, pass, context);
+    deflate_idle(heap, pass, context, Stage::Settled);
+    tell_dump(heap, pass, context, number)
 }
 
 // A dump asks for a safepoint, or goes on with the one that it asked for.
 fn dump_asking(
     heap: &Heap,
     pass: &mut Pass,
-    why: &Purpose,
+    context: &CallContext,
     number: u32,
     requesting: bool,
-) -> Turn<u32>
+) -> Progress<u32>
     requires heap { IsOf heap.now pass.old }
-    requires due { IsDueOn heap.now pass.old why.now.task
-        (numbered_dump heap.now.heap.shape requesting why.now (local_of pass.old.known) number) }
+    requires due { IsDueOn heap.now pass.old context.now.task
+        (numbered_dump heap.now.heap.shape requesting context.now (local_of pass.old.known) number) }
     requires room { length pass.old.known.log < pass.old.limit }
     ensures { HasDumped heap.now
-        (numbered_dump heap.now.heap.shape requesting why.now (local_of pass.old.known) number)
+        (numbered_dump heap.now.heap.shape requesting context.now (local_of pass.old.known) number)
         pass.old pass.new result }
 {
-    match safepoint(heap, pass, why, requesting) {
-        Turn::Done(()) => dump_reached(heap, pass, why, number),
-        Turn::Pending(cause) => Turn::Pending(cause),
+    match safepoint(heap, pass, context, requesting) {
+        Progress::Done(()) => dump_reached(heap, pass, context, number),
+        Progress::Pending(cause) => Progress::Pending(cause),
     }
 }
 
 /// Takes a shot of all locks and logs at a safepoint of the thread's own, which is over then: for each object who has its
-/// lock and how often, and the length of each thread's log. Behind the shot idle monitors are given back.
+/// lock and how often, and the length of each thread's log. After the shot idle monitors are given back.
 ///
 /// `Done(number)` says that the pass has one more shot, the last of `Pass::shots`, and that this is its number, from 1:
-/// the Dump is logged, behind the shot, and nothing is unfinished.
+/// the Dump is logged, after the shot, and nothing is unfinished.
 ///
 /// Pending, no shot is taken and nothing logged, and the dump stays unfinished:
 ///
@@ -177,7 +182,7 @@ fn dump_asking(
 /// `TooManyDumps` exactly where the thread has 4 shots. Then no step is made.
 ///
 /// In OpenJDK 8: `VM_ThreadDump` (`vm_operations.hpp`), which has stacks.
-pub fn dump(heap: &Heap, pass: &mut Pass) -> Result<Turn<u32>, TooManyDumps>
+pub fn dump(heap: &Heap, pass: &mut Pass) -> Result<Progress<u32>, TooManyDumps>
     requires { MayOperate heap.now pass.old Dump }
     ensures rests { Rests heap.now pass.new }
     ensures run { HasDumped heap.now (dump_steps heap.now.heap.shape (start_now heap.now pass.old))
@@ -191,7 +196,7 @@ pub fn dump(heap: &Heap, pass: &mut Pass) -> Result<Turn<u32>, TooManyDumps>
     if taken == 4 {
         return Err(TooManyDumps);
     }
-    let why = unfinished(Task::Dump, Op::Dump, 0);
+    let context = unfinished(HeapCall::Dump, Operation::Dump, 0);
     let requesting = pass.requesting();
-    Ok(dump_asking(heap, pass, &why, taken as u32 + 1, requesting))
+    Ok(dump_asking(heap, pass, &context, taken as u32 + 1, requesting))
 }

@@ -1,20 +1,20 @@
 //! A call that makes an object.
 ghost use Rattle.std.specs.Prelude.{◌≡◌, ◌<◌, ℕ, length, true, Ok};
 ghost use Rattle.plain_monitor.specs.Limits.{most_made};
-ghost use Rattle.core_world.specs.declared.task.Task.TheVariants.{Create};
-ghost use Rattle.core_world.specs.Threads.Known.{local_of};
+ghost use Rattle.core_world.specs.declared.heap_call.HeapCall.TheVariants.{Create};
+ghost use Rattle.core_world.specs.Threads.ThreadView.{local_of};
 ghost use Rattle.core_world.specs.Threads.References.{has_reference};
 ghost use Rattle.core_world.specs.Trees.CreateSteps.{count_made, next_made, make_steps};
 ghost use Rattle.core_world.specs.Trees.Operations.{create_steps};
 ghost use Rattle.core_calls.specs.Paths.{Tells};
 ghost use Rattle.core_calls.specs.CallsSay.{CreateSays};
-ghost use Rattle.heap_table.specs.Parts.{IsDueOn, HasRun};
+ghost use Rattle.heap_table.specs.Parts.{IsDueOn, HasMadeSteps};
 ghost use Rattle.heap_table.specs.Resting.{MayOperate, Rests, start_now};
 ghost use Rattle.heap_table.specs.Seen.{IsOf};
 ghost use Rattle.lock_runtime.specs.Standing.{RunsOrSame};
 
-use crate::purposes::{alone, unfinished};
-use core_world::{Name, Op, Stage, Task, TooMany};
+use crate::contexts::{alone, unfinished};
+use core_world::{HeapCall, Operation, Stage, TooMany, WordId};
 use heap_table::{Heap, Pass};
 use plain_monitor::Entry;
 use plain_monitor::limits::MADE;
@@ -34,16 +34,27 @@ fn make(heap: &Heap, pass: &mut Pass, object: u32, class: u32)
     requires heap { IsOf heap.now pass.old }
     requires room { length pass.old.known.log < pass.old.limit }
     requires due { IsDueOn heap.now pass.old (Create class) (make_steps object class) }
-    ensures { HasRun heap.now (make_steps object class) pass.old pass.new object }
+    ensures { HasMadeSteps heap.now (make_steps object class) pass.old pass.new object }
 {
-    let task = Task::Create { class };
-    let prototype = heap.load(pass, &alone(task), Stage::Calm, Name::Prototype { class });
-    let why = unfinished(task, Op::Create, object);
+    let task = HeapCall::Create { class };
+    let prototype = heap.load(
+        pass,
+        &alone(task),
+        Stage::Settled,
+        WordId::Prototype { class },
+    );
+    let context = unfinished(task, Operation::Create, object);
     let word = u64::from(class) + 1;
-    heap.store(pass, &why, Stage::Calm, Name::Class { object }, word);
+    heap.store(
+        pass,
+        &context,
+        Stage::Settled,
+        WordId::Class { object },
+        word,
+    );
     let entry = Entry::New { object, class };
-    let at = Name::Mark { object };
-    heap.log_store(pass, &why, Stage::Calm, at, prototype, entry);
+    let at = WordId::Mark { object };
+    heap.log_store(pass, &context, Stage::Settled, at, prototype, entry);
 }
 
 /// Makes an object of the class, the thread's next one, and answers its number.
@@ -59,7 +70,7 @@ fn make(heap: &Heap, pass: &mut Pass, object: u32, class: u32)
 pub fn create(heap: &Heap, pass: &mut Pass, class: u32) -> Result<u32, TooMany>
     requires { MayOperate heap.now pass.old (Create class) }
     ensures rests { Rests heap.now pass.new }
-    ensures run { HasRun heap.now (create_steps heap.now.heap.shape (start_now heap.now pass.old) class)
+    ensures run { HasMadeSteps heap.now (create_steps heap.now.heap.shape (start_now heap.now pass.old) class)
         pass.old pass.new result }
     ensures says { Tells pass.old.known pass.new.known
         (λ ms. CreateSays heap.now.heap.shape (start_now heap.now pass.old) class ms result) }

@@ -1,19 +1,19 @@
 //! Calls that make one entry at once: slots, prints and the end of a thread.
 ghost use Rattle.std.specs.Prelude.{◌≡◌, ◌≤◌, true, Ok};
 ghost use Rattle.plain_history.specs.HeldByLog.{held_by, nothing_held};
-ghost use Rattle.core_world.specs.declared.task.Task.TheVariants.{Get, Put, Print, Finish};
+ghost use Rattle.core_world.specs.declared.heap_call.HeapCall.TheVariants.{Get, Put, Print, Finish};
 ghost use Rattle.core_world.specs.Trees.Operations.{get_steps, put_steps, print_steps, finish_steps};
 ghost use Rattle.core_calls.specs.Paths.{Tells};
 ghost use Rattle.core_calls.specs.CallsSay.{GetSays, PutSays, PrintSays, FinishSays};
-ghost use Rattle.heap_table.specs.Parts.{HasRun};
+ghost use Rattle.heap_table.specs.Parts.{HasMadeSteps};
 ghost use Rattle.heap_table.specs.Resting.{MayOperate, Rests, start_now};
 ghost use Rattle.lock_runtime.specs.Standing.{IsRunning, RunsOrSame};
 ghost use Rattle.lock_runtime.specs.Refusals.{IsRefusedUnheld};
 ghost use Rattle.plain_monitor.specs.declared.entry.Value.{Value};
 ghost use Rattle.core_world.specs.Trees.Calls.{is_value};
 
-use crate::purposes::alone;
-use core_world::{Name, Stage, Task, Unguarded};
+use crate::contexts::alone;
+use core_world::{HeapCall, Stage, Unguarded, WordId};
 use heap_table::{Heap, Pass, value_of_word};
 use mark_word::{WaitForm, encode_wait};
 use object_monitor::publish;
@@ -27,7 +27,7 @@ use plain_monitor::{Ending, Entry, Value, ending_entry, value_word};
 pub fn get(heap: &Heap, pass: &mut Pass, object: u32, slot: u32) -> Result<Value, Unguarded>
     requires { MayOperate heap.now pass.old (Get object slot) }
     ensures rests { Rests heap.now pass.new }
-    ensures run { HasRun heap.now (get_steps (start_now heap.now pass.old) object slot) pass.old pass.new result }
+    ensures run { HasMadeSteps heap.now (get_steps (start_now heap.now pass.old) object slot) pass.old pass.new result }
     ensures says { Tells pass.old.known pass.new.known
         (λ ms. GetSays (start_now heap.now pass.old) object slot ms result) }
     ensures stands { RunsOrSame pass.old.known pass.new.known result }
@@ -46,15 +46,15 @@ pub fn get_held(heap: &Heap, pass: &mut Pass, object: u32, slot: u32) -> Value
     requires may { MayOperate heap.now pass.old (Get object slot) }
     requires held { 1 ≤ held_by nothing_held pass.old.known.log object }
     ensures rests { Rests heap.now pass.new }
-    ensures run { HasRun heap.now (get_steps (start_now heap.now pass.old) object slot)
+    ensures run { HasMadeSteps heap.now (get_steps (start_now heap.now pass.old) object slot)
         pass.old pass.new (Ok result) }
     ensures says { Tells pass.old.known pass.new.known
         (λ ms. GetSays (start_now heap.now pass.old) object slot ms (Ok result)) }
     ensures stands { IsRunning pass.new.known }
     ensures value { is_value heap.now.heap.shape result ≡ true }
 {
-    let why = alone(Task::Get { object, slot });
-    let word = heap.log_get(pass, &why, object, slot);
+    let context = alone(HeapCall::Get { object, slot });
+    let word = heap.log_get(pass, &context, object, slot);
     value_of_word(word)
 }
 
@@ -72,7 +72,7 @@ pub fn put(
 ) -> Result<(), Unguarded>
     requires { MayOperate heap.now pass.old (Put object slot value) }
     ensures rests { Rests heap.now pass.new }
-    ensures run { HasRun heap.now (put_steps (start_now heap.now pass.old) object slot value)
+    ensures run { HasMadeSteps heap.now (put_steps (start_now heap.now pass.old) object slot value)
         pass.old pass.new result }
     ensures says { Tells pass.old.known pass.new.known
         (λ ms. PutSays (start_now heap.now pass.old) object slot value ms result) }
@@ -92,13 +92,13 @@ pub fn put_held(heap: &Heap, pass: &mut Pass, object: u32, slot: u32, value: Val
     requires may { MayOperate heap.now pass.old (Put object slot value) }
     requires held { 1 ≤ held_by nothing_held pass.old.known.log object }
     ensures rests { Rests heap.now pass.new }
-    ensures run { HasRun heap.now (put_steps (start_now heap.now pass.old) object slot value)
+    ensures run { HasMadeSteps heap.now (put_steps (start_now heap.now pass.old) object slot value)
         pass.old pass.new (Ok result) }
     ensures says { Tells pass.old.known pass.new.known
         (λ ms. PutSays (start_now heap.now pass.old) object slot value ms (Ok result)) }
     ensures stands { IsRunning pass.new.known }
 {
-    let why = alone(Task::Put {
+    let context = alone(HeapCall::Put {
         object,
         slot,
         value,
@@ -108,20 +108,27 @@ pub fn put_held(heap: &Heap, pass: &mut Pass, object: u32, slot: u32, value: Val
         slot,
         value,
     };
-    let at = Name::Slot { object, slot };
-    heap.log_store(pass, &why, Stage::Calm, at, value_word(&value), entry);
+    let at = WordId::Slot { object, slot };
+    heap.log_store(
+        pass,
+        &context,
+        Stage::Settled,
+        at,
+        value_word(&value),
+        entry,
+    );
 }
 
 /// Logs a Print of the value.
 pub fn print(heap: &Heap, pass: &mut Pass, value: Value)
     requires { MayOperate heap.now pass.old (Print value) }
     ensures rests { Rests heap.now pass.new }
-    ensures run { HasRun heap.now (print_steps (start_now heap.now pass.old) value) pass.old pass.new result }
+    ensures run { HasMadeSteps heap.now (print_steps (start_now heap.now pass.old) value) pass.old pass.new result }
     ensures says { Tells pass.old.known pass.new.known (λ ms. PrintSays value ms result) }
     ensures stands { IsRunning pass.new.known }
 {
-    let why = alone(Task::Print { value });
-    publish(heap, pass, &why, Entry::Print { value })
+    let context = alone(HeapCall::Print { value });
+    publish(heap, pass, &context, Entry::Print { value })
 }
 
 /// Ends the thread, which has no holds: logs how it ended, and says so in its waiting word. It may be stopped and
@@ -129,14 +136,20 @@ pub fn print(heap: &Heap, pass: &mut Pass, value: Value)
 pub fn finish(heap: &Heap, pass: &mut Pass, ending: Ending)
     requires { MayOperate heap.now pass.old (Finish ending) }
     ensures rests { Rests heap.now pass.new }
-    ensures run { HasRun heap.now (finish_steps (start_now heap.now pass.old) ending) pass.old pass.new result }
+    ensures run { HasMadeSteps heap.now (finish_steps (start_now heap.now pass.old) ending) pass.old pass.new result }
     ensures says { Tells pass.old.known pass.new.known (λ ms. FinishSays ending ms result) }
     ensures stands { IsRunning pass.new.known }
 {
-    let why = alone(Task::Finish { ending });
-    publish(heap, pass, &why, ending_entry(ending));
-    let at = Name::Waiting {
+    let context = alone(HeapCall::Finish { ending });
+    publish(heap, pass, &context, ending_entry(ending));
+    let at = WordId::Waiting {
         thread: pass.thread(),
     };
-    heap.store(pass, &why, Stage::Calm, at, encode_wait(&WaitForm::Ended));
+    heap.store(
+        pass,
+        &context,
+        Stage::Settled,
+        at,
+        encode_wait(&WaitForm::Ended),
+    );
 }

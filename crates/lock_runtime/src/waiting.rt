@@ -1,7 +1,7 @@
 //! The calls that wait on an object, and that notify those who do.
 ghost use Rattle.std.specs.Prelude.{◌≡◌, ◌+◌, ◌<◌, ◌≤◌, length, Some};
-ghost use Rattle.core_world.specs.declared.task.Task.TheVariants.{Wait, Notify, NotifyAll};
-ghost use Rattle.core_world.specs.Threads.Known.{local_of};
+ghost use Rattle.core_world.specs.declared.heap_call.HeapCall.TheVariants.{Wait, Notify, NotifyAll};
+ghost use Rattle.core_world.specs.Threads.ThreadView.{local_of};
 ghost use Rattle.core_world.specs.Trees.Calls.{most_logged};
 ghost use Rattle.core_world.specs.Trees.Operations.{wait_beginning, wait_going, wait_steps};
 ghost use Rattle.core_world.specs.Trees.Operations.{notify_at, notify_going, notify_steps};
@@ -10,7 +10,7 @@ ghost use Rattle.core_world.specs.Words.Forms.{waits_on};
 ghost use Rattle.core_calls.specs.CallsSay.{WaitSays, NotifySays, NotifyAllSays};
 ghost use Rattle.core_calls.specs.Paths.{Tells};
 ghost use Rattle.core_calls.specs.Woken.{IfDone};
-ghost use Rattle.heap_table.specs.Parts.{IsDueOn, HasRun};
+ghost use Rattle.heap_table.specs.Parts.{IsDueOn, HasMadeSteps};
 ghost use Rattle.heap_table.specs.Resting.{MayOperate, Rests, start_now};
 ghost use Rattle.heap_table.specs.Seen.{IsOf};
 ghost use Rattle.lock_runtime.specs.inner.WaitParts.{inflated_wait, letting_go, marked_notify, marked_notify_all};
@@ -19,16 +19,16 @@ ghost use Rattle.lock_runtime.specs.Standing.{StandsOrSame};
 ghost use Rattle.lock_runtime.specs.Others.{PendsOrRefused};
 ghost use Rattle.lock_runtime.specs.Refusals.{IsRefusedUnheld};
 
-use crate::purposes::unfinished;
+use crate::contexts::unfinished;
 use crate::revoking::unbias;
-use core_world::{IllegalMonitorState, Name, Op, Stage, Task, Turn, Why};
-use heap_table::{Heap, Pass, Purpose, mark_of_word, wait_of_word};
+use core_world::{HeapCall, IllegalMonitorState, Operation, PendingCause, Progress, Stage, WordId};
+use heap_table::{CallContext, Heap, Pass, mark_of_word, wait_of_word};
 use mark_word::{MarkForm, WaitForm};
 use object_monitor::{
     inflate, monitor_notify, monitor_notify_all, monitor_resume, monitor_wait, publish,
 };
 use plain_monitor::Entry;
-use revoke_walk::Revocation;
+use safepoint_work::Revocation;
 
 // Whether this waiting word says that its thread waits on the object.
 fn waits_on(word: u64, object: u32) -> bool
@@ -44,45 +44,57 @@ fn waits_on(word: u64, object: u32) -> bool
 }
 
 // The thread owns the object's monitor: it logs the Wait, lets go, and looks whether it was notified.
-fn let_go(heap: &Heap, pass: &mut Pass, why: &Purpose, object: u32, monitor: u32) -> Turn<()>
+fn let_go(
+    heap: &Heap,
+    pass: &mut Pass,
+    context: &CallContext,
+    object: u32,
+    monitor: u32,
+) -> Progress<()>
     requires heap { IsOf heap.now pass.old }
     requires object { object < length heap.now.heap.shape.objects }
-    requires due { IsDueOn heap.now pass.old why.now.task
-        (letting_go why.now (local_of pass.old.known) object monitor) }
+    requires due { IsDueOn heap.now pass.old context.now.task
+        (letting_go context.now (local_of pass.old.known) object monitor) }
     requires room { length pass.old.known.log + 2 ≤ pass.old.limit }
-    ensures { HasRun heap.now (letting_go why.now (local_of pass.old.known) object monitor)
+    ensures { HasMadeSteps heap.now (letting_go context.now (local_of pass.old.known) object monitor)
         pass.old pass.new result }
 {
-    let saved = monitor_wait(heap, pass, why, object, monitor);
-    monitor_resume(heap, pass, why, saved, object)
+    let saved = monitor_wait(heap, pass, context, object, monitor);
+    monitor_resume(heap, pass, context, saved, object)
 }
 
 // The object's mark has no bias pattern: the object gets a monitor, if it has none.
-fn wait_inflated(heap: &Heap, pass: &mut Pass, why: &Purpose, object: u32) -> Turn<()>
+fn wait_inflated(heap: &Heap, pass: &mut Pass, context: &CallContext, object: u32) -> Progress<()>
     requires heap { IsOf heap.now pass.old }
     requires object { object < length heap.now.heap.shape.objects }
-    requires due { IsDueOn heap.now pass.old why.now.task
-        (inflated_wait heap.now.heap.shape why.now pass.old.known.kept (local_of pass.old.known) object) }
+    requires due { IsDueOn heap.now pass.old context.now.task
+        (inflated_wait heap.now.heap.shape context.now pass.old.known.kept (local_of pass.old.known) object) }
     requires room { length pass.old.known.log + 2 ≤ pass.old.limit }
-    ensures { HasRun heap.now
-        (inflated_wait heap.now.heap.shape why.now pass.old.known.kept (local_of pass.old.known) object)
+    ensures { HasMadeSteps heap.now
+        (inflated_wait heap.now.heap.shape context.now pass.old.known.kept (local_of pass.old.known) object)
         pass.old pass.new result }
 {
-    match inflate(heap, pass, why, object) {
-        Turn::Done(monitor) => let_go(heap, pass, why, object, monitor),
-        Turn::Pending(cause) => Turn::Pending(cause),
+    match inflate(heap, pass, context, object) {
+        Progress::Done(monitor) => let_go(heap, pass, context, object, monitor),
+        Progress::Pending(cause) => Progress::Pending(cause),
     }
 }
 
 // The thread has a hold on the object, and has not let it go.
-fn wait_anew(heap: &Heap, pass: &mut Pass, why: &Purpose, object: u32, now: u64) -> Turn<()>
+fn wait_anew(
+    heap: &Heap,
+    pass: &mut Pass,
+    context: &CallContext,
+    object: u32,
+    now: u64,
+) -> Progress<()>
     requires heap { IsOf heap.now pass.old }
     requires object { object < length heap.now.heap.shape.objects }
-    requires due { IsDueOn heap.now pass.old why.now.task
-        (wait_beginning heap.now.heap.shape why.now (start_now heap.now pass.old) object now) }
+    requires due { IsDueOn heap.now pass.old context.now.task
+        (wait_beginning heap.now.heap.shape context.now (start_now heap.now pass.old) object now) }
     requires room { length pass.old.known.log + 2 ≤ pass.old.limit }
-    ensures { HasRun heap.now
-        (wait_beginning heap.now.heap.shape why.now (start_now heap.now pass.old) object now)
+    ensures { HasMadeSteps heap.now
+        (wait_beginning heap.now.heap.shape context.now (start_now heap.now pass.old) object now)
         pass.old pass.new result }
 {
     let bias = Revocation {
@@ -90,34 +102,40 @@ fn wait_anew(heap: &Heap, pass: &mut Pass, why: &Purpose, object: u32, now: u64)
         rebias: false,
         moment: now,
     };
-    match unbias(heap, pass, why, &bias) {
-        Turn::Done(()) => wait_inflated(heap, pass, why, object),
-        Turn::Pending(cause) => Turn::Pending(cause),
+    match unbias(heap, pass, context, &bias) {
+        Progress::Done(()) => wait_inflated(heap, pass, context, object),
+        Progress::Pending(cause) => Progress::Pending(cause),
     }
 }
 
 // The thread has a hold on the object. Where the waiting word that it last stored says so, it has let go already.
-fn wait_held(heap: &Heap, pass: &mut Pass, why: &Purpose, object: u32, now: u64) -> Turn<()>
+fn wait_held(
+    heap: &Heap,
+    pass: &mut Pass,
+    context: &CallContext,
+    object: u32,
+    now: u64,
+) -> Progress<()>
     requires heap { IsOf heap.now pass.old }
     requires object { object < length heap.now.heap.shape.objects }
-    requires due { IsDueOn heap.now pass.old why.now.task
-        (wait_going heap.now.heap.shape why.now (start_now heap.now pass.old) object now) }
+    requires due { IsDueOn heap.now pass.old context.now.task
+        (wait_going heap.now.heap.shape context.now (start_now heap.now pass.old) object now) }
     requires room { length pass.old.known.log + most_logged pass.old.known (Wait object now) ≤ pass.old.limit }
-    ensures { HasRun heap.now (wait_going heap.now.heap.shape why.now (start_now heap.now pass.old) object now)
+    ensures { HasMadeSteps heap.now (wait_going heap.now.heap.shape context.now (start_now heap.now pass.old) object now)
         pass.old pass.new result }
 {
     if waits_on(pass.wait_word(), object) {
         let saved = pass.saved();
-        return monitor_resume(heap, pass, why, saved, object);
+        return monitor_resume(heap, pass, context, saved, object);
     }
-    wait_anew(heap, pass, why, object, now)
+    wait_anew(heap, pass, context, object, now)
 }
 
 /// Waits on the object: lets its monitor go, with all recursions, until another thread notifies this one. `now` is the
 /// moment for the policy of bulk operations, in milliseconds from 1. The same call goes on with a wait that is unfinished.
 ///
 /// `Done(())` says that the thread was notified, and owns the monitor again with the recursions that it had: the
-/// Resume is logged, behind the Wait where this call let go, and nothing is unfinished.
+/// Resume is logged, after the Wait where this call let go, and nothing is unfinished.
 ///
 /// Pending, the wait stays unfinished.
 ///
@@ -146,10 +164,10 @@ pub fn wait(
     pass: &mut Pass,
     object: u32,
     now: u64,
-) -> Result<Turn<()>, IllegalMonitorState>
+) -> Result<Progress<()>, IllegalMonitorState>
     requires { MayOperate heap.now pass.old (Wait object now) }
     ensures rests { Rests heap.now pass.new }
-    ensures run { HasRun heap.now (wait_steps heap.now.heap.shape (start_now heap.now pass.old) object now)
+    ensures run { HasMadeSteps heap.now (wait_steps heap.now.heap.shape (start_now heap.now pass.old) object now)
         pass.old pass.new result }
     ensures says { Tells pass.old.known pass.new.known
         (λ ms. WaitSays (start_now heap.now pass.old) object ms result) }
@@ -160,52 +178,57 @@ pub fn wait(
     if pass.held(object) == 0 {
         return Err(IllegalMonitorState);
     }
-    let why = unfinished(Task::Wait { object, now }, Op::Wait, object);
-    Ok(wait_held(heap, pass, &why, object, now))
+    let context = unfinished(HeapCall::Wait { object, now }, Operation::Wait, object);
+    Ok(wait_held(heap, pass, &context, object, now))
 }
 
 // The object's mark has this form, and no bias pattern.
 fn notify_by(
     heap: &Heap,
     pass: &mut Pass,
-    why: &Purpose,
+    context: &CallContext,
     object: u32,
     form: MarkForm,
-) -> Turn<Option<u32>>
+) -> Progress<Option<u32>>
     requires heap { IsOf heap.now pass.old }
     requires object { object < length heap.now.heap.shape.objects }
-    requires due { IsDueOn heap.now pass.old why.now.task
-        (notify_at (Some form) heap.now.heap.shape why.now (local_of pass.old.known) object) }
+    requires due { IsDueOn heap.now pass.old context.now.task
+        (notify_at (Some form) heap.now.heap.shape context.now (local_of pass.old.known) object) }
     requires room { length pass.old.known.log < pass.old.limit }
-    ensures { HasRun heap.now
-        (notify_at (Some form) heap.now.heap.shape why.now (local_of pass.old.known) object)
+    ensures { HasMadeSteps heap.now
+        (notify_at (Some form) heap.now.heap.shape context.now (local_of pass.old.known) object)
         pass.old pass.new result }
 {
     match form {
-        MarkForm::Inflating => Turn::Pending(Why::Inflating),
+        MarkForm::Inflating => Progress::Pending(PendingCause::Inflating),
         MarkForm::Locked { .. } => {
             let woken = None;
-            publish(heap, pass, why, Entry::Notify { object, woken });
-            Turn::Done(woken)
+            publish(heap, pass, context, Entry::Notify { object, woken });
+            Progress::Done(woken)
         }
-        MarkForm::Inflated { .. } => Turn::Done(monitor_notify(heap, pass, why, object)),
+        MarkForm::Inflated { .. } => Progress::Done(monitor_notify(heap, pass, context, object)),
         _ => unreachable!(),
     }
 }
 
 // The object's mark has no bias pattern.
-fn notify_marked(heap: &Heap, pass: &mut Pass, why: &Purpose, object: u32) -> Turn<Option<u32>>
+fn notify_marked(
+    heap: &Heap,
+    pass: &mut Pass,
+    context: &CallContext,
+    object: u32,
+) -> Progress<Option<u32>>
     requires heap { IsOf heap.now pass.old }
     requires object { object < length heap.now.heap.shape.objects }
-    requires due { IsDueOn heap.now pass.old why.now.task
-        (marked_notify heap.now.heap.shape why.now (local_of pass.old.known) object) }
+    requires due { IsDueOn heap.now pass.old context.now.task
+        (marked_notify heap.now.heap.shape context.now (local_of pass.old.known) object) }
     requires room { length pass.old.known.log < pass.old.limit }
-    ensures { HasRun heap.now (marked_notify heap.now.heap.shape why.now (local_of pass.old.known) object)
+    ensures { HasMadeSteps heap.now (marked_notify heap.now.heap.shape context.now (local_of pass.old.known) object)
         pass.old pass.new result }
 {
-    let mark = heap.load(pass, why, Stage::Calm, Name::Mark { object });
+    let mark = heap.load(pass, context, Stage::Settled, WordId::Mark { object });
     match mark_of_word(mark) {
-        Some(form) => notify_by(heap, pass, why, object, form),
+        Some(form) => notify_by(heap, pass, context, object, form),
         None => unreachable!(),
     }
 }
@@ -214,17 +237,17 @@ fn notify_marked(heap: &Heap, pass: &mut Pass, why: &Purpose, object: u32) -> Tu
 fn notify_held(
     heap: &Heap,
     pass: &mut Pass,
-    why: &Purpose,
+    context: &CallContext,
     object: u32,
     now: u64,
-) -> Turn<Option<u32>>
+) -> Progress<Option<u32>>
     requires heap { IsOf heap.now pass.old }
     requires object { object < length heap.now.heap.shape.objects }
-    requires due { IsDueOn heap.now pass.old why.now.task
-        (notify_going heap.now.heap.shape why.now (start_now heap.now pass.old) object now) }
+    requires due { IsDueOn heap.now pass.old context.now.task
+        (notify_going heap.now.heap.shape context.now (start_now heap.now pass.old) object now) }
     requires room { length pass.old.known.log < pass.old.limit }
-    ensures { HasRun heap.now
-        (notify_going heap.now.heap.shape why.now (start_now heap.now pass.old) object now)
+    ensures { HasMadeSteps heap.now
+        (notify_going heap.now.heap.shape context.now (start_now heap.now pass.old) object now)
         pass.old pass.new result }
 {
     let bias = Revocation {
@@ -232,9 +255,9 @@ fn notify_held(
         rebias: false,
         moment: now,
     };
-    match unbias(heap, pass, why, &bias) {
-        Turn::Done(()) => notify_marked(heap, pass, why, object),
-        Turn::Pending(cause) => Turn::Pending(cause),
+    match unbias(heap, pass, context, &bias) {
+        Progress::Done(()) => notify_marked(heap, pass, context, object),
+        Progress::Pending(cause) => Progress::Pending(cause),
     }
 }
 
@@ -261,10 +284,10 @@ pub fn notify(
     pass: &mut Pass,
     object: u32,
     now: u64,
-) -> Result<Turn<Option<u32>>, IllegalMonitorState>
+) -> Result<Progress<Option<u32>>, IllegalMonitorState>
     requires { MayOperate heap.now pass.old (Notify object now) }
     ensures rests { Rests heap.now pass.new }
-    ensures run { HasRun heap.now (notify_steps heap.now.heap.shape (start_now heap.now pass.old) object now)
+    ensures run { HasMadeSteps heap.now (notify_steps heap.now.heap.shape (start_now heap.now pass.old) object now)
         pass.old pass.new result }
     ensures says { Tells pass.old.known pass.new.known
         (λ ms. NotifySays (start_now heap.now pass.old) object ms result) }
@@ -277,64 +300,77 @@ pub fn notify(
     if pass.held(object) == 0 {
         return Err(IllegalMonitorState);
     }
-    let why = unfinished(Task::Notify { object, now }, Op::Notify, object);
-    Ok(notify_held(heap, pass, &why, object, now))
+    let context = unfinished(HeapCall::Notify { object, now }, Operation::Notify, object);
+    Ok(notify_held(heap, pass, &context, object, now))
 }
 
 // The object's mark has this form, and no bias pattern.
 fn notify_all_by(
     heap: &Heap,
     pass: &mut Pass,
-    why: &Purpose,
+    context: &CallContext,
     object: u32,
     form: MarkForm,
-) -> Turn<u32>
+) -> Progress<u32>
     requires heap { IsOf heap.now pass.old }
     requires object { object < length heap.now.heap.shape.objects }
-    requires due { IsDueOn heap.now pass.old why.now.task
-        (notify_all_at (Some form) heap.now.heap.shape why.now (local_of pass.old.known) object) }
+    requires due { IsDueOn heap.now pass.old context.now.task
+        (notify_all_at (Some form) heap.now.heap.shape context.now (local_of pass.old.known) object) }
     requires room { length pass.old.known.log < pass.old.limit }
-    ensures { HasRun heap.now
-        (notify_all_at (Some form) heap.now.heap.shape why.now (local_of pass.old.known) object)
+    ensures { HasMadeSteps heap.now
+        (notify_all_at (Some form) heap.now.heap.shape context.now (local_of pass.old.known) object)
         pass.old pass.new result }
 {
     match form {
-        MarkForm::Inflating => Turn::Pending(Why::Inflating),
+        MarkForm::Inflating => Progress::Pending(PendingCause::Inflating),
         MarkForm::Locked { .. } => {
-            publish(heap, pass, why, Entry::NotifyAll { object, woken: 0 });
-            Turn::Done(0)
+            publish(heap, pass, context, Entry::NotifyAll { object, woken: 0 });
+            Progress::Done(0)
         }
-        MarkForm::Inflated { .. } => Turn::Done(monitor_notify_all(heap, pass, why, object)),
+        MarkForm::Inflated { .. } => Progress::Done(monitor_notify_all(
+            heap, pass, context, object,
+        )),
         _ => unreachable!(),
     }
 }
 
 // The object's mark has no bias pattern.
-fn notify_all_marked(heap: &Heap, pass: &mut Pass, why: &Purpose, object: u32) -> Turn<u32>
+fn notify_all_marked(
+    heap: &Heap,
+    pass: &mut Pass,
+    context: &CallContext,
+    object: u32,
+) -> Progress<u32>
     requires heap { IsOf heap.now pass.old }
     requires object { object < length heap.now.heap.shape.objects }
-    requires due { IsDueOn heap.now pass.old why.now.task
-        (marked_notify_all heap.now.heap.shape why.now (local_of pass.old.known) object) }
+    requires due { IsDueOn heap.now pass.old context.now.task
+        (marked_notify_all heap.now.heap.shape context.now (local_of pass.old.known) object) }
     requires room { length pass.old.known.log < pass.old.limit }
-    ensures { HasRun heap.now (marked_notify_all heap.now.heap.shape why.now (local_of pass.old.known) object)
+    ensures { HasMadeSteps heap.now (marked_notify_all heap.now.heap.shape context.now (local_of pass.old.known) object)
         pass.old pass.new result }
 {
-    let mark = heap.load(pass, why, Stage::Calm, Name::Mark { object });
+    let mark = heap.load(pass, context, Stage::Settled, WordId::Mark { object });
     match mark_of_word(mark) {
-        Some(form) => notify_all_by(heap, pass, why, object, form),
+        Some(form) => notify_all_by(heap, pass, context, object, form),
         None => unreachable!(),
     }
 }
 
 // The thread has a hold on the object.
-fn notify_all_held(heap: &Heap, pass: &mut Pass, why: &Purpose, object: u32, now: u64) -> Turn<u32>
+fn notify_all_held(
+    heap: &Heap,
+    pass: &mut Pass,
+    context: &CallContext,
+    object: u32,
+    now: u64,
+) -> Progress<u32>
     requires heap { IsOf heap.now pass.old }
     requires object { object < length heap.now.heap.shape.objects }
-    requires due { IsDueOn heap.now pass.old why.now.task
-        (notify_all_going heap.now.heap.shape why.now (start_now heap.now pass.old) object now) }
+    requires due { IsDueOn heap.now pass.old context.now.task
+        (notify_all_going heap.now.heap.shape context.now (start_now heap.now pass.old) object now) }
     requires room { length pass.old.known.log < pass.old.limit }
-    ensures { HasRun heap.now
-        (notify_all_going heap.now.heap.shape why.now (start_now heap.now pass.old) object now)
+    ensures { HasMadeSteps heap.now
+        (notify_all_going heap.now.heap.shape context.now (start_now heap.now pass.old) object now)
         pass.old pass.new result }
 {
     let bias = Revocation {
@@ -342,9 +378,9 @@ fn notify_all_held(heap: &Heap, pass: &mut Pass, why: &Purpose, object: u32, now
         rebias: false,
         moment: now,
     };
-    match unbias(heap, pass, why, &bias) {
-        Turn::Done(()) => notify_all_marked(heap, pass, why, object),
-        Turn::Pending(cause) => Turn::Pending(cause),
+    match unbias(heap, pass, context, &bias) {
+        Progress::Done(()) => notify_all_marked(heap, pass, context, object),
+        Progress::Pending(cause) => Progress::Pending(cause),
     }
 }
 
@@ -372,10 +408,10 @@ pub fn notify_all(
     pass: &mut Pass,
     object: u32,
     now: u64,
-) -> Result<Turn<u32>, IllegalMonitorState>
+) -> Result<Progress<u32>, IllegalMonitorState>
     requires { MayOperate heap.now pass.old (NotifyAll object now) }
     ensures rests { Rests heap.now pass.new }
-    ensures run { HasRun heap.now (notify_all_steps heap.now.heap.shape (start_now heap.now pass.old) object now)
+    ensures run { HasMadeSteps heap.now (notify_all_steps heap.now.heap.shape (start_now heap.now pass.old) object now)
         pass.old pass.new result }
     ensures says { Tells pass.old.known pass.new.known
         (λ ms. NotifyAllSays (start_now heap.now pass.old) object ms result) }
@@ -388,6 +424,10 @@ pub fn notify_all(
     if pass.held(object) == 0 {
         return Err(IllegalMonitorState);
     }
-    let why = unfinished(Task::NotifyAll { object, now }, Op::NotifyAll, object);
-    Ok(notify_all_held(heap, pass, &why, object, now))
+    let context = unfinished(
+        HeapCall::NotifyAll { object, now },
+        Operation::NotifyAll,
+        object,
+    );
+    Ok(notify_all_held(heap, pass, &context, object, now))
 }

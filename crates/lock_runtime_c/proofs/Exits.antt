@@ -1,18 +1,19 @@
 -- An exit by a thread that holds something is never full.
-use Rattle.std.proofs.Common.{◌≡◌, ℕ, ◌+◌, ◌≤◌, ◌&&◌, not, nat_le, Bool, true, false, Option, Some, None, length, Result, Ok, Err, refl, sym, ap, ◌∙◌, arith, le-leb}
+use Rattle.std.proofs.Common.{◌≡◌, ℕ, ◌+◌, ◌≤◌, ◌&&◌, not, nat_le, Bool, true, false, Option, Some}
+use Rattle.std.proofs.Common.{None, length, Result, Ok, Err, refl, sym, ap, ◌∙◌, arith, le-leb}
 use Rattle.std.specs.Prelude.{if◌then◌else◌, option_map}
 use Rattle.std.proofs.lemmas.Bool.{and_from}
 use Rattle.std.proofs.lemmas.Option.{same_Some}
 use Rattle.core_world.specs.Clauses.Lengths.{log_limit}
 use Rattle.core_world.specs.declared.answer.IllegalMonitorState.{IllegalMonitorState}
-use Rattle.core_world.specs.declared.answer.Turn.{Turn}
-use Rattle.core_world.specs.declared.answer.Turn.TheVariants.{Done, Pending}
-use Rattle.core_world.specs.declared.task.Task.TheVariants.{Exit}
+use Rattle.core_world.specs.declared.answer.Progress.{Progress}
+use Rattle.core_world.specs.declared.answer.Progress.TheVariants.{Done, Pending}
+use Rattle.core_world.specs.declared.heap_call.HeapCall.TheVariants.{Exit}
 use Rattle.heap_table.specs.Seen.{HeapSeen, PassSeen}
 use Rattle.lock_runtime_c.specs.ByHandle.{ByHandle, IsNeverFull}
 use Rattle.lock_runtime_c.specs.LogRoom.{Fits, is_full}
 use Rattle.lock_runtime_c.specs.Numbers.{answered}
-use Rattle.lock_runtime_c.specs.Outcomes.{nothing, of_result, of_turn}
+use Rattle.lock_runtime_c.specs.Outcomes.{nothing, of_result, of_progress}
 use Rattle.lock_runtime_c.specs.Reasons.{first_reason, or_else}
 use Rattle.lock_runtime_c.specs.Told.{barred, ToldBy}
 use Rattle.lock_runtime_c.specs.declared.handle.Slot.{Slot}
@@ -26,7 +27,7 @@ abbrev kind : Outcome → ℕ
 kind out = (answered out).kind
 
 -- a call that was made is not
-made_not : (out : Outcome) (r : Result (Turn (Unit {0})) IllegalMonitorState) → out ≡ of_result (of_turn nothing) NotOwner r → kind out ≡ 4 → ⊥
+made_not : (out : Outcome) (r : Result (Progress (Unit {0})) IllegalMonitorState) → out ≡ of_result (of_progress nothing) NotOwner r → kind out ≡ 4 → ⊥
 made_not out (Ok (Done x)) is full = let a : kind out ≡ 0 = ap kind is in absurd (omega (arith, a, full))
 made_not out (Ok (Pending why)) is full = let a : kind out ≡ 1 = ap kind is in absurd (omega (arith, a, full))
 made_not out (Err e) is full = let a : kind out ≡ 2 = ap kind is in absurd (omega (arith, a, full))

@@ -1,5 +1,6 @@
 -- Each call leaves the room that the log has to keep.
-use Rattle.std.proofs.Common.{◌≡◌, ℕ, zero, suc, ◌+◌, ◌≤◌, ◌==◌, not, cond, ltb-true, Bool, true, false, List, [], ◌∷◌, length, slice_index, Ok, Err, None, refl, sym, ap, ◌∙◌, subst, arith, inl, inr}
+use Rattle.std.proofs.Common.{◌≡◌, ℕ, zero, suc, ◌+◌, ◌≤◌, ◌==◌, not, cond, ltb-true, Bool, true, false, List, []}
+use Rattle.std.proofs.Common.{◌∷◌, length, slice_index, Ok, Err, None, refl, sym, ap, ◌∙◌, subst, arith, inl, inr}
 use Rattle.std.proofs.lemmas.Bool.{and_parts}
 use Rattle.mark_word.specs.Hold.{read_hold}
 use Rattle.plain_monitor.specs.declared.entry.Entry.{Entry}
@@ -9,19 +10,20 @@ use Rattle.plain_monitor.specs.declared.entry.Ending.TheVariants as ending
 use Rattle.plain_monitor.specs.declared.entry.Logged.{Logged}
 use Rattle.plain_monitor.specs.Endings.{ending_entry}
 use Rattle.plain_history.specs.HeldByLog.{held_by, nothing_held}
-use Rattle.core_calls.specs.CallsSay.{EnterSays, ExitSays, WaitSays, NotifySays, NotifyAllSays, HashSays, GetSays, PutSays, DumpSays, PollSays, ResumeSays, CheckSays, begins_with}
+use Rattle.core_calls.specs.CallsSay.{EnterSays, ExitSays, WaitSays, NotifySays, NotifyAllSays, HashSays, GetSays}
+use Rattle.core_calls.specs.CallsSay.{PutSays, DumpSays, PollSays, ResumeSays, CheckSays, begins_with}
 use Rattle.core_calls.specs.Causes.{of_waits}
 use Rattle.core_calls.specs.Paths.{Tells, entries_of}
 use Rattle.core_law.specs.CountsAndVerdicts.{sum_below}
 use Rattle.core_world.specs.Clauses.WordForms.{IsHold}
 use Rattle.core_world.specs.Locks.{hold_count}
-use Rattle.core_world.specs.Threads.Known.{Known, StepMade, Start}
+use Rattle.core_world.specs.Threads.ThreadView.{ThreadView, StepMade, Start}
 use Rattle.core_world.specs.Threads.References.{has_reference}
 use Rattle.core_world.specs.Words.Forms.{waits_on}
 use Rattle.core_world.specs.Words.Shape.{Shape}
-use Rattle.core_world.specs.declared.answer.Turn.TheVariants.{Done, Pending}
-use Rattle.core_world.specs.declared.task.Task.{Task}
-use Rattle.core_world.specs.declared.task.Task.TheVariants as task
+use Rattle.core_world.specs.declared.answer.Progress.TheVariants.{Done, Pending}
+use Rattle.core_world.specs.declared.heap_call.HeapCall.{HeapCall}
+use Rattle.core_world.specs.declared.heap_call.HeapCall.TheVariants as task
 use Rattle.heap_table.specs.Kept.{all_holds}
 use Rattle.heap_table.specs.Resting.{Rests, start_now}
 use Rattle.heap_table.specs.Seen.{HeapSeen, PassSeen}
@@ -37,10 +39,10 @@ use Rattle.lock_runtime_c.specs.declared.outcome.Outcome.{Outcome}
 use Rattle.lock_runtime_c.proofs.LogRoom.{sizes, grows, exits}
 
 -- The holds of a thread that rests are as many as its log tells.
-forms : (s : Shape) (k : Known) → Settled s k → (p : ℕ) → IsHold s (read_hold (slice_index k.holds p))
+forms : (s : Shape) (k : ThreadView) → Settled s k → (p : ℕ) → IsHold s (read_hold (slice_index k.holds p))
 forms s k z p =
     let there = subst (λ word. IsHold z.world.shape (read_hold word)) (z.fits.holds.stored k.thread p) (z.fits.forms.holds k.thread p) in
-    let here = subst (λ (x : Known). IsHold z.world.shape (read_hold (slice_index x.holds p))) z.knew there in
+    let here = subst (λ (x : ThreadView). IsHold z.world.shape (read_hold (slice_index x.holds p))) z.knew there in
     subst (λ (x : Shape). IsHold x (read_hold (slice_index k.holds p))) z.shape here
 
 held_sum : (h : HeapSeen) (p : PassSeen) → Rests h p → all_holds p.known.holds ≡ sum_below (length h.heap.shape.objects) (held_by nothing_held p.known.log)
@@ -152,18 +154,24 @@ module _ (bound : ℕ) (h : HeapSeen) (p q : PassSeen) (rp : Rests h p) (rq : Re
       keeps (λ ms. ExitSays (start_now h p) o ms (Ok (Pending why))) t 0 (said 0 _ t.steps t.says.1.0.entries (omega arith)) (omega (arith, kept))
   exit_keeps o (Err e) t known kept = keeps (λ ms. ExitSays (start_now h p) o ms (Err e)) t 0 (silent 0 t.steps t.says.1) (omega (arith, kept))
 
-  made_keeps : (t : Task) (out : Outcome) → MayMake h p t → (needs_room t ≡ true → length p.known.log + room_for p t ≤ bound)
+  made_keeps : (t : HeapCall) (out : Outcome) → MayMake h p t → (needs_room t ≡ true → length p.known.log + room_for p t ≤ bound)
       → length p.known.log + all_holds p.known.holds ≤ bound → IsMade h t p q out → length q.known.log + all_holds q.known.holds ≤ bound
-  made_keeps (task.Enter o now) out may room kept m = let r = room refl in keeps _ m.3 2 (enter_logs (start_now h p) o m.3.steps m.0 m.3.says) (omega (arith, r))
-  made_keeps (task.Notify o now) out may room kept m = let r = room refl in keeps _ m.3 1 (notify_logs (start_now h p) o m.3.steps m.0 m.3.says) (omega (arith, r))
-  made_keeps (task.NotifyAll o now) out may room kept m = let r = room refl in keeps _ m.3 1 (notify_all_logs (start_now h p) o m.3.steps m.0 m.3.says) (omega (arith, r))
+  made_keeps (task.Enter o now) out may room kept m = let r = room refl in
+      keeps _ m.3 2 (enter_logs (start_now h p) o m.3.steps m.0 m.3.says) (omega (arith, r))
+  made_keeps (task.Notify o now) out may room kept m = let r = room refl in
+      keeps _ m.3 1 (notify_logs (start_now h p) o m.3.steps m.0 m.3.says) (omega (arith, r))
+  made_keeps (task.NotifyAll o now) out may room kept m = let r = room refl in
+      keeps _ m.3 1 (notify_all_logs (start_now h p) o m.3.steps m.0 m.3.says) (omega (arith, r))
   made_keeps (task.Hash o now) out may room kept m = let r = room refl in keeps _ m.3 1 (hash_logs (start_now h p) o m.3.steps m.0 m.3.says) (omega (arith, r))
-  made_keeps (task.Get o slot) out may room kept m = let r = room refl in keeps _ m.3 1 (get_logs (start_now h p) o slot m.3.steps m.0 m.3.says) (omega (arith, r))
-  made_keeps (task.Put o slot v) out may room kept m = let r = room refl in keeps _ m.3 1 (put_logs (start_now h p) o slot v m.3.steps m.0 m.3.says) (omega (arith, r))
+  made_keeps (task.Get o slot) out may room kept m = let r = room refl in
+      keeps _ m.3 1 (get_logs (start_now h p) o slot m.3.steps m.0 m.3.says) (omega (arith, r))
+  made_keeps (task.Put o slot v) out may room kept m = let r = room refl in
+      keeps _ m.3 1 (put_logs (start_now h p) o slot v m.3.steps m.0 m.3.says) (omega (arith, r))
   made_keeps (task.Print v) out may room kept m = let r = room refl in keeps _ m.3 1 (said 1 _ m.3.steps m.3.says.entries (omega arith)) (omega (arith, r))
   made_keeps task.Dump out may room kept m = let r = room refl in keeps _ m.3 1 (dump_logs (start_now h p) m.3.steps m.0 m.3.says) (omega (arith, r))
   made_keeps (task.Finish e) out may room kept m = let r = room refl in keeps _ m.3 1 (said 1 _ m.3.steps m.3.says.entries (end_logs e)) (omega (arith, r))
-  made_keeps (task.Wait o now) out may room kept m = let r = room refl in keeps _ m.3 (cond (waits_on p.known.wait o) 1 3) (wait_logs (start_now h p) o m.3.steps m.0 m.3.says) (omega (arith, r))
+  made_keeps (task.Wait o now) out may room kept m = let r = room refl in
+      keeps _ m.3 (cond (waits_on p.known.wait o) 1 3) (wait_logs (start_now h p) o m.3.steps m.0 m.3.says) (omega (arith, r))
   made_keeps task.Poll out may room kept m = keeps _ m.3 0 (poll_logs (start_now h p) m.3.steps m.0 m.3.says) (omega (arith, kept))
   made_keeps task.Stop out may room kept m = keeps _ m.3 0 (said 0 _ m.3.steps m.3.says.0.entries (omega arith)) (omega (arith, kept))
   made_keeps task.Resume out may room kept m = keeps _ m.3 0 (resume_logs (start_now h p) m.3.steps m.0 m.3.says) (omega (arith, kept))
@@ -177,7 +185,7 @@ module _ (bound : ℕ) (h : HeapSeen) (p q : PassSeen) (rp : Rests h p) (rq : Re
   made_keeps task.Release out may room kept m = absurd m
 
 module _ (h : HeapSeen) (p q : PassSeen) (rp : Rests h p) (rq : Rests h q) (limit : q.limit ≡ p.limit) where
-  roomy : (t : Task) → is_full p t ≡ false → needs_room t ≡ true → Fits p (room_for p t)
+  roomy : (t : HeapCall) → is_full p t ≡ false → needs_room t ≡ true → Fits p (room_for p t)
   roomy (task.Enter o now) full needs = fits p _ full
   roomy (task.Exit o) full needs = fits p _ full
   roomy (task.Wait o now) full needs = fits p _ full
@@ -201,7 +209,7 @@ module _ (h : HeapSeen) (p q : PassSeen) (rp : Rests h p) (rq : Rests h q) (limi
   roomy task.Check full needs = absurd (cc needs)
 
   -- a call that wasn't barred leaves the room that the log has to keep
-  pub begun_keeps : (t : Task) (out : Outcome) → MayMake h p t → barred h p t ≡ None → KeepsRoom p → IsMade h t p q out → KeepsRoom q
+  pub begun_keeps : (t : HeapCall) (out : Outcome) → MayMake h p t → barred h p t ≡ None → KeepsRoom p → IsMade h t p q out → KeepsRoom q
   begun_keeps t out may none kept made =
       let full = (not_barred h p t none).1 in
       let page = made_keeps p.limit h p q rp rq t out may (λ needs. (roomy t full needs).page) kept.page made in

@@ -1,5 +1,6 @@
 -- Each call leaves the room that the log has to keep.
-use Rattle.std.proofs.Common.{◌≡◌, ℕ, zero, suc, ◌+◌, ◌-◌, ◌<◌, ◌≤◌, ◌==◌, eq-eqb, ne_eqb, List, [], ◌∷◌, ◌++◌, length, map, sym, ap, ◌∙◌, subst, refl, arith, inl, inr, length-append}
+use Rattle.std.proofs.Common.{◌≡◌, ℕ, zero, suc, ◌+◌, ◌-◌, ◌<◌, ◌≤◌, ◌==◌, eq-eqb, ne_eqb, List, [], ◌∷◌, ◌++◌}
+use Rattle.std.proofs.Common.{length, map, sym, ap, ◌∙◌, subst, refl, arith, inl, inr, length-append}
 use Rattle.std.proofs.lemmas.Bool.{cases_eq}
 use Rattle.std.proofs.lemmas.List.{length-map}
 use Rattle.plain_monitor.specs.declared.entry.Entry.{Entry}
@@ -39,7 +40,8 @@ less_any (suc n) o f = let a = less_any n o f in omega (arith, a)
 less_at : (n o : ℕ) (f : ℕ → ℕ) → o < n → 1 ≤ f o → sum_below n (λ i. f i - one_if (o == i)) + 1 ≤ sum_below n f
 less_at zero o f l k = absurd (omega (arith, l))
 less_at (suc n) o f l k = elim (cases_eq o n) [
-  | inl e ↦ let a = less_off n o f (omega (arith, e)) in let b = ap one_if (eq-eqb o n e) in let c : 1 ≤ f n = subst (λ i. 1 ≤ f i) e k in omega (arith, a, b, c)
+  | inl e ↦ let a = less_off n o f (omega (arith, e)) in let b = ap one_if (eq-eqb o n e) in
+      let c : 1 ≤ f n = subst (λ i. 1 ≤ f i) e k in omega (arith, a, b, c)
   | inr d ↦ let a = less_at n o f (omega (arith, d, l)) k in let b = ap one_if (ne_eqb o n d) in omega (arith, a, b)
 ]
 

@@ -1,5 +1,6 @@
 -- What a call asks, where no reason is found why it can't begin.
-use Rattle.std.proofs.Common.{◌≡◌, ℕ, ◌+◌, ◌≤◌, ◌<◌, ◌==◌, ◌&&◌, ◌||◌, not, cond, is_none, nat_lt, nat_le, Bool, true, false, List, [], ◌∷◌, length, Option, None, Some, refl, sym, ap, ◌∙◌, subst, arith, lt-ltb, le-leb, ltb-true, leb-true}
+use Rattle.std.proofs.Common.{◌≡◌, ℕ, ◌+◌, ◌≤◌, ◌<◌, ◌==◌, ◌&&◌, ◌||◌, not, cond, is_none, nat_lt, nat_le, Bool, true, false, List, []}
+use Rattle.std.proofs.Common.{◌∷◌, length, Option, None, Some, refl, sym, ap, ◌∙◌, subst, arith, lt-ltb, le-leb, ltb-true, leb-true}
 use Rattle.std.specs.Prelude.{is_some, if◌then◌else◌, option_map}
 use Rattle.std.proofs.lemmas.Bool.{eqb-true, and_parts, and_from}
 use Rattle.std.specs.List.{list_all}
@@ -9,25 +10,26 @@ use Rattle.plain_monitor.specs.declared.entry.Value.TheVariants as value
 use Rattle.core_world.specs.Clauses.Lengths.{log_limit}
 use Rattle.core_world.specs.Clauses.Safepoints.{ends}
 use Rattle.core_world.specs.Locks.{count_where}
-use Rattle.core_world.specs.Threads.Known.{Known}
+use Rattle.core_world.specs.Threads.ThreadView.{ThreadView}
 use Rattle.core_world.specs.Threads.References.{has_reference, has_value, is_value_over}
 use Rattle.core_world.specs.Threads.Stages.{one_if}
 use Rattle.core_world.specs.Trees.Operations.{goes_on_with}
 use Rattle.core_world.specs.Trees.Calls.{may_begin, may_operate, most_logged}
 use Rattle.core_world.specs.Words.Forms.{says_ended, waits_on}
 use Rattle.core_world.specs.Words.Shape.{slots_of}
-use Rattle.core_world.specs.declared.task.Op.{Op}
-use Rattle.core_world.specs.declared.task.Op.TheVariants as op
-use Rattle.core_world.specs.declared.task.Task.{Task}
-use Rattle.core_world.specs.declared.task.Task.TheVariants as task
-use Rattle.core_world.specs.declared.task.Unfinished.{Unfinished}
+use Rattle.core_world.specs.declared.heap_call.Operation.{Operation}
+use Rattle.core_world.specs.declared.heap_call.Operation.TheVariants as op
+use Rattle.core_world.specs.declared.heap_call.HeapCall.{HeapCall}
+use Rattle.core_world.specs.declared.heap_call.HeapCall.TheVariants as task
+use Rattle.core_world.specs.declared.heap_call.Unfinished.{Unfinished}
 use Rattle.heap_table.specs.Kept.{all_holds}
 use Rattle.heap_table.specs.Resting.{MayCall, MayOperate, Rests}
 use Rattle.heap_table.specs.Seen.{HeapSeen, PassSeen}
 use Rattle.heap_table.proofs.Resting.{at_rest}
 use Rattle.lock_runtime.proofs.Declared.{declared_known}
 use Rattle.lock_runtime_c.specs.LogRoom.{Fits, is_full, room_for}
-use Rattle.lock_runtime_c.specs.Reasons.{first_reason, goes_on, if_so, of_check, of_holds, of_object, of_operands, of_slot, of_standing, of_stopped, of_value, operation, or_else, other_operation}
+use Rattle.lock_runtime_c.specs.Reasons.{first_reason, goes_on, if_so, of_check, of_holds, of_object, of_operands, of_slot}
+use Rattle.lock_runtime_c.specs.Reasons.{of_standing, of_stopped, of_value, operation, or_else, other_operation}
 use Rattle.lock_runtime_c.specs.Told.{barred}
 use Rattle.lock_runtime_c.specs.declared.outcome.Misuse.{Misuse}
 use Rattle.lock_runtime_c.specs.declared.outcome.Misuse.TheVariants as misuse
@@ -70,16 +72,16 @@ not_full false e = refl
 not_full true e = absurd (cc e)
 
 -- the operation that is unfinished, if any, is the one that goes on
-goes : (made : Option (Op × ℕ)) (u : Unfinished) → (b : Bool) → goes_on made (Some u) ≡ b → other_operation made (Some u) ≡ None → b ≡ true
+goes : (made : Option (Operation × ℕ)) (u : Unfinished) → (b : Bool) → goes_on made (Some u) ≡ b → other_operation made (Some u) ≡ None → b ≡ true
 goes made u true is none = refl
 goes made u false is none = absurd (cc (none, ap (λ (c : Bool). if c then None else Some (misuse.IsUnfinished u.op)) is))
 
-stands : (checking running requesting : Bool) (left : Option Unfinished) (made : Option (Op × ℕ)) → checking ≡ false → other_operation made left ≡ None
+stands : (checking running requesting : Bool) (left : Option Unfinished) (made : Option (Operation × ℕ)) → checking ≡ false → other_operation made left ≡ None
     → (running || (requesting && is_some left)) ≡ true
     → (not checking && (running || (requesting && goes_on made left)) && (is_none left || goes_on made left)) ≡ true
 stands checking running requesting None made none other runs = λ i. not (none i) && no_going made i && true
   where
-    no_going : (made : Option (Op × ℕ)) → (running || (requesting && goes_on made None)) ≡ true
+    no_going : (made : Option (Operation × ℕ)) → (running || (requesting && goes_on made None)) ≡ true
     no_going None = runs
     no_going (Some m) = runs
 stands checking running requesting (Some u) made none other runs =
@@ -87,7 +89,7 @@ stands checking running requesting (Some u) made none other runs =
     let r = ap (λ b. running || (requesting && b)) g ∙ runs in
     λ i. not (none i) && r i && g i
 
-operation_may : (h : HeapSeen) (p : PassSeen) (made : Option (Op × ℕ)) → Rests h p → of_standing p.known made ≡ None → length p.known.log < log_limit
+operation_may : (h : HeapSeen) (p : PassSeen) (made : Option (Operation × ℕ)) → Rests h p → of_standing p.known made ≡ None → length p.known.log < log_limit
     → may_operate p.known (goes_on made p.known.unfinished) ≡ true
 operation_may h p made rests none short =
     let (ended, open_still) = neither _ _ none in
@@ -121,10 +123,10 @@ module _ (h : HeapSeen) (p : PassSeen) (rests : Rests h p) where
   value_known (value.Int i) none = is_so _ _ none
   value_known (value.Ref o) none = declared_known h p o rests (ltb-true o h.heap.shape.declared (is_so _ _ none))
 
-  call : (t : Task) → may_begin h.heap.shape h.heap.biasing p.known t ≡ true → MayCall h p t
+  call : (t : HeapCall) → may_begin h.heap.shape h.heap.biasing p.known t ≡ true → MayCall h p t
   call t may = record { rests = rests; may = may }
 
-  operate : (t : Task) → may_begin h.heap.shape h.heap.biasing p.known t ≡ true → length p.known.log + most_logged p.known t ≤ p.limit → MayOperate h p t
+  operate : (t : HeapCall) → may_begin h.heap.shape h.heap.biasing p.known t ≡ true → length p.known.log + most_logged p.known t ≤ p.limit → MayOperate h p t
   operate t may room = record { call = call t may; room = room }
 
 -- a thread without holds has none at any place
@@ -152,11 +154,11 @@ less false = omega arith
 
 -- SO IT MAY BEGIN
 module _ (h : HeapSeen) (p : PassSeen) (rests : Rests h p) where
-  acts : (made : Option (Op × ℕ)) (n : ℕ) → of_standing p.known made ≡ None → Fits p n → 1 ≤ n
+  acts : (made : Option (Operation × ℕ)) (n : ℕ) → of_standing p.known made ≡ None → Fits p n → 1 ≤ n
       → may_operate p.known (goes_on made p.known.unfinished) ≡ true
   acts made n none room some = operation_may h p made rests none (let r = room.stamps in omega (arith, r, some))
 
-  on_object : (x : Op) (o n : ℕ) → or_else (of_standing p.known (Some (x, o))) (of_object h.heap.shape o) ≡ None → Fits p n → 1 ≤ n
+  on_object : (x : Operation) (o n : ℕ) → or_else (of_standing p.known (Some (x, o))) (of_object h.heap.shape o) ≡ None → Fits p n → 1 ≤ n
       → (has_reference h.heap.shape p.known o && may_operate p.known (goes_on_with x o p.known.unfinished)) ≡ true
   on_object x o n none room some =
       let (stand, object) = neither _ _ none in and_from _ _ (known h p rests o object) (acts (Some (x, o)) n stand room some)
@@ -167,7 +169,8 @@ module _ (h : HeapSeen) (p : PassSeen) (rests : Rests h p) where
       let (stand, object) = neither _ _ none in
       let r = room.stamps in
       and_from _ _ (known h p rests o object)
-      (and_from _ _ (acts (Some (op.Wait, o)) n stand room some) (le-leb (length p.known.log + most_logged p.known (task.Wait o now)) log_limit (omega (arith, r, most))))
+      (and_from _ _ (acts (Some (op.Wait, o)) n stand room some)
+      (le-leb (length p.known.log + most_logged p.known (task.Wait o now)) log_limit (omega (arith, r, most))))
 
   may_get : (o slot n : ℕ) → or_else (of_standing p.known None) (of_slot h.heap.shape o slot) ≡ None → Fits p n → 1 ≤ n
       → may_begin h.heap.shape h.heap.biasing p.known (task.Get o slot) ≡ true
@@ -204,7 +207,7 @@ module _ (h : HeapSeen) (p : PassSeen) (rests : Rests h p) where
       let a = not_so _ _ asks in
       let r = not_so _ _ runs in λ i. not (r i) && not (a i)
 
-  pub may_make : (t : Task) → first_reason h.heap.shape p.known t ≡ None → is_full p t ≡ false → MayMake h p t
+  pub may_make : (t : HeapCall) → first_reason h.heap.shape p.known t ≡ None → is_full p t ≡ false → MayMake h p t
   may_make (task.Enter o now) none full =
       let r = fits p _ full in let g = r.page in
       operate h p rests (task.Enter o now) (on_object op.Enter o _ none r (omega arith)) (omega (arith, g))
@@ -256,5 +259,5 @@ module _ (h : HeapSeen) (p : PassSeen) (rests : Rests h p) where
   may_make task.Release none full = absurd (cc none)
 
 -- WHAT CAN'T be barred has no reason, and room
-pub not_barred : (h : HeapSeen) (p : PassSeen) (t : Task) → barred h p t ≡ None → (first_reason h.heap.shape p.known t ≡ None) × (is_full p t ≡ false)
+pub not_barred : (h : HeapSeen) (p : PassSeen) (t : HeapCall) → barred h p t ≡ None → (first_reason h.heap.shape p.known t ≡ None) × (is_full p t ≡ false)
 not_barred h p t none = let (reason, full) = neither _ _ none in (not_misused _ reason, not_full _ full)

@@ -1,6 +1,6 @@
 -- What is told of a handle that had a pass.
 use Rattle.std.proofs.Common.{◌≡◌, ℕ, sym, subst, refl, inl, inr}
-use Rattle.core_world.specs.declared.task.Task.{Task}
+use Rattle.core_world.specs.declared.heap_call.HeapCall.{HeapCall}
 use Rattle.lock_runtime_c.specs.ByHandle.{Within}
 use Rattle.lock_runtime_c.specs.LogRoom.{KeepsRoom}
 use Rattle.lock_runtime_c.specs.Pages.{HandsOut, TakesPage}
@@ -12,7 +12,7 @@ use Rattle.lock_runtime_c.specs.declared.outcome.Outcome.{Outcome}
 use Rattle.lock_runtime_c.specs.declared.outcome.Outcome.TheVariants.{Done, NoMemory}
 use Rattle.lock_runtime_c.specs.declared.outcome.Said.TheVariants.{Handed}
 
-pub told_within : (x : Inner) (s z : Seat) (t : Task) (out : Outcome) → x ≡ inner.Seat s → z.room ≡ s.room → KeepsRoom s.lent.thing
+pub told_within : (x : Inner) (s z : Seat) (t : HeapCall) (out : Outcome) → x ≡ inner.Seat s → z.room ≡ s.room → KeepsRoom s.lent.thing
     → Told s.room.value.heap t s.lent.thing z.lent.thing out → Within x (inner.Seat z) t out
 told_within x s z t out is room kept told = subst (λ (i : Inner). Within i (inner.Seat z) t out) (sym is) (z, refl, room, kept, told)
 

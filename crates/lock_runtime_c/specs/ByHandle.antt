@@ -1,6 +1,6 @@
 -- What a call of C says, by what its handle had.
 use Rattle.std.specs.Prelude.{◌≡◌, ◌≢◌, ◌≤◌, Option, Some, unwrap_or}
-use Rattle.core_world.specs.declared.task.Task.{Task}
+use Rattle.core_world.specs.declared.heap_call.HeapCall.{HeapCall}
 use Rattle.heap_table.specs.Kept.{all_holds}
 use Rattle.lock_runtime_c.specs.declared.answers.Answer.{Answer}
 use Rattle.lock_runtime_c.specs.declared.handle.Slot.{Slot}
@@ -16,7 +16,7 @@ use Rattle.lock_runtime_c.specs.Told.{Told}
 
 -- Of a thread's pass: it stays one of the same heap, and this is what became of it. Its log had room for an exit of each hold: so an exit is full only
 -- where nothing is held. Of anything else: nothing could begin, and it stays so.
-abbrev pub Within : Inner → Inner → Task → Outcome → Type 0
+abbrev pub Within : Inner → Inner → HeapCall → Outcome → Type 0
 Within (inner.Seat s) after task out =
     (z : Seat) × (after ≡ inner.Seat z) × (z.room ≡ s.room) × KeepsRoom s.lent.thing
     × Told s.room.value.heap task s.lent.thing z.lent.thing out
@@ -35,10 +35,10 @@ pub record AnswersOf (Became : Inner → Inner → Outcome → Type 0) (before a
   pub by_handle : ByHandleOf Became (Misused Empty) before after outcome
 
 -- so of the call of a task
-abbrev pub ByHandle : Slot → Slot → Task → Outcome → Type 0
+abbrev pub ByHandle : Slot → Slot → HeapCall → Outcome → Type 0
 ByHandle before after task out = ByHandleOf (λ x y o. Within x y task o) (Misused Empty) before after out
 
-abbrev pub Answers : Slot → Slot → Task → Answer → Type 0
+abbrev pub Answers : Slot → Slot → HeapCall → Answer → Type 0
 Answers before after task a = AnswersOf (λ x y o. Within x y task o) before after a
 
 -- what the handle has is looked at, and stays: this is the answer

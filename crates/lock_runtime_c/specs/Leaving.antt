@@ -1,6 +1,6 @@
 -- How a pass is given back, and a handle emptied.
 use Rattle.std.specs.Prelude.{◌≡◌, ◌==◌, not, if◌then◌else◌, Option, Some, None}
-use Rattle.core_world.specs.declared.task.Unfinished.{Unfinished}
+use Rattle.core_world.specs.declared.heap_call.Unfinished.{Unfinished}
 use Rattle.heap_table.specs.Kept.{all_holds}
 use Rattle.heap_table.specs.Seen.{PassSeen}
 use Rattle.lock_runtime_c.specs.declared.answers.Answer.{Answer}
@@ -23,8 +23,8 @@ abbrev pub leave_reason : PassSeen → Option Misuse
 leave_reason p =
     or_else (if_so p.known.running misuse.IsRunning)
     (if p.known.halted then None
-     else or_else (if_so p.known.requesting misuse.IsAsking)
-     (or_else (unfinished_reason p.known.unfinished) (if_so (not (all_holds p.known.holds == 0)) misuse.IsHolding)))
+    else or_else (if_so p.known.requesting misuse.IsAsking)
+    (or_else (unfinished_reason p.known.unfinished) (if_so (not (all_holds p.known.holds == 0)) misuse.IsHolding)))
 
 -- a pass goes home, where nothing speaks against it
 abbrev pub not_left : Inner → Option Misuse

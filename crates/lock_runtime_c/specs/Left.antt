@@ -1,7 +1,7 @@
 -- What a closed heap has, as C reads it.
 use Rattle.std.specs.Prelude.{ℕ, List, length, slice_index, slice_get, Result, Ok, Err, Option, Some, None, option_and_then, option_map}
 use Rattle.plain_monitor.specs.declared.entry.Logged.{Logged}
-use Rattle.core_world.specs.Threads.Known.{DumpShot}
+use Rattle.core_world.specs.Threads.ThreadView.{DumpShot}
 use Rattle.core_world.specs.Words.Forms.{is_halted}
 use Rattle.heap_table.specs.declared.counts.ClassCounts.{ClassCounts}
 use Rattle.lock_runtime_c.specs.declared.answers.Answer.{Answer}

@@ -9,10 +9,10 @@ use Rattle.plain_monitor.specs.declared.entry.Path.{Path}
 use Rattle.plain_monitor.specs.declared.entry.Path.TheVariants.{BiasOwn, BiasTaken, StackFirst, StackAgain, MonitorFirst, MonitorAgain}
 use Rattle.plain_monitor.specs.declared.entry.Value.{Value}
 use Rattle.plain_monitor.specs.declared.entry.Value.TheVariants.{Nil, Int, Ref}
-use Rattle.core_world.specs.declared.answer.Why.{Why}
-use Rattle.core_world.specs.declared.answer.Why.TheVariants.{Owned, NotNotified, Raced, Inflating, Stopping, Requested, Halted}
-use Rattle.core_world.specs.declared.task.Op.{Op}
-use Rattle.core_world.specs.declared.task.Op.TheVariants as op
+use Rattle.core_world.specs.declared.answer.PendingCause.{PendingCause}
+use Rattle.core_world.specs.declared.answer.PendingCause.TheVariants.{Owned, NotNotified, Raced, Inflating, Stopping, Requested, Halted}
+use Rattle.core_world.specs.declared.heap_call.Operation.{Operation}
+use Rattle.core_world.specs.declared.heap_call.Operation.TheVariants as op
 use Rattle.lock_runtime_c.specs.declared.answers.Answer.{Answer}
 use Rattle.lock_runtime_c.specs.declared.numbers.Cell.{Cell}
 use Rattle.lock_runtime_c.specs.declared.numbers.Row.{Row}
@@ -37,7 +37,7 @@ path_number StackAgain = 4
 path_number MonitorFirst = 5
 path_number MonitorAgain = 6
 
-abbrev pub cause_number : Why → ℕ
+abbrev pub cause_number : PendingCause → ℕ
 cause_number (Owned word) = 1
 cause_number (NotNotified word) = 2
 cause_number (Raced expected found) = 3
@@ -47,7 +47,7 @@ cause_number (Requested word) = 6
 cause_number Halted = 7
 
 -- the word that was found
-abbrev pub cause_word : Why → ℕ
+abbrev pub cause_word : PendingCause → ℕ
 cause_word (Owned word) = word
 cause_word (NotNotified word) = word
 cause_word (Raced expected found) = found
@@ -56,7 +56,7 @@ cause_word (Stopping word) = word
 cause_word (Requested word) = word
 cause_word Halted = 0
 
-abbrev pub op_number : Op → ℕ
+abbrev pub op_number : Operation → ℕ
 op_number op.Enter = 1
 op_number op.Exit = 2
 op_number op.Wait = 3
@@ -146,7 +146,7 @@ done (said.Dump n) = with_kind 0 0 n
 done (said.Stuck b) = with_kind 0 (bool_number b) 0
 done (said.Handed n) = with_kind 0 0 n
 
-abbrev pub pending : Why → Answer
+abbrev pub pending : PendingCause → Answer
 pending why = with_kind 1 (cause_number why) (cause_word why)
 
 abbrev pub refused : Refusal → Answer

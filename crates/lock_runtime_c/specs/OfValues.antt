@@ -1,8 +1,8 @@
 -- What calls with a value say.
 use Rattle.std.specs.Prelude.{◌≡◌, ℕ, Option, Some, None}
 use Rattle.plain_monitor.specs.declared.entry.Value.{Value}
-use Rattle.core_world.specs.declared.task.Task.{Task}
-use Rattle.core_world.specs.declared.task.Task.TheVariants.{Put, Print}
+use Rattle.core_world.specs.declared.heap_call.HeapCall.{HeapCall}
+use Rattle.core_world.specs.declared.heap_call.HeapCall.TheVariants.{Put, Print}
 use Rattle.lock_runtime_c.specs.declared.answers.Answer.{Answer}
 use Rattle.lock_runtime_c.specs.declared.handle.Slot.{Slot}
 use Rattle.lock_runtime_c.specs.declared.numbers.Cell.{Cell}
@@ -18,14 +18,14 @@ abbrev pub Finds : Outcome → Cell → Cell → Type 0
 Finds (Done (Read value)) before after = after ≡ cell_of value
 Finds _ before after = after ≡ before
 
-pub record Gives (before after : Slot) (task : Task) (old new : Cell) (a : Answer) : Type 0 where
+pub record Gives (before after : Slot) (task : HeapCall) (old new : Cell) (a : Answer) : Type 0 where
   pub outcome : Outcome
   pub is : a ≡ answered outcome
   pub by_handle : ByHandle before after task outcome
   pub finds : Finds outcome old new
 
 -- a cell that is none of a value is refused, and the handle stays as it was
-abbrev pub WithValue : Option Value → Slot → Slot → (Value → Task) → Answer → Type 0
+abbrev pub WithValue : Option Value → Slot → Slot → (Value → HeapCall) → Answer → Type 0
 WithValue (Some value) before after task a = Answers before after (task value) a
 WithValue None before after task a = (after ≡ before) × (a ≡ answered (Misused NoValue))
 

@@ -1,8 +1,8 @@
 -- What the runtime's answers are as outcomes.
 use Rattle.std.specs.Prelude.{Result, Ok, Err}
 use Rattle.plain_monitor.specs.declared.entry.Value.{Value}
-use Rattle.core_world.specs.declared.answer.Turn.{Turn}
-use Rattle.core_world.specs.declared.answer.Turn.TheVariants as turn
+use Rattle.core_world.specs.declared.answer.Progress.{Progress}
+use Rattle.core_world.specs.declared.answer.Progress.TheVariants as progress
 use Rattle.lock_runtime_c.specs.declared.outcome.Outcome.{Outcome}
 use Rattle.lock_runtime_c.specs.declared.outcome.Outcome.TheVariants.{Done, Pending, Refused}
 use Rattle.lock_runtime_c.specs.declared.outcome.Refusal.{Refusal}
@@ -12,10 +12,10 @@ use Rattle.lock_runtime_c.specs.declared.outcome.Said.TheVariants.{Nothing, Read
 abbrev pub nothing : Unit {0} → Said
 nothing x = Nothing
 
--- a turn that is done says this of its answer
-abbrev pub of_turn : {A : Type 0} → (A → Said) → Turn A → Outcome
-of_turn says (turn.Done a) = Done (says a)
-of_turn says (turn.Pending why) = Pending why
+-- a call that is done says this of its answer
+abbrev pub of_progress : {A : Type 0} → (A → Said) → Progress A → Outcome
+of_progress says (progress.Done a) = Done (says a)
+of_progress says (progress.Pending why) = Pending why
 
 -- a call that may be refused is so for this reason alone
 abbrev pub of_result : {A E : Type 0} → (A → Outcome) → Refusal → Result A E → Outcome

@@ -1,6 +1,6 @@
 -- A page of a thread's log, as it is handed out.
 use Rattle.std.specs.Prelude.{◌≡◌, ◌⊎◌, ℕ, ◌+◌, List, length, Option, Some, None}
-use Rattle.core_world.specs.declared.task.Unfinished.{Unfinished}
+use Rattle.core_world.specs.declared.heap_call.Unfinished.{Unfinished}
 use Rattle.plain_monitor.specs.declared.entry.Logged.{Logged}
 use Rattle.heap_table.specs.Seen.{PassSeen, page_of}
 use Rattle.lock_runtime_c.specs.Left.{entry_answer, entry_row}

@@ -7,11 +7,11 @@ use crate::calls::make;
 use crate::handle::Slot;
 use crate::inner::Inner;
 use crate::outcome::{Misuse, Outcome};
-use core_world::Task;
+use core_world::HeapCall;
 use std::alloc::Global;
 
 // The call of this task, by what the handle has.
-fn make_within(held: &mut Inner, task: Task) -> Outcome
+fn make_within(held: &mut Inner, task: HeapCall) -> Outcome
     requires { RestsWithin held.old }
     ensures rests { RestsWithin held.new }
     ensures told { Within held.old held.new task result }
@@ -23,7 +23,7 @@ fn make_within(held: &mut Inner, task: Task) -> Outcome
 }
 
 /// Makes the call of this task by the pass that the handle has.
-pub fn make_by(alloc: Global, at: &mut Slot, task: Task) -> Outcome
+pub fn make_by(alloc: Global, at: &mut Slot, task: HeapCall) -> Outcome
     ensures { ByHandle at.old at.new task result }
 {
     let Some(mut held) = at.take(alloc) else {

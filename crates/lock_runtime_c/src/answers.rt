@@ -4,7 +4,7 @@ ghost use Rattle.lock_runtime_c.specs.Numbers as numbers;
 
 use crate::numbers::{bool_number, cause_number, cause_word, op_number, path_number, value_kind};
 use crate::outcome::{Misuse, Outcome, Refusal, Said};
-use core_world::Why;
+use core_world::PendingCause;
 
 /// What a call came to: a kind, a detail of it, and a word.
 #[repr(C)]
@@ -37,7 +37,7 @@ fn done(said: Said) -> Answer
     }
 }
 
-fn pending(why: Why) -> Answer
+fn pending(why: PendingCause) -> Answer
     ensures { result ≡ numbers.pending why }
 {
     Answer {

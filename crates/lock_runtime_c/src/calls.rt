@@ -1,6 +1,6 @@
 //! The calls on a pass, by their tasks.
 ghost use Rattle.std.specs.Prelude.{◌≡◌, None};
-ghost use Rattle.core_world.specs.declared.task.Task.TheVariants as task;
+ghost use Rattle.core_world.specs.declared.heap_call.HeapCall.TheVariants as task;
 ghost use Rattle.heap_table.specs.Resting.{MayCall, MayOperate, Rests};
 ghost use Rattle.lock_runtime_c.specs.LogRoom.{KeepsRoom};
 ghost use Rattle.lock_runtime_c.specs.Told.{barred, IsMade, Told};
@@ -9,7 +9,7 @@ ghost use Rattle.lock_runtime_c.specs.inner.MayMake.{MayMake};
 use crate::outcome::{Misuse, Outcome, Said};
 use crate::reasons::{first_reason, is_full};
 use crate::told::{checked, dumped, entered, got, hashed, owned, stored, turned, woke, woke_all};
-use core_world::Task;
+use core_world::HeapCall;
 use heap_table::{Heap, Pass};
 use lock_runtime as runtime;
 use plain_monitor::{Ending, Value};
@@ -153,7 +153,7 @@ fn check_stuck(heap: &Heap, pass: &mut Pass) -> Outcome
 }
 
 // What can't begin: a misuse, or the log has no room for it.
-fn barred(heap: &Heap, pass: &Pass, task: Task) -> Option<Outcome>
+fn barred(heap: &Heap, pass: &Pass, task: HeapCall) -> Option<Outcome>
     requires { Rests heap.now pass.now }
     ensures why { result ≡ barred heap.now pass.now task }
     ensures may { result ≡ None → MayMake heap.now pass.now task }
@@ -168,39 +168,39 @@ fn barred(heap: &Heap, pass: &Pass, task: Task) -> Option<Outcome>
 }
 
 // The call of this task, which may begin.
-fn begin(heap: &Heap, pass: &mut Pass, task: Task) -> Outcome
+fn begin(heap: &Heap, pass: &mut Pass, task: HeapCall) -> Outcome
     requires { MayMake heap.now pass.old task }
     ensures rests { Rests heap.now pass.new }
     ensures limit { pass.new.limit ≡ pass.old.limit }
     ensures made { IsMade heap.now task pass.old pass.new result }
 {
     match task {
-        Task::Poll => poll(heap, pass),
-        Task::Stop => stop(heap, pass),
-        Task::Resume => resume(heap, pass),
-        Task::Check => check_stuck(heap, pass),
-        Task::Enter { object, now } => enter(heap, pass, object, now),
-        Task::Exit { object } => exit(heap, pass, object),
-        Task::Wait { object, now } => wait(heap, pass, object, now),
-        Task::Notify { object, now } => notify(heap, pass, object, now),
-        Task::NotifyAll { object, now } => notify_all(heap, pass, object, now),
-        Task::Hash { object, now } => hash(heap, pass, object, now),
-        Task::Get { object, slot } => get(heap, pass, object, slot),
-        Task::Put {
+        HeapCall::Poll => poll(heap, pass),
+        HeapCall::Stop => stop(heap, pass),
+        HeapCall::Resume => resume(heap, pass),
+        HeapCall::Check => check_stuck(heap, pass),
+        HeapCall::Enter { object, now } => enter(heap, pass, object, now),
+        HeapCall::Exit { object } => exit(heap, pass, object),
+        HeapCall::Wait { object, now } => wait(heap, pass, object, now),
+        HeapCall::Notify { object, now } => notify(heap, pass, object, now),
+        HeapCall::NotifyAll { object, now } => notify_all(heap, pass, object, now),
+        HeapCall::Hash { object, now } => hash(heap, pass, object, now),
+        HeapCall::Get { object, slot } => get(heap, pass, object, slot),
+        HeapCall::Put {
             object,
             slot,
             value,
         } => put(heap, pass, object, slot, value),
-        Task::Print { value } => print(heap, pass, value),
-        Task::Dump => dump(heap, pass),
-        Task::Finish { ending } => finish(heap, pass, ending),
+        HeapCall::Print { value } => print(heap, pass, value),
+        HeapCall::Dump => dump(heap, pass),
+        HeapCall::Finish { ending } => finish(heap, pass, ending),
         // no such call may begin
         _ => Outcome::Misused(Misuse::OtherKind),
     }
 }
 
 /// Makes the call of this task, where it may begin.
-pub fn make(heap: &Heap, pass: &mut Pass, task: Task) -> Outcome
+pub fn make(heap: &Heap, pass: &mut Pass, task: HeapCall) -> Outcome
     requires { Rests heap.now pass.old }
     ensures rests { Rests heap.now pass.new }
     ensures told { Told heap.now task pass.old pass.new result }

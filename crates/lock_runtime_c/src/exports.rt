@@ -1,12 +1,12 @@
 //! The calls on a pass, for C. `include/biasrun.h` says what each asks, and what its answer means.
-ghost use Rattle.core_world.specs.declared.task.Task.TheVariants.{Enter, Exit, Wait, Notify, NotifyAll, Hash, Dump, Finish, Poll, Stop, Resume, Check};
+ghost use Rattle.core_world.specs.declared.heap_call.HeapCall.TheVariants.{Enter, Exit, Wait, Notify, NotifyAll, Hash, Dump, Finish, Poll, Stop, Resume, Check};
 ghost use Rattle.lock_runtime_c.specs.ByHandle.{Answers, IsNeverFull};
 ghost use Rattle.plain_monitor.specs.declared.entry.Ending.TheVariants as ending;
 
 use crate::access::make_by;
 use crate::answers::{Answer, answered};
 use crate::handle::Slot;
-use core_world::Task;
+use core_world::HeapCall;
 use plain_monitor::Ending;
 use std::alloc::Global;
 
@@ -14,35 +14,35 @@ use std::alloc::Global;
 pub extern "C" fn biasrun_poll(alloc: Global, at: &mut Slot) -> Answer
     ensures { Answers at.old at.new Poll result }
 {
-    answered(make_by(alloc, at, Task::Poll))
+    answered(make_by(alloc, at, HeapCall::Poll))
 }
 
 #[unsafe(no_mangle)]
 pub extern "C" fn biasrun_stop(alloc: Global, at: &mut Slot) -> Answer
     ensures { Answers at.old at.new Stop result }
 {
-    answered(make_by(alloc, at, Task::Stop))
+    answered(make_by(alloc, at, HeapCall::Stop))
 }
 
 #[unsafe(no_mangle)]
 pub extern "C" fn biasrun_resume(alloc: Global, at: &mut Slot) -> Answer
     ensures { Answers at.old at.new Resume result }
 {
-    answered(make_by(alloc, at, Task::Resume))
+    answered(make_by(alloc, at, HeapCall::Resume))
 }
 
 #[unsafe(no_mangle)]
 pub extern "C" fn biasrun_check_stuck(alloc: Global, at: &mut Slot) -> Answer
     ensures { Answers at.old at.new Check result }
 {
-    answered(make_by(alloc, at, Task::Check))
+    answered(make_by(alloc, at, HeapCall::Check))
 }
 
 #[unsafe(no_mangle)]
 pub extern "C" fn biasrun_enter(alloc: Global, at: &mut Slot, object: u32, now: u64) -> Answer
     ensures { Answers at.old at.new (Enter object now) result }
 {
-    answered(make_by(alloc, at, Task::Enter { object, now }))
+    answered(make_by(alloc, at, HeapCall::Enter { object, now }))
 }
 
 #[unsafe(no_mangle)]
@@ -50,42 +50,42 @@ pub extern "C" fn biasrun_exit(alloc: Global, at: &mut Slot, object: u32) -> Ans
     ensures told { Answers at.old at.new (Exit object) result }
     ensures full { IsNeverFull at.old result }
 {
-    answered(make_by(alloc, at, Task::Exit { object }))
+    answered(make_by(alloc, at, HeapCall::Exit { object }))
 }
 
 #[unsafe(no_mangle)]
 pub extern "C" fn biasrun_wait(alloc: Global, at: &mut Slot, object: u32, now: u64) -> Answer
     ensures { Answers at.old at.new (Wait object now) result }
 {
-    answered(make_by(alloc, at, Task::Wait { object, now }))
+    answered(make_by(alloc, at, HeapCall::Wait { object, now }))
 }
 
 #[unsafe(no_mangle)]
 pub extern "C" fn biasrun_notify(alloc: Global, at: &mut Slot, object: u32, now: u64) -> Answer
     ensures { Answers at.old at.new (Notify object now) result }
 {
-    answered(make_by(alloc, at, Task::Notify { object, now }))
+    answered(make_by(alloc, at, HeapCall::Notify { object, now }))
 }
 
 #[unsafe(no_mangle)]
 pub extern "C" fn biasrun_notify_all(alloc: Global, at: &mut Slot, object: u32, now: u64) -> Answer
     ensures { Answers at.old at.new (NotifyAll object now) result }
 {
-    answered(make_by(alloc, at, Task::NotifyAll { object, now }))
+    answered(make_by(alloc, at, HeapCall::NotifyAll { object, now }))
 }
 
 #[unsafe(no_mangle)]
 pub extern "C" fn biasrun_hash(alloc: Global, at: &mut Slot, object: u32, now: u64) -> Answer
     ensures { Answers at.old at.new (Hash object now) result }
 {
-    answered(make_by(alloc, at, Task::Hash { object, now }))
+    answered(make_by(alloc, at, HeapCall::Hash { object, now }))
 }
 
 #[unsafe(no_mangle)]
 pub extern "C" fn biasrun_dump(alloc: Global, at: &mut Slot) -> Answer
     ensures { Answers at.old at.new Dump result }
 {
-    answered(make_by(alloc, at, Task::Dump))
+    answered(make_by(alloc, at, HeapCall::Dump))
 }
 
 #[unsafe(no_mangle)]
@@ -95,7 +95,7 @@ pub extern "C" fn biasrun_finish(alloc: Global, at: &mut Slot) -> Answer
     answered(make_by(
         alloc,
         at,
-        Task::Finish {
+        HeapCall::Finish {
             ending: Ending::Done,
         },
     ))

@@ -198,12 +198,7 @@ fn pass_by(alloc: Global, at: &mut Slot, thread: u32, out: &mut Slot) -> Outcome
 
 /// The thread's pass.
 #[unsafe(no_mangle)]
-pub extern "C" fn biasrun_pass(
-    alloc: Global,
-    at: &mut Slot,
-    thread: u32,
-    out: &mut Slot,
-) -> Answer
+pub extern "C" fn biasrun_pass(alloc: Global, at: &mut Slot, thread: u32, out: &mut Slot) -> Answer
     ensures { PassOf thread at.old at.new out.old out.new result }
 {
     if out.is_live() {

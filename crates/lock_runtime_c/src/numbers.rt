@@ -2,7 +2,7 @@
 ghost use Rattle.std.specs.Prelude.{◌≡◌, Option, Some, IfSome};
 ghost use Rattle.lock_runtime_c.specs.Numbers as numbers;
 
-use core_world::{Op, Why};
+use core_world::{Operation, PendingCause};
 use plain_monitor::{Entry, Fault, Logged, Path, Value};
 
 /// A value: nil, a number, or an object.
@@ -48,47 +48,47 @@ pub fn path_number(path: Path) -> u32
     }
 }
 
-pub fn cause_number(why: Why) -> u32
+pub fn cause_number(why: PendingCause) -> u32
     ensures { result ≡ numbers.cause_number why }
 {
     match why {
-        Why::Owned { .. } => 1,
-        Why::NotNotified { .. } => 2,
-        Why::Raced { .. } => 3,
-        Why::Inflating => 4,
-        Why::Stopping { .. } => 5,
-        Why::Requested { .. } => 6,
-        Why::Halted => 7,
+        PendingCause::Owned { .. } => 1,
+        PendingCause::NotNotified { .. } => 2,
+        PendingCause::Raced { .. } => 3,
+        PendingCause::Inflating => 4,
+        PendingCause::Stopping { .. } => 5,
+        PendingCause::Requested { .. } => 6,
+        PendingCause::Halted => 7,
     }
 }
 
 /// The word that the call found.
-pub fn cause_word(why: Why) -> u64
+pub fn cause_word(why: PendingCause) -> u64
     ensures { result ≡ numbers.cause_word why }
 {
     match why {
-        Why::Owned { word } => word,
-        Why::NotNotified { word } => word,
-        Why::Raced { found, .. } => found,
-        Why::Inflating => 0,
-        Why::Stopping { word } => word,
-        Why::Requested { word } => word,
-        Why::Halted => 0,
+        PendingCause::Owned { word } => word,
+        PendingCause::NotNotified { word } => word,
+        PendingCause::Raced { found, .. } => found,
+        PendingCause::Inflating => 0,
+        PendingCause::Stopping { word } => word,
+        PendingCause::Requested { word } => word,
+        PendingCause::Halted => 0,
     }
 }
 
-pub fn op_number(op: Op) -> u32
+pub fn op_number(op: Operation) -> u32
     ensures { result ≡ numbers.op_number op }
 {
     match op {
-        Op::Enter => 1,
-        Op::Exit => 2,
-        Op::Wait => 3,
-        Op::Notify => 4,
-        Op::NotifyAll => 5,
-        Op::Hash => 6,
-        Op::Dump => 7,
-        Op::Create => 8,
+        Operation::Enter => 1,
+        Operation::Exit => 2,
+        Operation::Wait => 3,
+        Operation::Notify => 4,
+        Operation::NotifyAll => 5,
+        Operation::Hash => 6,
+        Operation::Dump => 7,
+        Operation::Create => 8,
     }
 }
 

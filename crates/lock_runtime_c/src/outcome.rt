@@ -1,5 +1,5 @@
 //! What a call of C came to, before it is told in numbers.
-use core_world::{Op, Why};
+use core_world::{Operation, PendingCause};
 use plain_monitor::{Path, Value};
 
 /// What a call that was done answers.
@@ -65,7 +65,7 @@ pub enum Misuse {
     /// A check is unfinished.
     CheckIsUnfinished,
     /// This operation is unfinished.
-    IsUnfinished(Op),
+    IsUnfinished(Operation),
     /// The thread asks for a safepoint.
     IsAsking,
     /// The thread doesn't run.
@@ -92,7 +92,7 @@ pub enum Misuse {
 #[derive(Clone, Copy)]
 pub enum Outcome {
     Done(Said),
-    Pending(Why),
+    Pending(PendingCause),
     Refused(Refusal),
     Misused(Misuse),
     /// The log has no room for the call beside what the thread's holds need.

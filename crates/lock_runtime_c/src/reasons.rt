@@ -8,45 +8,45 @@ ghost use Rattle.lock_runtime_c.specs.LogRoom.{is_full, room_for};
 ghost use Rattle.lock_runtime_c.specs.Reasons as reasons;
 
 use crate::outcome::Misuse;
-use core_world::{Op, Task, Unfinished};
+use core_world::{HeapCall, Operation, Unfinished};
 use heap_table::{Heap, Pass, wait_of_word};
 use mark_word::WaitForm;
 use plain_monitor::Value;
 
-fn same_op(one: Op, other: Op) -> bool
+fn same_op(one: Operation, other: Operation) -> bool
     ensures { result ≡ same_op one other }
 {
     match (one, other) {
-        (Op::Enter, Op::Enter) => true,
-        (Op::Exit, Op::Exit) => true,
-        (Op::Wait, Op::Wait) => true,
-        (Op::Notify, Op::Notify) => true,
-        (Op::NotifyAll, Op::NotifyAll) => true,
-        (Op::Hash, Op::Hash) => true,
-        (Op::Dump, Op::Dump) => true,
-        (Op::Create, Op::Create) => true,
+        (Operation::Enter, Operation::Enter) => true,
+        (Operation::Exit, Operation::Exit) => true,
+        (Operation::Wait, Operation::Wait) => true,
+        (Operation::Notify, Operation::Notify) => true,
+        (Operation::NotifyAll, Operation::NotifyAll) => true,
+        (Operation::Hash, Operation::Hash) => true,
+        (Operation::Dump, Operation::Dump) => true,
+        (Operation::Create, Operation::Create) => true,
         _ => false,
     }
 }
 
 // The operation that the call makes, and its object.
-fn operation(task: Task) -> Option<(Op, u32)>
+fn operation(task: HeapCall) -> Option<(Operation, u32)>
     ensures { result ≡ reasons.operation task }
 {
     match task {
-        Task::Enter { object, .. } => Some((Op::Enter, object)),
-        Task::Exit { object } => Some((Op::Exit, object)),
-        Task::Wait { object, .. } => Some((Op::Wait, object)),
-        Task::Notify { object, .. } => Some((Op::Notify, object)),
-        Task::NotifyAll { object, .. } => Some((Op::NotifyAll, object)),
-        Task::Hash { object, .. } => Some((Op::Hash, object)),
-        Task::Dump => Some((Op::Dump, 0)),
+        HeapCall::Enter { object, .. } => Some((Operation::Enter, object)),
+        HeapCall::Exit { object } => Some((Operation::Exit, object)),
+        HeapCall::Wait { object, .. } => Some((Operation::Wait, object)),
+        HeapCall::Notify { object, .. } => Some((Operation::Notify, object)),
+        HeapCall::NotifyAll { object, .. } => Some((Operation::NotifyAll, object)),
+        HeapCall::Hash { object, .. } => Some((Operation::Hash, object)),
+        HeapCall::Dump => Some((Operation::Dump, 0)),
         _ => None,
     }
 }
 
 // Whether it goes on with what is unfinished.
-fn goes_on(made: Option<(Op, u32)>, left: Unfinished) -> bool
+fn goes_on(made: Option<(Operation, u32)>, left: Unfinished) -> bool
     ensures { result ≡ reasons.goes_on made (Some left) }
 {
     match made {
@@ -55,7 +55,7 @@ fn goes_on(made: Option<(Op, u32)>, left: Unfinished) -> bool
     }
 }
 
-fn other_operation(made: Option<(Op, u32)>, left: Option<Unfinished>) -> Option<Misuse>
+fn other_operation(made: Option<(Operation, u32)>, left: Option<Unfinished>) -> Option<Misuse>
     ensures { result ≡ reasons.other_operation made left }
 {
     match left {
@@ -84,7 +84,7 @@ fn has_ended(pass: &Pass) -> bool
 }
 
 // How the thread stands, for an operation.
-fn of_standing(pass: &Pass, made: Option<(Op, u32)>) -> Option<Misuse>
+fn of_standing(pass: &Pass, made: Option<(Operation, u32)>) -> Option<Misuse>
     ensures { result ≡ reasons.of_standing pass.now.known made }
 {
     if has_ended(pass) {
@@ -170,24 +170,24 @@ fn of_holds(pass: &Pass) -> Option<Misuse>
 }
 
 // What is wrong with the operands of an operation.
-fn of_operands(heap: &Heap, pass: &Pass, task: Task) -> Option<Misuse>
+fn of_operands(heap: &Heap, pass: &Pass, task: HeapCall) -> Option<Misuse>
     ensures { result ≡ reasons.of_operands heap.now.heap.shape pass.now.known task }
 {
     match task {
-        Task::Enter { object, .. } => of_object(heap, object),
-        Task::Exit { object } => of_object(heap, object),
-        Task::Wait { object, .. } => of_object(heap, object),
-        Task::Notify { object, .. } => of_object(heap, object),
-        Task::NotifyAll { object, .. } => of_object(heap, object),
-        Task::Hash { object, .. } => of_object(heap, object),
-        Task::Get { object, slot } => of_slot(heap, object, slot),
-        Task::Put {
+        HeapCall::Enter { object, .. } => of_object(heap, object),
+        HeapCall::Exit { object } => of_object(heap, object),
+        HeapCall::Wait { object, .. } => of_object(heap, object),
+        HeapCall::Notify { object, .. } => of_object(heap, object),
+        HeapCall::NotifyAll { object, .. } => of_object(heap, object),
+        HeapCall::Hash { object, .. } => of_object(heap, object),
+        HeapCall::Get { object, slot } => of_slot(heap, object, slot),
+        HeapCall::Put {
             object,
             slot,
             value,
         } => of_put(heap, object, slot, value),
-        Task::Print { value } => of_value(heap, value),
-        Task::Finish { .. } => of_holds(pass),
+        HeapCall::Print { value } => of_value(heap, value),
+        HeapCall::Finish { .. } => of_holds(pass),
         _ => None,
     }
 }
@@ -254,7 +254,7 @@ fn of_check(pass: &Pass) -> Option<Misuse>
     }
 }
 
-fn of_operation(heap: &Heap, pass: &Pass, task: Task) -> Option<Misuse>
+fn of_operation(heap: &Heap, pass: &Pass, task: HeapCall) -> Option<Misuse>
     ensures { result ≡ reasons.or_else (reasons.of_standing pass.now.known (reasons.operation task))
         (reasons.of_operands heap.now.heap.shape pass.now.known task) }
 {
@@ -265,20 +265,20 @@ fn of_operation(heap: &Heap, pass: &Pass, task: Task) -> Option<Misuse>
 }
 
 /// The first reason why a call of this task can't begin, the room of the log aside.
-pub fn first_reason(heap: &Heap, pass: &Pass, task: Task) -> Option<Misuse>
+pub fn first_reason(heap: &Heap, pass: &Pass, task: HeapCall) -> Option<Misuse>
     ensures { result ≡ reasons.first_reason heap.now.heap.shape pass.now.known task }
 {
     match task {
-        Task::Poll => of_running(pass),
-        Task::Stop => of_running(pass),
-        Task::Resume => of_stopped(pass),
-        Task::Check => of_check(pass),
-        Task::Create { .. }
-        | Task::StackEnter { .. }
-        | Task::StackExit { .. }
-        | Task::Request
-        | Task::Reached
-        | Task::Release => Some(Misuse::OtherKind),
+        HeapCall::Poll => of_running(pass),
+        HeapCall::Stop => of_running(pass),
+        HeapCall::Resume => of_stopped(pass),
+        HeapCall::Check => of_check(pass),
+        HeapCall::Create { .. }
+        | HeapCall::StackEnter { .. }
+        | HeapCall::StackExit { .. }
+        | HeapCall::Request
+        | HeapCall::Reached
+        | HeapCall::Release => Some(Misuse::OtherKind),
         _ => of_operation(heap, pass, task),
     }
 }
@@ -298,21 +298,21 @@ fn waits_on(word: u64, object: u32) -> bool
 
 // For how many entries the log has to have room. An exit only takes up what its hold had kept. All else leaves the room that each hold needs for
 // its exit, and but for an end and a wait that has let go it leaves one more, for these; an enter is a hold more.
-fn room_for(pass: &Pass, task: Task) -> u32
+fn room_for(pass: &Pass, task: HeapCall) -> u32
     ensures room { result ≡ room_for pass.now task }
     ensures few { result ≤ 67 }
 {
     match task {
-        Task::Exit { .. } => 1,
-        Task::Finish { .. } => pass.holds() + 1,
-        Task::Wait { object, .. } => {
+        HeapCall::Exit { .. } => 1,
+        HeapCall::Finish { .. } => pass.holds() + 1,
+        HeapCall::Wait { object, .. } => {
             if waits_on(pass.wait_word(), object) {
                 pass.holds() + 1
             } else {
                 pass.holds() + 3
             }
         }
-        Task::Enter { .. } => pass.holds() + 3,
+        HeapCall::Enter { .. } => pass.holds() + 3,
         _ => pass.holds() + 2,
     }
 }
@@ -326,14 +326,14 @@ fn fits(pass: &Pass, entries: u32) -> bool
 }
 
 /// Whether the log hasn't the room that the call needs, besides what the thread's holds do.
-pub fn is_full(pass: &Pass, task: Task) -> bool
+pub fn is_full(pass: &Pass, task: HeapCall) -> bool
     ensures { result ≡ is_full pass.now task }
 {
     match task {
-        Task::Poll => false,
-        Task::Stop => false,
-        Task::Resume => false,
-        Task::Check => false,
+        HeapCall::Poll => false,
+        HeapCall::Stop => false,
+        HeapCall::Resume => false,
+        HeapCall::Check => false,
         _ => !fits(pass, room_for(pass, task)),
     }
 }

@@ -1,67 +1,67 @@
 //! What the runtime's answers are as outcomes.
 ghost use Rattle.std.specs.Prelude.{◌≡◌};
-ghost use Rattle.lock_runtime_c.specs.Outcomes.{of_turn, of_result, nothing, read, stored};
+ghost use Rattle.lock_runtime_c.specs.Outcomes.{of_progress, of_result, nothing, read, stored};
 ghost use Rattle.lock_runtime_c.specs.declared.outcome.Refusal.TheVariants as refusal;
 ghost use Rattle.lock_runtime_c.specs.declared.outcome.Said.TheVariants as said;
 
 use crate::outcome::{Outcome, Refusal, Said};
-use core_world::{IllegalMonitorState, TooDeep, TooManyDumps, Turn, Unguarded};
+use core_world::{IllegalMonitorState, Progress, TooDeep, TooManyDumps, Unguarded};
 use plain_monitor::{Path, Value};
 
-pub fn turned(turn: Turn<()>) -> Outcome
-    ensures { result ≡ of_turn nothing turn }
+pub fn turned(progress: Progress<()>) -> Outcome
+    ensures { result ≡ of_progress nothing progress }
 {
-    match turn {
-        Turn::Done(()) => Outcome::Done(Said::Nothing),
-        Turn::Pending(why) => Outcome::Pending(why),
+    match progress {
+        Progress::Done(()) => Outcome::Done(Said::Nothing),
+        Progress::Pending(why) => Outcome::Pending(why),
     }
 }
 
-pub fn entered(answer: Result<Turn<Path>, TooDeep>) -> Outcome
-    ensures { result ≡ of_result (of_turn said.Entered) refusal.TooDeep answer }
+pub fn entered(answer: Result<Progress<Path>, TooDeep>) -> Outcome
+    ensures { result ≡ of_result (of_progress said.Entered) refusal.TooDeep answer }
 {
     match answer {
-        Ok(Turn::Done(path)) => Outcome::Done(Said::Entered(path)),
-        Ok(Turn::Pending(why)) => Outcome::Pending(why),
+        Ok(Progress::Done(path)) => Outcome::Done(Said::Entered(path)),
+        Ok(Progress::Pending(why)) => Outcome::Pending(why),
         Err(_) => Outcome::Refused(Refusal::TooDeep),
     }
 }
 
-pub fn owned(answer: Result<Turn<()>, IllegalMonitorState>) -> Outcome
-    ensures { result ≡ of_result (of_turn nothing) refusal.NotOwner answer }
+pub fn owned(answer: Result<Progress<()>, IllegalMonitorState>) -> Outcome
+    ensures { result ≡ of_result (of_progress nothing) refusal.NotOwner answer }
 {
     match answer {
-        Ok(turn) => turned(turn),
+        Ok(progress) => turned(progress),
         Err(_) => Outcome::Refused(Refusal::NotOwner),
     }
 }
 
-pub fn woke(answer: Result<Turn<Option<u32>>, IllegalMonitorState>) -> Outcome
-    ensures { result ≡ of_result (of_turn said.Woke) refusal.NotOwner answer }
+pub fn woke(answer: Result<Progress<Option<u32>>, IllegalMonitorState>) -> Outcome
+    ensures { result ≡ of_result (of_progress said.Woke) refusal.NotOwner answer }
 {
     match answer {
-        Ok(Turn::Done(thread)) => Outcome::Done(Said::Woke(thread)),
-        Ok(Turn::Pending(why)) => Outcome::Pending(why),
+        Ok(Progress::Done(thread)) => Outcome::Done(Said::Woke(thread)),
+        Ok(Progress::Pending(why)) => Outcome::Pending(why),
         Err(_) => Outcome::Refused(Refusal::NotOwner),
     }
 }
 
-pub fn woke_all(answer: Result<Turn<u32>, IllegalMonitorState>) -> Outcome
-    ensures { result ≡ of_result (of_turn said.WokeAll) refusal.NotOwner answer }
+pub fn woke_all(answer: Result<Progress<u32>, IllegalMonitorState>) -> Outcome
+    ensures { result ≡ of_result (of_progress said.WokeAll) refusal.NotOwner answer }
 {
     match answer {
-        Ok(Turn::Done(count)) => Outcome::Done(Said::WokeAll(count)),
-        Ok(Turn::Pending(why)) => Outcome::Pending(why),
+        Ok(Progress::Done(count)) => Outcome::Done(Said::WokeAll(count)),
+        Ok(Progress::Pending(why)) => Outcome::Pending(why),
         Err(_) => Outcome::Refused(Refusal::NotOwner),
     }
 }
 
-pub fn hashed(turn: Turn<u32>) -> Outcome
-    ensures { result ≡ of_turn said.Hash turn }
+pub fn hashed(progress: Progress<u32>) -> Outcome
+    ensures { result ≡ of_progress said.Hash progress }
 {
-    match turn {
-        Turn::Done(value) => Outcome::Done(Said::Hash(value)),
-        Turn::Pending(why) => Outcome::Pending(why),
+    match progress {
+        Progress::Done(value) => Outcome::Done(Said::Hash(value)),
+        Progress::Pending(why) => Outcome::Pending(why),
     }
 }
 
@@ -83,21 +83,21 @@ pub fn stored(answer: Result<(), Unguarded>) -> Outcome
     }
 }
 
-pub fn dumped(answer: Result<Turn<u32>, TooManyDumps>) -> Outcome
-    ensures { result ≡ of_result (of_turn said.Dump) refusal.TooManyDumps answer }
+pub fn dumped(answer: Result<Progress<u32>, TooManyDumps>) -> Outcome
+    ensures { result ≡ of_result (of_progress said.Dump) refusal.TooManyDumps answer }
 {
     match answer {
-        Ok(Turn::Done(number)) => Outcome::Done(Said::Dump(number)),
-        Ok(Turn::Pending(why)) => Outcome::Pending(why),
+        Ok(Progress::Done(number)) => Outcome::Done(Said::Dump(number)),
+        Ok(Progress::Pending(why)) => Outcome::Pending(why),
         Err(_) => Outcome::Refused(Refusal::TooManyDumps),
     }
 }
 
-pub fn checked(turn: Turn<bool>) -> Outcome
-    ensures { result ≡ of_turn said.Stuck turn }
+pub fn checked(progress: Progress<bool>) -> Outcome
+    ensures { result ≡ of_progress said.Stuck progress }
 {
-    match turn {
-        Turn::Done(stuck) => Outcome::Done(Said::Stuck(stuck)),
-        Turn::Pending(why) => Outcome::Pending(why),
+    match progress {
+        Progress::Done(stuck) => Outcome::Done(Said::Stuck(stuck)),
+        Progress::Pending(why) => Outcome::Pending(why),
     }
 }

@@ -1,6 +1,6 @@
 //! The calls on a pass that have a value, for C.
 ghost use Rattle.std.specs.Prelude.{◌≡◌};
-ghost use Rattle.core_world.specs.declared.task.Task.TheVariants.{Get};
+ghost use Rattle.core_world.specs.declared.heap_call.HeapCall.TheVariants.{Get};
 ghost use Rattle.lock_runtime_c.specs.ByHandle.{Answers};
 ghost use Rattle.lock_runtime_c.specs.OfValues.{Finds, Gives, PrintOf, PutOf};
 
@@ -9,7 +9,7 @@ use crate::answers::{Answer, answered};
 use crate::handle::Slot;
 use crate::numbers::{Cell, cell_of, value_of};
 use crate::outcome::{Misuse, Outcome, Said};
-use core_world::Task;
+use core_world::HeapCall;
 use std::alloc::Global;
 
 // What was read, where something was.
@@ -33,7 +33,7 @@ pub extern "C" fn biasrun_get(
 ) -> Answer
     ensures { Gives at.old at.new (Get object slot) out.old out.new result }
 {
-    let outcome = make_by(alloc, at, Task::Get { object, slot });
+    let outcome = make_by(alloc, at, HeapCall::Get { object, slot });
     *out = read_of(outcome, *out);
     answered(outcome)
 }
@@ -50,7 +50,7 @@ pub extern "C" fn biasrun_put(
 {
     match value_of(value) {
         Some(value) => {
-            let task = Task::Put {
+            let task = HeapCall::Put {
                 object,
                 slot,
                 value,
@@ -66,7 +66,7 @@ pub extern "C" fn biasrun_print(alloc: Global, at: &mut Slot, value: Cell) -> An
     ensures { PrintOf value at.old at.new result }
 {
     match value_of(value) {
-        Some(value) => answered(make_by(alloc, at, Task::Print { value })),
+        Some(value) => answered(make_by(alloc, at, HeapCall::Print { value })),
         None => answered(Outcome::Misused(Misuse::NoValue)),
     }
 }

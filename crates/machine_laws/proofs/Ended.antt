@@ -1,5 +1,6 @@
 -- A thread that logged an ending has ended so.
-use Rattle.std.proofs.Common.{◌≡◌, ◌≢◌, ℕ, zero, suc, ◌+◌, ◌-◌, ◌==◌, Bool, true, false, not, List, [], ◌∷◌, length, slice_get, slice_index_or, Option, Some, None, option_and_then, is_some, is_none, IsSome, refl, sym, ap, ◌∙◌, subst, inl, inr, arith}
+use Rattle.std.proofs.Common.{◌≡◌, ◌≢◌, ℕ, zero, suc, ◌+◌, ◌-◌, ◌==◌, Bool, true, false, not, List, [], ◌∷◌, length, slice_get, slice_index_or}
+use Rattle.std.proofs.Common.{Option, Some, None, option_and_then, is_some, is_none, IsSome, refl, sym, ap, ◌∙◌, subst, inl, inr, arith}
 use Rattle.std.proofs.lemmas.Bool.{cases_eq, and_from, and_parts, false≢true, eqb-true}
 use Rattle.std.proofs.lemmas.List.{length-map, length-set}
 use Rattle.std.proofs.lemmas.Option.{same_Some, none-some}
@@ -10,7 +11,8 @@ use Rattle.plain_monitor.specs.declared.entry.Ending.TheVariants as ending
 use Rattle.plain_monitor.specs.declared.entry.Entry.{Entry}
 use Rattle.plain_monitor.specs.declared.entry.Entry.TheVariants.{Exit, Resume, Trap, Spent, Done}
 use Rattle.plain_monitor.specs.declared.entry.Fault.{Fault}
-use Rattle.plain_monitor.specs.declared.entry.Fault.TheVariants.{IllegalMonitorState, Unguarded, NotRef, NotInt, Range, Overflow, TooDeep, TooManyDumps, TooMany}
+use Rattle.plain_monitor.specs.declared.entry.Fault.TheVariants.{IllegalMonitorState, Unguarded, NotRef, NotInt}
+use Rattle.plain_monitor.specs.declared.entry.Fault.TheVariants.{Range, Overflow, TooDeep, TooManyDumps, TooMany}
 use Rattle.plain_monitor.specs.declared.entry.Logged.{Logged}
 use Rattle.plain_monitor.specs.Order.{order, of_thread}
 use Rattle.plain_monitor.specs.History.{log_of}
@@ -18,15 +20,15 @@ use Rattle.plain_monitor.proofs.Threads.{thread_kept}
 use Rattle.plain_monitor.proofs.Lists.{get_set_same, get_set_other}
 use Rattle.plain_history.proofs.Passing.{first_run}
 use Rattle.object_program.specs.Program.{ProgramText}
-use Rattle.plain_machine.specs.declared.call.Asked.{Asked}
-use Rattle.plain_machine.specs.declared.call.Asked.TheVariants.{Calls, Resumes, Leaves, Ends}
-use Rattle.plain_machine.specs.declared.call.Call.{Call}
-use Rattle.plain_machine.specs.declared.call.Call.TheVariants as call
-use Rattle.plain_machine.specs.declared.call.Mode.{Mode}
-use Rattle.plain_machine.specs.declared.call.Mode.TheVariants.{Calling, Waiting, Unwinding, Ended}
+use Rattle.plain_machine.specs.declared.monitor_call.NextEntry.{NextEntry}
+use Rattle.plain_machine.specs.declared.monitor_call.NextEntry.TheVariants.{Calls, Resumes, Leaves, Ends}
+use Rattle.plain_machine.specs.declared.monitor_call.MonitorCall.{MonitorCall}
+use Rattle.plain_machine.specs.declared.monitor_call.MonitorCall.TheVariants as call
+use Rattle.plain_machine.specs.declared.monitor_call.Mode.{Mode}
+use Rattle.plain_machine.specs.declared.monitor_call.Mode.TheVariants.{Calling, Waiting, Unwinding, Ended}
 use Rattle.plain_machine.specs.Thread.{ThreadState}
-use Rattle.plain_machine.specs.Asking.{ask_in, fault_number, is_ending, is_call, is_resume, is_exit, fits, behind_entry}
-use Rattle.plain_machine.specs.Legal.{IsLegal, behind_all, machine_after}
+use Rattle.plain_machine.specs.Asking.{ask_in, fault_number, is_ending, is_call, is_resume, is_exit, fits, after_entry}
+use Rattle.plain_machine.specs.Legal.{IsLegal, after_all, machine_after}
 use Rattle.plain_machine.specs.Machine.{PlainMachine, new_machine, code_of, take, ending_in, ending_of, is_live, is_stuck}
 use Rattle.machine_laws.proofs.ReachedAsked.{IsTaken, taken}
 use Rattle.machine_laws.proofs.ReachedOver.{ended_is_not_stuck}
@@ -60,7 +62,7 @@ ending_fits ending.Done e Done h s = same_Some _ e s
 ending_fits g e x h s = absurd (cc h)
 
 -- no call is an end
-no_trap : (c : Call) (fault : Fault) (index : ℕ) → is_call c (Trap fault index) ≡ false
+no_trap : (c : MonitorCall) (fault : Fault) (index : ℕ) → is_call c (Trap fault index) ≡ false
 no_trap (call.Enter o) fault index = refl
 no_trap (call.Exit o) fault index = refl
 no_trap (call.Wait o) fault index = refl
@@ -73,7 +75,7 @@ no_trap (call.New z c) fault index = refl
 no_trap (call.Print v) fault index = refl
 no_trap (call.Dump n) fault index = refl
 
-no_spent : (c : Call) → is_call c Spent ≡ false
+no_spent : (c : MonitorCall) → is_call c Spent ≡ false
 no_spent (call.Enter o) = refl
 no_spent (call.Exit o) = refl
 no_spent (call.Wait o) = refl
@@ -86,7 +88,7 @@ no_spent (call.New z c) = refl
 no_spent (call.Print v) = refl
 no_spent (call.Dump n) = refl
 
-no_done : (c : Call) → is_call c Done ≡ false
+no_done : (c : MonitorCall) → is_call c Done ≡ false
 no_done (call.Enter o) = refl
 no_done (call.Exit o) = refl
 no_done (call.Wait o) = refl
@@ -99,7 +101,7 @@ no_done (call.New z c) = refl
 no_done (call.Print v) = refl
 no_done (call.Dump n) = refl
 
-no_call_ends : (c : Call) (x : Entry) (e : Ending) → is_call c x ≡ true → ending_said x ≡ Some e → ⊥
+no_call_ends : (c : MonitorCall) (x : Entry) (e : Ending) → is_call c x ≡ true → ending_said x ≡ Some e → ⊥
 no_call_ends c (Trap fault index) e h s = false≢true (sym (no_trap c fault index) ∙ h)
 no_call_ends c Spent e h s = false≢true (sym (no_spent c) ∙ h)
 no_call_ends c Done e h s = false≢true (sym (no_done c) ∙ h)
@@ -113,16 +115,16 @@ no_exit_ends : (o : ℕ) (x : Entry) (e : Ending) → is_exit o x ≡ true → e
 no_exit_ends o (Exit object) e h s = none-some e s
 no_exit_ends o x e h s = false≢true h
 
--- the mode behind an entry that says an ending
-ended_behind : (m : PlainMachine) (t : ℕ) (s : ThreadState) (a : Asked) (x : Entry) (e : Ending) → fits a x ≡ true → ending_said x ≡ Some e
-    → ending_in (behind_entry m.program (code_of m.program t) s a x).mode ≡ Some e
-ended_behind m t s (Calls c) x e fit said = absurd (no_call_ends c x e fit said)
-ended_behind m t s (Resumes o) x e fit said = absurd (no_resume_ends o x e fit said)
-ended_behind m t s (Leaves o) x e fit said = absurd (no_exit_ends o x e fit said)
-ended_behind m t s (Ends g) x e fit said = ap Some (ending_fits g e x fit said)
+-- the mode after an entry that says an ending
+ended_after_entry : (m : PlainMachine) (t : ℕ) (s : ThreadState) (a : NextEntry) (x : Entry) (e : Ending) → fits a x ≡ true → ending_said x ≡ Some e
+    → ending_in (after_entry m.program (code_of m.program t) s a x).mode ≡ Some e
+ended_after_entry m t s (Calls c) x e fit said = absurd (no_call_ends c x e fit said)
+ended_after_entry m t s (Resumes o) x e fit said = absurd (no_resume_ends o x e fit said)
+ended_after_entry m t s (Leaves o) x e fit said = absurd (no_exit_ends o x e fit said)
+ended_after_entry m t s (Ends g) x e fit said = ap Some (ending_fits g e x fit said)
 
 -- a thread that has ended asks for nothing
-ended_asks : (s : ThreadState) (mode : Mode) (e : Ending) (a : Asked) → ending_in mode ≡ Some e → ask_in s mode ≢ Some a
+ended_asks : (s : ThreadState) (mode : Mode) (e : Ending) (a : NextEntry) → ending_in mode ≡ Some e → ask_in s mode ≢ Some a
 ended_asks s (Calling c) e a h k = absurd (none-some e h)
 ended_asks s (Waiting o) e a h k = absurd (none-some e h)
 ended_asks s (Unwinding g) e a h k = absurd (none-some e h)
@@ -133,15 +135,15 @@ ending_read m t s at = ap (λ (o : Option ThreadState). option_and_then (λ x. e
 
 -- what an entry of the thread itself leaves
 next_thread : (m n : PlainMachine) (t : ℕ) (x : Entry) → (k : IsTaken m t x n)
-    → slice_get n.threads t ≡ Some (behind_entry m.program (code_of m.program t) k.s k.asked x)
+    → slice_get n.threads t ≡ Some (after_entry m.program (code_of m.program t) k.s k.asked x)
 next_thread m n t x k =
-    ap (λ (q : PlainMachine). slice_get q.threads t) (sym k.is) ∙ get_set_same m.threads t k.s (behind_entry m.program (code_of m.program t) k.s k.asked x) k.at
+    ap (λ (q : PlainMachine). slice_get q.threads t) (sym k.is) ∙ get_set_same m.threads t k.s (after_entry m.program (code_of m.program t) k.s k.asked x) k.at
 
 -- a thread has ended as its entry says
 ends_so : (m n : PlainMachine) (t : ℕ) (x : Entry) (e : Ending) → take m t x ≡ Some n → ending_said x ≡ Some e → ending_of n t ≡ Some e
 ends_so m n t x e h said =
     let k = taken m t x n h in
-    ending_read n t _ (next_thread m n t x k) ∙ ended_behind m t k.s k.asked x e k.fit said
+    ending_read n t _ (next_thread m n t x k) ∙ ended_after_entry m t k.s k.asked x e k.fit said
 
 -- a thread that has ended stays so
 stays_ended : (m n : PlainMachine) (t u : ℕ) (x : Entry) (e : Ending) → take m u x ≡ Some n → ending_of m t ≡ Some e → ending_of n t ≡ Some e
@@ -151,29 +153,29 @@ stays_ended m n t u x e h ended = elim (cases_eq u t) [
       absurd (ended_asks k.s k.s.mode e k.asked is k.asks)
   | inr other ↦ let k = taken m u x n h in
       let kept : slice_get n.threads t ≡ slice_get m.threads t = ap (λ (q : PlainMachine). slice_get q.threads t) (sym k.is)
-      ∙ get_set_other m.threads u t (behind_entry m.program (code_of m.program u) k.s k.asked x) other in
+      ∙ get_set_other m.threads u t (after_entry m.program (code_of m.program u) k.s k.asked x) other in
       ap (λ (o : Option ThreadState). option_and_then (λ y. ending_in y.mode) o) kept ∙ ended
 ]
 
--- the first of some entries, and the machine behind it
+-- the first of some entries, and the machine after it
 record IsFirstTaken (m : PlainMachine) (x : ℕ × Logged) (xs : List (ℕ × Logged)) (n : PlainMachine) : Type 0 where
   pub mid : PlainMachine
   pub first : take m x.0 x.1.entry ≡ Some mid
-  pub rest : behind_all mid xs ≡ Some n
+  pub rest : after_all mid xs ≡ Some n
 
-first_taken : (m : PlainMachine) (x : ℕ × Logged) (xs : List (ℕ × Logged)) (n : PlainMachine) → behind_all m (x ∷ xs) ≡ Some n → IsFirstTaken m x xs n
+first_taken : (m : PlainMachine) (x : ℕ × Logged) (xs : List (ℕ × Logged)) (n : PlainMachine) → after_all m (x ∷ xs) ≡ Some n → IsFirstTaken m x xs n
 first_taken m x xs n h =
     let f = first_run take (take m x.0 x.1.entry) xs n h in
     record { mid = f.0; first = f.1; rest = f.2 }
 
-all_stay_ended : (m n : PlainMachine) (t : ℕ) (e : Ending) (xs : List (ℕ × Logged)) → behind_all m xs ≡ Some n → ending_of m t ≡ Some e → ending_of n t ≡ Some e
+all_stay_ended : (m n : PlainMachine) (t : ℕ) (e : Ending) (xs : List (ℕ × Logged)) → after_all m xs ≡ Some n → ending_of m t ≡ Some e → ending_of n t ≡ Some e
 all_stay_ended m n t e [] h ended = ap (λ (q : PlainMachine). ending_of q t) (sym (same_Some m n h)) ∙ ended
 all_stay_ended m n t e (x ∷ xs) h ended =
     let f = first_taken m x xs n h in
     all_stay_ended f.mid n t e xs f.rest (stays_ended m f.mid t x.0 x.1.entry e f.first ended)
 
 -- a thread has ended as an entry of its own says
-pub ended_after : (m n : PlainMachine) (t k : ℕ) (l : Logged) (e : Ending) (xs : List (ℕ × Logged)) → behind_all m xs ≡ Some n
+pub ended_after : (m n : PlainMachine) (t k : ℕ) (l : Logged) (e : Ending) (xs : List (ℕ × Logged)) → after_all m xs ≡ Some n
     → slice_get (of_thread t xs) k ≡ Some l → ending_said l.entry ≡ Some e → ending_of n t ≡ Some e
 ended_after m n t k l e [] h at said = absurd (none-some l at)
 ended_after m n t k l e (x ∷ xs) h at said =
@@ -201,15 +203,16 @@ pub record IsSameShape (m n : PlainMachine) : Type 0 where
   pub threads : length n.threads ≡ length m.threads
   pub program : n.program ≡ m.program
 
-pub same_shape : (m n : PlainMachine) (xs : List (ℕ × Logged)) → behind_all m xs ≡ Some n → IsSameShape m n
-same_shape m n [] h = let is = same_Some m n h in record { threads = ap (λ (q : PlainMachine). length q.threads) (sym is); program = ap (λ (q : PlainMachine). q.program) (sym is) }
+pub same_shape : (m n : PlainMachine) (xs : List (ℕ × Logged)) → after_all m xs ≡ Some n → IsSameShape m n
+same_shape m n [] h = let is = same_Some m n h in
+    record { threads = ap (λ (q : PlainMachine). length q.threads) (sym is); program = ap (λ (q : PlainMachine). q.program) (sym is) }
 same_shape m n (x ∷ xs) h =
     let f = first_taken m x xs n h in
     let k = taken m x.0 x.1.entry f.mid f.first in
     let r = same_shape f.mid n xs f.rest in
     record {
       threads = r.threads ∙ ap (λ (q : PlainMachine). length q.threads) (sym k.is)
-          ∙ length-set m.threads x.0 (behind_entry m.program (code_of m.program x.0) k.s k.asked x.1.entry);
+          ∙ length-set m.threads x.0 (after_entry m.program (code_of m.program x.0) k.s k.asked x.1.entry);
       program = r.program ∙ ap (λ (q : PlainMachine). q.program) (sym k.is);
     }
 

@@ -9,16 +9,17 @@ use Rattle.plain_monitor.specs.Objects.{PlainObject, take_entry}
 use Rattle.plain_monitor.specs.Order.{order}
 use Rattle.object_program.specs.Program.{ProgramText, numbering_of}
 use Rattle.plain_machine.specs.Asking.{thread_after}
-use Rattle.plain_machine.specs.Legal.{IsLegal, behind_all, machine_after}
-use Rattle.plain_machine.specs.Machine.{PlainMachine, new_machine, code_of, made_behind, moved, take}
+use Rattle.plain_machine.specs.Legal.{IsLegal, after_all, machine_after}
+use Rattle.plain_machine.specs.Machine.{PlainMachine, new_machine, code_of, made_after_entry, moved, take}
 use Rattle.plain_machine.specs.Thread.{ThreadState}
 
--- what is made behind an entry that the machine takes, of the same program
+-- what is made after an entry that the machine takes, of the same program
 record Makes (m n : PlainMachine) (t : ℕ) (e : Entry) : Type 0 where
-  made : made_behind m t e ≡ Some n.made
+  made : made_after_entry m t e ≡ Some n.made
   program : m.program ≡ n.program
 
-moved_makes : (m n : PlainMachine) (t : ℕ) (s : Option ThreadState) (made : Option (List (List ℕ))) (objects : Option (List PlainObject)) → moved m t s made objects ≡ Some n
+moved_makes : (m n : PlainMachine) (t : ℕ) (s : Option ThreadState) (made : Option (List (List ℕ))) (objects : Option (List PlainObject))
+    → moved m t s made objects ≡ Some n
     → (made ≡ Some n.made) × (m.program ≡ n.program)
 moved_makes m n t None made objects h = absurd (cc h)
 moved_makes m n t (Some s) None objects h = absurd (cc h)
@@ -30,18 +31,20 @@ makes : (m n : PlainMachine) (t : ℕ) (e : Entry) → take m t e ≡ Some n →
 makes m n t e h = by_thread (slice_get m.threads t) h
   where
     by_thread : (r : Option ThreadState)
-        → option_and_then (λ s. moved m t (thread_after m.program (code_of m.program t) s e) (made_behind m t e) (take_entry m.objects t e)) r ≡ Some n → Makes m n t e
+        → option_and_then (λ s. moved m t (thread_after m.program (code_of m.program t) s e)
+        (made_after_entry m t e) (take_entry m.objects t e)) r ≡ Some n → Makes m n t e
     by_thread None h = absurd (cc h)
     by_thread (Some s) h =
-        let k = moved_makes m n t (thread_after m.program (code_of m.program t) s e) (made_behind m t e) (take_entry m.objects t e) h in
+        let k = moved_makes m n t (thread_after m.program (code_of m.program t) s e) (made_after_entry m t e) (take_entry m.objects t e) h in
         record { made = k.0; program = k.1 }
 
-all_made : (m last : PlainMachine) (xs : List (ℕ × Logged)) → behind_all m xs ≡ Some last → run_all (take_made (numbering_of m.program)) m.made xs ≡ Some last.made
+all_made : (m last : PlainMachine) (xs : List (ℕ × Logged)) → after_all m xs ≡ Some last
+    → run_all (take_made (numbering_of m.program)) m.made xs ≡ Some last.made
 all_made m last [] h = ap (λ (k : PlainMachine). Some k.made) (same_Some m last h)
 all_made m last (x ∷ xs) h = by_taking (take m x.0 x.1.entry) refl h (λ n k. all_made n last xs k)
   where
-    by_taking : (r : Option PlainMachine) → take m x.0 x.1.entry ≡ r → option_and_then (λ n. behind_all n xs) r ≡ Some last
-        → ((n : PlainMachine) → behind_all n xs ≡ Some last → run_all (take_made (numbering_of n.program)) n.made xs ≡ Some last.made)
+    by_taking : (r : Option PlainMachine) → take m x.0 x.1.entry ≡ r → option_and_then (λ n. after_all n xs) r ≡ Some last
+        → ((n : PlainMachine) → after_all n xs ≡ Some last → run_all (take_made (numbering_of n.program)) n.made xs ≡ Some last.made)
         → run_all (take_made (numbering_of m.program)) m.made (x ∷ xs) ≡ Some last.made
     by_taking None at g ih = absurd (cc g)
     by_taking (Some n) at g ih =

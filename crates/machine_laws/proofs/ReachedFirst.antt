@@ -1,5 +1,6 @@
 -- The machine before its first entry is reached.
-use Rattle.std.proofs.Common.{◌≡◌, ◌⊎◌, inl, inr, ℕ, zero, suc, ◌+◌, ◌<◌, ◌≤◌, pos, true, false, nat_le, nat_lt, List, [], ◌∷◌, ◌++◌, map, length, replicate, slice_get, slice_index, Some, refl, sym, ap, ◌∙◌, subst, arith, zero-add}
+use Rattle.std.proofs.Common.{◌≡◌, ◌⊎◌, inl, inr, ℕ, zero, suc, ◌+◌, ◌<◌, ◌≤◌, pos, true, false, nat_le, nat_lt, List, [], ◌∷◌, ◌++◌}
+use Rattle.std.proofs.Common.{map, length, replicate, slice_get, slice_index, Some, refl, sym, ap, ◌∙◌, subst, arith, zero-add}
 use Rattle.std.specs.List.{AllByRecursion}
 use Rattle.std.proofs.lemmas.Bool.{and_from, cases_lt}
 use Rattle.std.proofs.lemmas.Bool.Decides.{nat_tests}
@@ -12,7 +13,8 @@ use Rattle.plain_monitor.specs.Objects.{PlainObject, new_object, new_objects}
 use Rattle.object_program.specs.declared.program.ClassDef.{ClassDef}
 use Rattle.object_program.specs.declared.program.ObjectDef.{ObjectDef}
 use Rattle.object_program.specs.declared.program.ThreadDef.{ThreadDef}
-use Rattle.object_program.specs.Program.{ProgramText, declared_total, objects_total, made_slots, numbering_of, class_of, shape_from, shape_of, slots_of_class, slots_of, has_object, class_from}
+use Rattle.object_program.specs.Program.{ProgramText, declared_total, objects_total, made_slots, numbering_of, class_in_program}
+use Rattle.object_program.specs.Program.{shape_from, shape_of, slots_of_class, slots_of, has_object, class_from}
 use Rattle.object_program.specs.Valid.{IsProgram, AreObjects}
 use Rattle.object_program.proofs.Made.{shape_total, declared_shape, made_shape}
 use Rattle.plain_machine.specs.Thread.{ThreadState, holds_of}
@@ -35,7 +37,8 @@ use Rattle.machine_laws.proofs.ReachedRunning.{RunsAll, IsRunOf, first_run, prog
 abbrev IsFirst : ProgramText → ℕ → ThreadState → Type 0
 IsFirst p fuel s = IsRunOf p (replicate (objects_total p) 0) fuel s
 
-first_threads : (p : ProgramText) (fuel : ℕ) (ts : List ThreadDef) → IsProgram p → AllByRecursion (RunsAll p) ts → AllByRecursion (IsFirst p fuel) (map (λ t. first_state p t fuel) ts)
+first_threads : (p : ProgramText) (fuel : ℕ) (ts : List ThreadDef) → IsProgram p
+    → AllByRecursion (RunsAll p) ts → AllByRecursion (IsFirst p fuel) (map (λ t. first_state p t fuel) ts)
 first_threads p fuel [] h all = tt
 first_threads p fuel (d ∷ ts) h all = (first_run p d fuel h all.0, first_threads p fuel ts h all.1)
 
@@ -55,14 +58,14 @@ new_at [] o x e = absurd (none-some x e)
 new_at (q ∷ shape) zero x e = record { form = q; at = refl; is = same_Some (new_object q.1) x e }
 new_at (q ∷ shape) (suc o) x e = let r = new_at shape o x e in record { form = r.form; at = r.at; is = r.is }
 
--- an element behind n others
-record IsBehind {X : Type 0} (n : ℕ) (ys : List X) (o : ℕ) (x : X) : Type 0 where
+-- an element after n others
+record IsAfter {X : Type 0} (n : ℕ) (ys : List X) (o : ℕ) (x : X) : Type 0 where
   place : ℕ
   is : o ≡ n + place
   at : slice_get ys place ≡ Some x
 
 -- an element of a list that begins with n that are the same
-replicated : {X : Type 0} (n : ℕ) (a : X) (ys : List X) (o : ℕ) (x : X) → slice_get (replicate n a ++ ys) o ≡ Some x → ((o < n) × (a ≡ x)) ⊎ IsBehind n ys o x
+replicated : {X : Type 0} (n : ℕ) (a : X) (ys : List X) (o : ℕ) (x : X) → slice_get (replicate n a ++ ys) o ≡ Some x → ((o < n) × (a ≡ x)) ⊎ IsAfter n ys o x
 replicated zero a ys o x e = inr (record { place = o; is = omega arith; at = e })
 replicated (suc n) a ys zero x e = inl (omega arith, same_Some a x e)
 replicated (suc n) a ys (suc o) x e = elim (replicated n a ys o x e) [
@@ -96,8 +99,9 @@ form_slots p o form h at = elim (cases_lt o (declared_total p)) [
   | inl below ↦
       let here : slice_get (shape_from p.classes p.objects) o ≡ Some form = sym (declared_shape p o below) ∙ at in
       let declared : nat_lt o (declared_total p) ≡ true = grind (arith, nat_tests, below) in
-      let by_class : form.1 ≡ slots_of_class p.classes (class_of p o) =
-      shape_slots p.classes (length p.classes) 0 p.objects o form h.objects here ∙ ap (λ (i : ℕ). slots_of_class p.classes (class_of p i)) (zero-add o) in
+      let by_class : form.1 ≡ slots_of_class p.classes (class_in_program p o) =
+      shape_slots p.classes (length p.classes) 0 p.objects o form h.objects here
+      ∙ ap (λ (i : ℕ). slots_of_class p.classes (class_in_program p i)) (zero-add o) in
       rw declared by_class
   | inr past ↦
       let within = slice_get_within (shape_of p) o form at in
@@ -124,7 +128,8 @@ new_hashes shape o x e = subst (HasHash o) (new_at shape o x e).is tt
 new_monitors : (n : ℕ) (shape : List (ℕ × ℕ)) → AtEach (HasMonitor n) (new_objects shape)
 new_monitors n shape o x e = subst (HasMonitor n o) (new_at shape o x e).is (free_is n)
 
-new_standing : (p : ProgramText) (fuel : ℕ) (threads : List ThreadState) (shape : List (ℕ × ℕ)) → AllByRecursion (IsFirst p fuel) threads → AtEach (HasThreads threads) (new_objects shape)
+new_standing : (p : ProgramText) (fuel : ℕ) (threads : List ThreadState) (shape : List (ℕ × ℕ))
+    → AllByRecursion (IsFirst p fuel) threads → AtEach (HasThreads threads) (new_objects shape)
 new_standing p fuel threads shape all o x e = subst (HasThreads threads o) (new_at shape o x e).is beside
   where
     beside : AtEach (λ t s. StandsAt o t free_monitor s) threads

@@ -56,12 +56,14 @@ pub record IsChanged (change : Shift) (s next : ThreadState) (o : ℕ) : Type 0 
 abbrev pub moved_to : PlainMachine → ℕ → ThreadState → List PlainObject → PlainMachine
 moved_to m t s objects = record m { objects = objects; threads = slice_set m.threads t s }
 
-work_in_set : (ss : List ThreadState) (t : ℕ) (s next : ThreadState) → slice_get ss t ≡ Some s → work_in (slice_set ss t next) + work_of s ≡ work_in ss + work_of next
+work_in_set : (ss : List ThreadState) (t : ℕ) (s next : ThreadState) → slice_get ss t ≡ Some s
+    → work_in (slice_set ss t next) + work_of s ≡ work_in ss + work_of next
 work_in_set [] t s next e = absurd (none-some s e)
 work_in_set (x ∷ ss) zero s next e = let same : work_of x ≡ work_of s = ap work_of (same_Some x s e) in omega (arith, same)
 work_in_set (x ∷ ss) (suc t) s next e = omega (arith, work_in_set ss t s next e)
 
-less_work : (m : PlainMachine) (t : ℕ) (s next : ThreadState) (objects : List PlainObject) → slice_get m.threads t ≡ Some s → IsThreadMove m s next → work_left (moved_to m t next objects) < work_left m
+less_work : (m : PlainMachine) (t : ℕ) (s next : ThreadState) (objects : List PlainObject)
+    → slice_get m.threads t ≡ Some s → IsThreadMove m s next → work_left (moved_to m t next objects) < work_left m
 less_work m t s next objects at move = omega (arith, work_in_set m.threads t s next at, move.work)
 
 -- the threads beside a monitor that changes for thread t alone
@@ -81,7 +83,8 @@ threads_steady threads t o s next m at h steady =
     (record { holds = steady.holds ∙ k.holds; listed = k.listed ∙ sym steady.waits })
 
 -- the machine after the move is well where its objects are as they may be beside the threads
-well_with : (m : PlainMachine) (t : ℕ) (next : ThreadState) (objects : List PlainObject) → IsReached m → IsThreadOf m.program next → length objects ≡ length m.objects
+well_with : (m : PlainMachine) (t : ℕ) (next : ThreadState) (objects : List PlainObject)
+    → IsReached m → IsThreadOf m.program next → length objects ≡ length m.objects
     → AtEach (HasSlots m.program) objects → AtEach HasHash objects → AtEach (HasMonitor (length m.threads)) objects
     → AtEach (HasThreads (slice_set m.threads t next)) objects → IsWell m.program objects (slice_set m.threads t next)
 well_with m t next objects h thread same slots hashes monitors standing =
@@ -98,11 +101,13 @@ well_with m t next objects h thread same slots hashes monitors standing =
     }
 
 -- the thread moved, and no object did
-pub progress_alone : (m : PlainMachine) (t : ℕ) (s next : ThreadState) → IsMaker m t s → IsThreadMove m s next → ((o : ℕ) → IsSteady s next o) → IsProgress m (moved_to m t next m.objects)
+pub progress_alone : (m : PlainMachine) (t : ℕ) (s next : ThreadState) → IsMaker m t s
+    → IsThreadMove m s next → ((o : ℕ) → IsSteady s next o) → IsProgress m (moved_to m t next m.objects)
 progress_alone m t s next h move steady =
     let r = h.reached in
     record {
-      well = well_with m t next m.objects r move.thread refl r.slots r.hashes r.monitors (λ o x e. threads_steady m.threads t o s next x.monitor h.at (r.standing o x e) (steady o));
+      well = well_with m t next m.objects r move.thread refl r.slots r.hashes r.monitors
+          (λ o x e. threads_steady m.threads t o s next x.monitor h.at (r.standing o x e) (steady o));
       work = less_work m t s next m.objects h.at move;
     }
 
@@ -124,7 +129,8 @@ progress_at m t o change s next x y h move step changed steady =
           (each_set (HasSlots m.program) m.objects o x y step.there step.slots (λ k z other e. h.reached.slots k z e))
           (each_set HasHash m.objects o x y step.there step.hash (λ k z other e. h.reached.hashes k z e))
           (each_set (HasMonitor (length m.threads)) m.objects o x y step.there step.monitor.monitor (λ k z other e. h.reached.monitors k z e))
-          (each_set (HasThreads (slice_set m.threads t next)) m.objects o x y step.there beside (λ k z other e. threads_steady m.threads t k s next z.monitor h.at (h.reached.standing k z e) (steady k other)));
+          (each_set (HasThreads (slice_set m.threads t next)) m.objects o x y step.there beside
+          (λ k z other e. threads_steady m.threads t k s next z.monitor h.at (h.reached.standing k z e) (steady k other)));
       work = less_work m t s next (slice_set m.objects o y) h.at move;
     }
   where
@@ -132,7 +138,10 @@ progress_at m t o change s next x y h move step changed steady =
     before = h.reached.standing o x step.there t s h.at
 
     own : StandsAt o t y.monitor next
-    own = record { holds = omega (arith, before.holds, step.monitor.own.standing, changed.holds); listed = omega (arith, before.listed, step.monitor.own.listed, changed.waits) }
+    own = record {
+      holds = omega (arith, before.holds, step.monitor.own.standing, changed.holds);
+      listed = omega (arith, before.listed, step.monitor.own.listed, changed.waits);
+    }
 
     beside : HasThreads (slice_set m.threads t next) o y
     beside = threads_beside m.threads t o s next x.monitor y.monitor h.at (h.reached.standing o x step.there) step.monitor.others own

@@ -1,14 +1,15 @@
 -- How a thread of a reached machine moves with each kind of entry.
-use Rattle.std.proofs.Common.{◌≡◌, ◌≢◌, ℕ, ◌+◌, ◌-◌, ◌<◌, ◌≤◌, List, length, sum, slice_set, slice_index, refl, sym, ap, ◌∙◌, subst, arith, length-set, get_or-set_same, get_or-set_other, ne_eqb, eq-eqb}
+use Rattle.std.proofs.Common.{◌≡◌, ◌≢◌, ℕ, ◌+◌, ◌-◌, ◌<◌, ◌≤◌, List, length, sum, slice_set, slice_index, refl, sym}
+use Rattle.std.proofs.Common.{ap, ◌∙◌, subst, arith, length-set, get_or-set_same, get_or-set_other, ne_eqb, eq-eqb}
 use Rattle.std.proofs.lemmas.List.Sums.{sum_by-set}
 use Rattle.plain_monitor.specs.Limits.{most_holds}
 use Rattle.plain_monitor.specs.declared.entry.Ending.{Ending}
 use Rattle.plain_monitor.specs.Objects.{PlainObject}
 use Rattle.object_program.specs.Program.{ProgramText}
-use Rattle.plain_machine.specs.declared.call.Call.{Call}
-use Rattle.plain_machine.specs.declared.call.Call.TheVariants as call
-use Rattle.plain_machine.specs.declared.call.Mode.TheVariants.{Waiting, Ended}
-use Rattle.plain_machine.specs.Thread.{ThreadState, behind, holds_of}
+use Rattle.plain_machine.specs.declared.monitor_call.MonitorCall.{MonitorCall}
+use Rattle.plain_machine.specs.declared.monitor_call.MonitorCall.TheVariants as call
+use Rattle.plain_machine.specs.declared.monitor_call.Mode.TheVariants.{Waiting, Ended}
+use Rattle.plain_machine.specs.Thread.{ThreadState, past, holds_of}
 use Rattle.plain_machine.specs.Running.{run_on}
 use Rattle.plain_machine.specs.Asking.{holds_more, holds_less}
 use Rattle.plain_machine.specs.Machine.{PlainMachine, code_of}
@@ -37,7 +38,8 @@ run_of : (m : PlainMachine) (t fuel : ℕ) (s : ThreadState) → IsReached m →
 run_of m t fuel s h st = run_keeps m.program (code_of m.program t) h.program (code_runs m.program t h.program) fuel s st
 
 -- the holds with another number for object o
-holds_set : (p : ProgramText) (s : ThreadState) (o k : ℕ) → IsStateOf p s → sum (slice_set s.holds o k) ≤ most_holds → IsStateOf p (record s { holds = slice_set s.holds o k })
+holds_set : (p : ProgramText) (s : ThreadState) (o k : ℕ) → IsStateOf p s
+    → sum (slice_set s.holds o k) ≤ most_holds → IsStateOf p (record s { holds = slice_set s.holds o k })
 holds_set p s o k st few = record { holds = length-set s.holds o k ∙ st.holds; few = few; dumps = st.dumps; locals = st.locals }
 
 held_within : (p : ProgramText) (s : ThreadState) (o : ℕ) → IsStateOf p s → IsObject p o → o < length s.holds
@@ -55,10 +57,11 @@ record IsCallRun (m : PlainMachine) (s next : ThreadState) (holds : List ℕ) : 
   holds_are : next.holds ≡ holds
   waits : (o : ℕ) → waiting_on next.mode o ≡ waiting_on s.mode o
 
-call_run : (m : PlainMachine) (t : ℕ) (s a : ThreadState) (c : Call) → IsMaker m t s → IsPaid m.program s c → IsStateOf m.program a → sum a.holds ≤ sum s.holds + 1
-    → IsCallRun m s (runs_on m t (s.fuel - 1) (behind a)) a.holds
+call_run : (m : PlainMachine) (t : ℕ) (s a : ThreadState) (c : MonitorCall) → IsMaker m t s
+    → IsPaid m.program s c → IsStateOf m.program a → sum a.holds ≤ sum s.holds + 1
+    → IsCallRun m s (runs_on m t (s.fuel - 1) (past a)) a.holds
 call_run m t s a c h paid st few =
-    let run = run_of m t (s.fuel - 1) (behind a) h.reached (record { holds = st.holds; few = st.few; dumps = st.dumps; locals = st.locals }) in
+    let run = run_of m t (s.fuel - 1) (past a) h.reached (record { holds = st.holds; few = st.few; dumps = st.dumps; locals = st.locals }) in
     let one : mode_work s.mode ≡ 1 = ap mode_work paid.mode in
     record {
       move = record { thread = run.thread; work = omega (arith, paid.fuel, run.fuel_falls, run.one_entry, one, ap sum run.holds_stay, few) };
@@ -74,34 +77,38 @@ unchanged : (s next : ThreadState) (o : ℕ) → IsSteady s next o → IsChanged
 unchanged s next o k = record { holds = omega (arith, k.holds); waits = omega (arith, k.waits) }
 
 -- a call that leaves the holds and the objects
-pub call_alone : (m : PlainMachine) (t : ℕ) (s a : ThreadState) (c : Call) → IsMaker m t s → IsPaid m.program s c → IsStateOf m.program a → a.holds ≡ s.holds
-    → IsProgress m (moved_to m t (runs_on m t (s.fuel - 1) (behind a)) m.objects)
+pub call_alone : (m : PlainMachine) (t : ℕ) (s a : ThreadState) (c : MonitorCall)
+    → IsMaker m t s → IsPaid m.program s c → IsStateOf m.program a → a.holds ≡ s.holds
+    → IsProgress m (moved_to m t (runs_on m t (s.fuel - 1) (past a)) m.objects)
 call_alone m t s a c h paid st same =
     let run = call_run m t s a c h paid st (omega (arith, ap sum same)) in
-    let kept : IsCallRun m s (runs_on m t (s.fuel - 1) (behind a)) s.holds = record { move = run.move; holds_are = run.holds_are ∙ same; waits = run.waits } in
+    let kept : IsCallRun m s (runs_on m t (s.fuel - 1) (past a)) s.holds = record { move = run.move; holds_are = run.holds_are ∙ same; waits = run.waits } in
     progress_alone m t s _ h run.move (steady m s _ kept)
 
 -- a call on an object that leaves the holds
-pub call_at : (m : PlainMachine) (t o : ℕ) (s a : ThreadState) (c : Call) (x y : PlainObject) → IsMaker m t s → IsPaid m.program s c → IsStateOf m.program a → a.holds ≡ s.holds
-    → IsObjectStep m t o stays x y → IsProgress m (moved_to m t (runs_on m t (s.fuel - 1) (behind a)) (slice_set m.objects o y))
+pub call_at : (m : PlainMachine) (t o : ℕ) (s a : ThreadState) (c : MonitorCall) (x y : PlainObject)
+    → IsMaker m t s → IsPaid m.program s c → IsStateOf m.program a → a.holds ≡ s.holds
+    → IsObjectStep m t o stays x y → IsProgress m (moved_to m t (runs_on m t (s.fuel - 1) (past a)) (slice_set m.objects o y))
 call_at m t o s a c x y h paid st same step =
     let run = call_run m t s a c h paid st (omega (arith, ap sum same)) in
-    let kept : IsCallRun m s (runs_on m t (s.fuel - 1) (behind a)) s.holds = record { move = run.move; holds_are = run.holds_are ∙ same; waits = run.waits } in
+    let kept : IsCallRun m s (runs_on m t (s.fuel - 1) (past a)) s.holds = record { move = run.move; holds_are = run.holds_are ∙ same; waits = run.waits } in
     progress_at m t o stays s _ x y h run.move step (unchanged s _ o (steady m s _ kept o)) (λ k other. steady m s _ kept k)
 
 -- the other objects' holds, where those of one are set
-steady_set : (s next : ThreadState) (o k : ℕ) → next.holds ≡ slice_set s.holds o k → ((i : ℕ) → waiting_on next.mode i ≡ waiting_on s.mode i) → (i : ℕ) → i ≢ o → IsSteady s next i
+steady_set : (s next : ThreadState) (o k : ℕ) → next.holds ≡ slice_set s.holds o k
+    → ((i : ℕ) → waiting_on next.mode i ≡ waiting_on s.mode i) → (i : ℕ) → i ≢ o → IsSteady s next i
 steady_set s next o k holds waits i other =
     record { holds = ap (λ (xs : List ℕ). slice_index xs i) holds ∙ get_or-set_other s.holds o i k 0 other; waits = waits i }
 
 changed_set : (s next : ThreadState) (o k : ℕ) → next.holds ≡ slice_set s.holds o k → o < length s.holds → holds_of next o ≡ k
 changed_set s next o k holds l = ap (λ (xs : List ℕ). slice_index xs o) holds ∙ get_or-set_same s.holds o k 0 l
 
-pub enter_kind : (m : PlainMachine) (t o : ℕ) (s : ThreadState) (x y : PlainObject) → IsMaker m t s → IsPaid m.program s (call.Enter o) → IsObjectStep m t o one_more x y
-    → IsProgress m (moved_to m t (runs_on m t (s.fuel - 1) (behind (holds_more s o))) (slice_set m.objects o y))
+pub enter_kind : (m : PlainMachine) (t o : ℕ) (s : ThreadState) (x y : PlainObject)
+    → IsMaker m t s → IsPaid m.program s (call.Enter o) → IsObjectStep m t o one_more x y
+    → IsProgress m (moved_to m t (runs_on m t (s.fuel - 1) (past (holds_more s o))) (slice_set m.objects o y))
 enter_kind m t o s x y h paid step =
     let st = state_of m t s h in
-    let next : ThreadState = runs_on m t (s.fuel - 1) (behind (holds_more s o)) in
+    let next : ThreadState = runs_on m t (s.fuel - 1) (past (holds_more s o)) in
     let within : o < length s.holds = held_within m.program s o st paid.call.0 in
     let more = sum_more s.holds o within in
     let after : IsStateOf m.program (holds_more s o) = holds_set m.program s o (holds_of s o + 1) st (omega (arith, more, paid.call.1)) in
@@ -111,11 +118,12 @@ enter_kind m t o s x y h paid step =
     (record { holds = omega (arith, held); waits = omega (arith, run.waits o) })
     (steady_set s next o (holds_of s o + 1) run.holds_are run.waits)
 
-pub exit_kind : (m : PlainMachine) (t o : ℕ) (s : ThreadState) (x y : PlainObject) → IsMaker m t s → IsPaid m.program s (call.Exit o) → IsObjectStep m t o one_less x y
-    → IsProgress m (moved_to m t (runs_on m t (s.fuel - 1) (behind (holds_less s o))) (slice_set m.objects o y))
+pub exit_kind : (m : PlainMachine) (t o : ℕ) (s : ThreadState) (x y : PlainObject)
+    → IsMaker m t s → IsPaid m.program s (call.Exit o) → IsObjectStep m t o one_less x y
+    → IsProgress m (moved_to m t (runs_on m t (s.fuel - 1) (past (holds_less s o))) (slice_set m.objects o y))
 exit_kind m t o s x y h paid step =
     let st = state_of m t s h in
-    let next : ThreadState = runs_on m t (s.fuel - 1) (behind (holds_less s o)) in
+    let next : ThreadState = runs_on m t (s.fuel - 1) (past (holds_less s o)) in
     let within : o < length s.holds = held_within m.program s o st paid.call.0 in
     let less = sum_less s.holds o within paid.call.1 in
     let after : IsStateOf m.program (holds_less s o) = holds_set m.program s o (holds_of s o - 1) st (omega (arith, less, st.few)) in
@@ -144,9 +152,10 @@ leave_kind m t o s x y h left step =
 
 -- a thread that waits
 abbrev pub in_wait : ThreadState → ℕ → ThreadState
-in_wait s o = record (behind s) { fuel = s.fuel - 1; mode = Waiting o }
+in_wait s o = record (past s) { fuel = s.fuel - 1; mode = Waiting o }
 
-pub wait_kind : (m : PlainMachine) (t o : ℕ) (s : ThreadState) (x y : PlainObject) → IsMaker m t s → IsPaid m.program s (call.Wait o) → IsObjectStep m t o is_put_in x y
+pub wait_kind : (m : PlainMachine) (t o : ℕ) (s : ThreadState) (x y : PlainObject)
+    → IsMaker m t s → IsPaid m.program s (call.Wait o) → IsObjectStep m t o is_put_in x y
     → IsProgress m (moved_to m t (in_wait s o) (slice_set m.objects o y))
 wait_kind m t o s x y h paid step =
     let st = state_of m t s h in
@@ -161,23 +170,29 @@ wait_kind m t o s x y h paid step =
     (record { holds = omega arith; waits = omega (arith, here, runs o) })
     (λ k other. record { holds = refl; waits = rw (ne_eqb o k (λ q. other (sym q))) (sym (runs k)) })
 
-pub resume_kind : (m : PlainMachine) (t o : ℕ) (s : ThreadState) (x y : PlainObject) → IsMaker m t s → IsAwaited m.program s o → IsObjectStep m t o is_taken_out x y
+pub resume_kind : (m : PlainMachine) (t o : ℕ) (s : ThreadState) (x y : PlainObject)
+    → IsMaker m t s → IsAwaited m.program s o → IsObjectStep m t o is_taken_out x y
     → IsProgress m (moved_to m t (runs_on m t s.fuel s) (slice_set m.objects o y))
 resume_kind m t o s x y h awaited step =
     let run = run_of m t s.fuel s h.reached (state_of m t s h) in
     let two : mode_work s.mode ≡ 2 = ap mode_work awaited.mode in
     let here : waiting_on s.mode o ≡ 1 = ap (λ z. waiting_on z o) awaited.mode ∙ rw (eq-eqb o o refl) refl in
     let elsewhere : (k : ℕ) → k ≢ o → waiting_on s.mode k ≡ 0 = λ k other. ap (λ z. waiting_on z k) awaited.mode ∙ rw (ne_eqb o k (λ q. other (sym q))) refl in
-    let move : IsThreadMove m s (runs_on m t s.fuel s) = record { thread = run.thread; work = omega (arith, run.fuel_falls, run.one_entry, two, ap sum run.holds_stay) } in
+    let move : IsThreadMove m s (runs_on m t s.fuel s) =
+    record { thread = run.thread; work = omega (arith, run.fuel_falls, run.one_entry, two, ap sum run.holds_stay) } in
     let held : (k : ℕ) → holds_of (runs_on m t s.fuel s) k ≡ holds_of s k = λ k. ap (λ (xs : List ℕ). slice_index xs k) run.holds_stay in
     progress_at m t o is_taken_out s (runs_on m t s.fuel s) x y h move step
     (record { holds = omega (arith, held o); waits = omega (arith, here, run.runs o) })
     (λ k other. record { holds = held k; waits = run.runs k ∙ sym (elsewhere k other) })
 
-pub end_kind : (m : PlainMachine) (t : ℕ) (s : ThreadState) (g : Ending) → IsMaker m t s → IsLast s g → IsProgress m (moved_to m t (record s { mode = Ended g }) m.objects)
+pub end_kind : (m : PlainMachine) (t : ℕ) (s : ThreadState) (g : Ending) → IsMaker m t s
+    → IsLast s g → IsProgress m (moved_to m t (record s { mode = Ended g }) m.objects)
 end_kind m t s g h last =
     let st = state_of m t s h in
     let one : mode_work s.mode ≡ 1 = ap mode_work last.mode in
     progress_alone m t s (record s { mode = Ended g }) h
-    (record { thread = record { state = record { holds = st.holds; few = st.few; dumps = st.dumps; locals = st.locals }; mode = last.none }; work = omega (arith, one) })
+    (record {
+      thread = record { state = record { holds = st.holds; few = st.few; dumps = st.dumps; locals = st.locals }; mode = last.none };
+      work = omega (arith, one);
+    })
     (λ o. record { holds = refl; waits = sym (ap (λ z. waiting_on z o) last.mode) })

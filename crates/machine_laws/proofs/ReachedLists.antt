@@ -1,5 +1,6 @@
 -- What holds of each element of a list and its place, through writes.
-use Rattle.std.proofs.Common.{if◌then◌else◌, ◌≡◌, ◌≢◌, ◌⊎◌, inl, inr, ℕ, zero, suc, ◌<◌, ◌≤◌, ◌==◌, List, [], ◌∷◌, length, slice_get, slice_index_or, slice_set, Some, refl, sym, ◌∙◌, subst, arith, eq-eqb}
+use Rattle.std.proofs.Common.{if◌then◌else◌, ◌≡◌, ◌≢◌, ◌⊎◌, inl, inr, ℕ, zero, suc, ◌<◌, ◌≤◌, ◌==◌, List, [], ◌∷◌, length}
+use Rattle.std.proofs.Common.{slice_get, slice_index_or, slice_set, Some, refl, sym, ◌∙◌, subst, arith, eq-eqb}
 use Rattle.std.specs.List.{AllByRecursion}
 use Rattle.std.proofs.lemmas.Bool.{cases_eq, cases_lt}
 use Rattle.std.proofs.lemmas.Option.{same_Some, slice_get-get_or}
@@ -9,7 +10,8 @@ use Rattle.plain_monitor.proofs.Lists.{get_set_same, get_set_other}
 use Rattle.machine_laws.specs.Reached.{AtEach}
 
 -- what holds of each element and its place after a write: it holds of what was written, and of each other element
-pub each_set : {X : Type 0} (Q : ℕ → X → Type 0) (xs : List X) (k : ℕ) (x y : X) → slice_get xs k ≡ Some x → Q k y → ((j : ℕ) (z : X) → j ≢ k → slice_get xs j ≡ Some z → Q j z) → AtEach Q (slice_set xs k y)
+pub each_set : {X : Type 0} (Q : ℕ → X → Type 0) (xs : List X) (k : ℕ) (x y : X) → slice_get xs k ≡ Some x
+    → Q k y → ((j : ℕ) (z : X) → j ≢ k → slice_get xs j ≡ Some z → Q j z) → AtEach Q (slice_set xs k y)
 each_set Q xs k x y at here others j z e = go (cases_eq j k)
   where
     go : (j ≡ k) ⊎ (j ≡ k → ⊥) → Q j z
@@ -36,7 +38,8 @@ at_within (x ∷ xs) zero l = record { element = x; at = refl }
 at_within (x ∷ xs) (suc k) l = let r = at_within xs k (omega arith) in record { element = r.element; at = r.at }
 
 -- no place has more than its thread's counts together
-pub all_bounded : (n bound : ℕ) (ps : List (ℕ × ℕ)) → AllByRecursion (λ p. p.0 < n) ps → ((t : ℕ) → t < n → counts_in ps t ≤ bound) → AllByRecursion (λ p. (p.0 < n) × (p.1 ≤ bound)) ps
+pub all_bounded : (n bound : ℕ) (ps : List (ℕ × ℕ)) → AllByRecursion (λ p. p.0 < n) ps
+    → ((t : ℕ) → t < n → counts_in ps t ≤ bound) → AllByRecursion (λ p. (p.0 < n) × (p.1 ≤ bound)) ps
 all_bounded n bound [] places h = tt
 all_bounded n bound (p ∷ ps) places h =
     let here = h p.0 places.0 in

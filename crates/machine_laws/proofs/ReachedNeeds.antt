@@ -10,11 +10,11 @@ use Rattle.plain_monitor.specs.Made.{Numbering, is_there, creates, needs, take_c
 use Rattle.plain_monitor.proofs.Lists.{all_at}
 use Rattle.plain_history.proofs.MadeSteps.{grown, MayCreate, may_be_created}
 use Rattle.object_program.specs.Program.{numbering_of}
-use Rattle.plain_machine.specs.declared.call.Call.TheVariants as call
-use Rattle.plain_machine.specs.declared.call.Asked.{Asked}
+use Rattle.plain_machine.specs.declared.monitor_call.MonitorCall.TheVariants as call
+use Rattle.plain_machine.specs.declared.monitor_call.NextEntry.{NextEntry}
 use Rattle.plain_machine.specs.Thread.{ThreadState}
 use Rattle.plain_machine.specs.Asking.{ask, fits}
-use Rattle.plain_machine.specs.Machine.{PlainMachine, made_behind}
+use Rattle.plain_machine.specs.Machine.{PlainMachine, made_after_entry}
 use Rattle.plain_machine.specs.Offering.{next_made}
 use Rattle.machine_laws.specs.References.{IsThere, ThreadRefersTo}
 use Rattle.machine_laws.proofs.ReachedFrame.{IsMaker}
@@ -26,14 +26,16 @@ all_found n made [] h = refl
 all_found n made (o ∷ os) h = and_from (is_there n made o) (list_all (is_there n made) os) h.0 (all_found n made os h.1)
 
 -- an entry that makes no object leaves what is made as it is
-pub made_there : (m : PlainMachine) (t : ℕ) (s : ThreadState) (a : Asked) (e : Entry) → IsMaker m t s → ask s ≡ Some a → fits a e ≡ true → creates e ≡ None → made_behind m t e ≡ Some m.made
+pub made_there : (m : PlainMachine) (t : ℕ) (s : ThreadState) (a : NextEntry) (e : Entry) → IsMaker m t s
+    → ask s ≡ Some a → fits a e ≡ true → creates e ≡ None → made_after_entry m t e ≡ Some m.made
 made_there m t s a e h asks fit none =
     let refers = ask_refers (IsThere m.program m.made) s a (all_at (ThreadRefersTo (IsThere m.program m.made)) m.threads t s h.reached.references h.at) asks in
     let all = all_found (numbering_of m.program) m.made (needs e) (asked_needs (IsThere m.program m.made) a e refers fit) in
     ap (take_created (numbering_of m.program) m.made t e) none ∙ ap (λ b. only_if b m.made) all
 
 -- the New of a thread that asks for one, by the thread's next number
-pub new_there : (m : PlainMachine) (t x c : ℕ) (s : ThreadState) → IsMaker m t s → IsPaid m.program s (call.New x c) → made_behind m t (New (next_made m t) c) ≡ Some (grown m.made t c)
+pub new_there : (m : PlainMachine) (t x c : ℕ) (s : ThreadState) → IsMaker m t s
+    → IsPaid m.program s (call.New x c) → made_after_entry m t (New (next_made m t) c) ≡ Some (grown m.made t c)
 new_there m t x c s h paid =
     let may : MayCreate (numbering_of m.program) m.made t (next_made m t, c) = record {
       thread = omega (arith, slice_get_within m.threads t s h.at, h.reached.row_count, h.reached.thread_count);

@@ -1,13 +1,15 @@
 -- A machine that offers nothing is stuck or has ended.
-use Rattle.std.proofs.Common.{◌≡◌, ◌⊎◌, inl, inr, ℕ, zero, suc, ◌+◌, ◌<◌, Bool, true, false, not, ◌||◌, if◌then◌else◌, List, [], ◌∷◌, length, slice_get, Option, Some, None, option_and_then, is_some, is_none, refl, sym, ap, ◌∙◌, subst, add-zero, zero-add, true≢false, arith}
+use Rattle.std.proofs.Common.{◌≡◌, ◌⊎◌, inl, inr, ℕ, zero, suc, ◌+◌, ◌<◌, Bool, true, false, not, ◌||◌, if◌then◌else◌}
+use Rattle.std.proofs.Common.{List, [], ◌∷◌, length, slice_get, Option, Some, None, option_and_then, is_some}
+use Rattle.std.proofs.Common.{is_none, refl, sym, ap, ◌∙◌, subst, add-zero, zero-add, true≢false, arith}
 use Rattle.std.proofs.lemmas.Bool.{false≢true, and_from, and_parts, or_parts, not_from_false, not-true, or_from, and_left, or_left}
 use Rattle.std.proofs.lemmas.Option.{slice_get_within, none-some, same_Some}
 use Rattle.std.specs.List.{list_any, list_all}
 use Rattle.plain_monitor.specs.declared.entry.Entry.{Entry}
 use Rattle.plain_monitor.specs.declared.entry.Entry.TheVariants.{Resume}
-use Rattle.plain_machine.specs.declared.call.Call.TheVariants as call
-use Rattle.plain_machine.specs.declared.call.Mode.{Mode}
-use Rattle.plain_machine.specs.declared.call.Mode.TheVariants.{Calling, Waiting, Unwinding, Ended}
+use Rattle.plain_machine.specs.declared.monitor_call.MonitorCall.TheVariants as call
+use Rattle.plain_machine.specs.declared.monitor_call.Mode.{Mode}
+use Rattle.plain_machine.specs.declared.monitor_call.Mode.TheVariants.{Calling, Waiting, Unwinding, Ended}
 use Rattle.plain_machine.specs.declared.offer.Offer.TheVariants as offer
 use Rattle.plain_machine.specs.Thread.{ThreadState}
 use Rattle.plain_machine.specs.Asking.{ask, ask_in, unwinds, held_from}
@@ -31,11 +33,13 @@ hash_is_next : (o : ℕ) (hash : Option ℕ) → is_next (hash_offer o hash) ≡
 hash_is_next o None = refl
 hash_is_next o (Some v) = refl
 
-waits_or_owned : (listed : Bool) (o : ℕ) (owner : Option ℕ) → is_next (if listed then offer.Waiting o else unless_owned o owner (Resume o)) ≡ false → (listed || is_some owner) ≡ true
+waits_or_owned : (listed : Bool) (o : ℕ) (owner : Option ℕ)
+    → is_next (if listed then offer.Waiting o else unless_owned o owner (Resume o)) ≡ false → (listed || is_some owner) ≡ true
 waits_or_owned true o owner h = refl
 waits_or_owned false o owner h = owned_if_held o owner (Resume o) h
 
-held_if_waits : (listed : Bool) (o : ℕ) (owner : Option ℕ) → (listed || is_some owner) ≡ true → is_next (if listed then offer.Waiting o else unless_owned o owner (Resume o)) ≡ false
+held_if_waits : (listed : Bool) (o : ℕ) (owner : Option ℕ) → (listed || is_some owner) ≡ true
+    → is_next (if listed then offer.Waiting o else unless_owned o owner (Resume o)) ≡ false
 held_if_waits true o owner h = refl
 held_if_waits false o owner h = held_if_owned o owner (Resume o) h
 
@@ -64,13 +68,15 @@ held_if_rests m t s (Waiting o) h = held_if_waits _ o _ h
 held_if_rests m t s (Unwinding e) h = absurd (false≢true (sym (unwinds_unbarred m t e (held_from 0 s.holds)) ∙ h))
 held_if_rests m t s (Ended e) h = refl
 
-all_barred_from : (m : PlainMachine) (k : ℕ) (ss : List ThreadState) → ((j : ℕ) (s : ThreadState) → slice_get ss j ≡ Some s → rests m (k + j) s s.mode ≡ true) → all_barred m k ss ≡ true
+all_barred_from : (m : PlainMachine) (k : ℕ) (ss : List ThreadState)
+    → ((j : ℕ) (s : ThreadState) → slice_get ss j ≡ Some s → rests m (k + j) s s.mode ≡ true) → all_barred m k ss ≡ true
 all_barred_from m k [] h = refl
 all_barred_from m k (s ∷ ss) h =
     and_from _ _ (subst (λ (i : ℕ). rests m i s s.mode ≡ true) (add-zero k) (h zero s refl))
     (all_barred_from m (k + 1) ss (λ j x e. subst (λ (i : ℕ). rests m i x x.mode ≡ true) (omega arith) (h (suc j) x e)))
 
-all_barred_at : (m : PlainMachine) (k j : ℕ) (ss : List ThreadState) (s : ThreadState) → all_barred m k ss ≡ true → slice_get ss j ≡ Some s → rests m (k + j) s s.mode ≡ true
+all_barred_at : (m : PlainMachine) (k j : ℕ) (ss : List ThreadState) (s : ThreadState)
+    → all_barred m k ss ≡ true → slice_get ss j ≡ Some s → rests m (k + j) s s.mode ≡ true
 all_barred_at m k j [] s h e = absurd (none-some s e)
 all_barred_at m k zero (x ∷ ss) s h e =
     let same : x ≡ s = cc in
@@ -83,17 +89,20 @@ none_live (s ∷ ss) h = let p = or_parts (is_live s) (list_any is_live ss) h in
 
 all_ended : (ss : List ThreadState) → list_all (λ s. not (is_live s)) ss ≡ true → list_any is_live ss ≡ false
 all_ended [] h = refl
-all_ended (s ∷ ss) h = let p = and_parts (not (is_live s)) (list_all (λ (x : ThreadState). not (is_live x)) ss) h in or_from _ _ (not-true _ p.0) (all_ended ss p.1)
+all_ended (s ∷ ss) h = let p = and_parts (not (is_live s)) (list_all (λ (x : ThreadState). not (is_live x)) ss) h in
+    or_from _ _ (not-true _ p.0) (all_ended ss p.1)
 
 offered_to : (m : PlainMachine) (t : ℕ) (s : ThreadState) → slice_get m.threads t ≡ Some s → offered m t ≡ asked_offer m t (ask_in s s.mode)
 offered_to m t s e = ap (λ (o : Option ThreadState). asked_offer m t (option_and_then ask o)) e
 
-resting_at : (m : PlainMachine) (j : ℕ) (s : ThreadState) → ((t : ℕ) → t < length m.threads → is_next (offered m t) ≡ false) → slice_get m.threads j ≡ Some s → rests m (0 + j) s s.mode ≡ true
+resting_at : (m : PlainMachine) (j : ℕ) (s : ThreadState) → ((t : ℕ) → t < length m.threads → is_next (offered m t) ≡ false)
+    → slice_get m.threads j ≡ Some s → rests m (0 + j) s s.mode ≡ true
 resting_at m j s h e =
     let held : is_next (asked_offer m j (ask_in s s.mode)) ≡ false = ap is_next (sym (offered_to m j s e)) ∙ h j (slice_get_within m.threads j s e) in
     subst (λ (i : ℕ). rests m i s s.mode ≡ true) (sym (zero-add j)) (rests_if_held m j s s.mode held)
 
-pub offering_nothing_is_over : (m : PlainMachine) → ((t : ℕ) → t < length m.threads → is_next (offered m t) ≡ false) → (is_stuck m ≡ true) ⊎ (list_all (λ s. not (is_live s)) m.threads ≡ true)
+pub offering_nothing_is_over : (m : PlainMachine) → ((t : ℕ) → t < length m.threads → is_next (offered m t) ≡ false)
+    → (is_stuck m ≡ true) ⊎ (list_all (λ s. not (is_live s)) m.threads ≡ true)
 offering_nothing_is_over m h = go (list_any is_live m.threads) refl
   where
     go : (live : Bool) → list_any is_live m.threads ≡ live → (is_stuck m ≡ true) ⊎ (list_all (λ s. not (is_live s)) m.threads ≡ true)

@@ -1,5 +1,6 @@
 -- What a run of local instructions keeps.
-use Rattle.std.proofs.Common.{◌≡◌, ℕ, zero, suc, ◌+◌, ◌<◌, ◌≤◌, ℤ, pos, negsuc, ◌+ℤ◌, ◌-ℤ◌, ◌*ℤ◌, nat_abs, Bool, true, false, List, [], ◌∷◌, map, length, replicate, sum, slice_get, nat_le, nat_lt, if◌then◌else◌, refl, ap, ◌||◌, ◌∙◌, arith, ltb-true, leb-true}
+use Rattle.std.proofs.Common.{◌≡◌, ℕ, zero, suc, ◌+◌, ◌<◌, ◌≤◌, ℤ, pos, negsuc, ◌+ℤ◌, ◌-ℤ◌, ◌*ℤ◌, nat_abs, Bool, true, false, List, [], ◌∷◌, map}
+use Rattle.std.proofs.Common.{length, replicate, sum, slice_get, nat_le, nat_lt, if◌then◌else◌, refl, ap, ◌||◌, ◌∙◌, arith, ltb-true, leb-true}
 use Rattle.std.specs.List.{AllByRecursion, list_any}
 use Rattle.std.proofs.lemmas.List.{length-replicate}
 use Rattle.std.proofs.lemmas.List.Folds.{sum_by-replicate}
@@ -17,9 +18,11 @@ use Rattle.object_program.specs.declared.program.ObjectDef.{ObjectDef}
 use Rattle.object_program.specs.declared.program.ThreadDef.{ThreadDef}
 use Rattle.object_program.specs.Program.{ProgramText, total_of, declared_total, is_new, has_new, objects_total, slots_of}
 use Rattle.object_program.specs.Valid.{IsProgram, IsThread, IsInstruction, AreObjects}
-use Rattle.plain_machine.specs.declared.call.Call.{Call}
-use Rattle.plain_machine.specs.declared.call.Call.TheVariants as call
-use Rattle.plain_machine.specs.Thread.{ThreadState, Step, Goes, Calls, Stops, step_of, local, with_local, on_object, on_slot, enters, owner_only, computes, combines, faults, sets, holds_of, first_of, size_of, is_element, element, jumps_where, jumps_below, dumps_next, makes_next}
+use Rattle.plain_machine.specs.declared.monitor_call.MonitorCall.{MonitorCall}
+use Rattle.plain_machine.specs.declared.monitor_call.MonitorCall.TheVariants as call
+use Rattle.plain_machine.specs.Thread.{ThreadState, Step, Goes, Calls, Stops, step_of, local, with_local, on_object, on_slot}
+use Rattle.plain_machine.specs.Thread.{enters, owner_only, computes, combines, faults, sets, holds_of, first_of, size_of}
+use Rattle.plain_machine.specs.Thread.{is_element, element, jumps_where, jumps_below, dumps_next, makes_next}
 use Rattle.plain_machine.specs.Running.{instruction_at, after_step, run_on, first_state}
 use Rattle.plain_machine.specs.Machine.{code_of}
 use Rattle.machine_laws.specs.ReachedMonitor.{waiting_on}
@@ -56,12 +59,14 @@ threads_have [] = tt
 threads_have (t ∷ ts) = (
   all_weaker (λ c. is_new c ≡ true → list_any is_new t.code ≡ true) (λ c. is_new c ≡ true → has_new (t ∷ ts) ≡ true)
       (λ c f h. ap (λ b. b || has_new ts) (f h)) t.code (news_here t.code),
-  all_weaker (λ u. AllByRecursion (λ c. is_new c ≡ true → has_new ts ≡ true) u.code) (λ u. AllByRecursion (λ c. is_new c ≡ true → has_new (t ∷ ts) ≡ true) u.code)
+  all_weaker (λ u. AllByRecursion (λ c. is_new c ≡ true → has_new ts ≡ true) u.code)
+      (λ u. AllByRecursion (λ c. is_new c ≡ true → has_new (t ∷ ts) ≡ true) u.code)
       (λ u all. all_weaker (λ c. is_new c ≡ true → has_new ts ≡ true) (λ c. is_new c ≡ true → has_new (t ∷ ts) ≡ true)
       (λ c f h. either (list_any is_new t.code) (has_new ts) (f h)) u.code all) ts (threads_have ts),
 )
 
-runnable : (p : ProgramText) (locals : ℕ) (labels : List LabelDef) (c : Code) → IsInstruction (length p.classes) locals (length p.objects) labels c → IsNewOf p c → IsRunnable p c
+runnable : (p : ProgramText) (locals : ℕ) (labels : List LabelDef) (c : Code)
+    → IsInstruction (length p.classes) locals (length p.objects) labels c → IsNewOf p c → IsRunnable p c
 runnable p locals labels (code.Set x v) h new = h.1
 runnable p locals labels (code.Ref x k) h new = h.1
 runnable p locals labels (code.New x c) h new = (h.1, new refl)
@@ -78,17 +83,21 @@ all_both P Q R f (x ∷ xs) a b = (f x a.0 b.0, all_both P Q R f xs a.1 b.1)
 
 thread_runs : (p : ProgramText) (d : ThreadDef) → IsThread (length p.classes) (length p.objects) d → AllByRecursion (IsNewOf p) d.code → RunsAll p d
 thread_runs p d h new =
-    all_both (IsInstruction (length p.classes) (length d.locals) (length p.objects) d.labels) (IsNewOf p) (IsRunnable p) (runnable p (length d.locals) d.labels) d.code h.code new
+    all_both (IsInstruction (length p.classes) (length d.locals) (length p.objects) d.labels)
+    (IsNewOf p) (IsRunnable p) (runnable p (length d.locals) d.labels) d.code h.code new
 
 pub program_runs : (p : ProgramText) → IsProgram p → AllByRecursion (RunsAll p) p.threads
 program_runs p h =
-    all_both (IsThread (length p.classes) (length p.objects)) (λ t. AllByRecursion (IsNewOf p) t.code) (RunsAll p) (thread_runs p) p.threads h.threads (threads_have p.threads)
+    all_both (IsThread (length p.classes) (length p.objects)) (λ t. AllByRecursion (IsNewOf p) t.code)
+    (RunsAll p) (thread_runs p) p.threads h.threads (threads_have p.threads)
 
 pub code_runs : (p : ProgramText) (t : ℕ) → IsProgram p → AllByRecursion (IsRunnable p) (code_of p t)
-code_runs p t h = all_or (AllByRecursion (IsRunnable p)) (map (λ d. d.code) p.threads) t [] tt (all_map (AllByRecursion (IsRunnable p)) (λ d. d.code) p.threads (program_runs p h))
+code_runs p t h = all_or (AllByRecursion (IsRunnable p)) (map (λ d. d.code) p.threads) t [] tt
+    (all_map (AllByRecursion (IsRunnable p)) (λ d. d.code) p.threads (program_runs p h))
 
 -- an element of a declaration is one of the program's objects
-element_below_from : (classes k : ℕ) (ds : List ObjectDef) (n i : ℕ) → AreObjects classes k ds → i < size_of (slice_get ds n) → first_of (slice_get ds n) + i < k + total_of ds
+element_below_from : (classes k : ℕ) (ds : List ObjectDef) (n i : ℕ) → AreObjects classes k ds
+    → i < size_of (slice_get ds n) → first_of (slice_get ds n) + i < k + total_of ds
 element_below_from classes k [] n i h l = absurd (omega arith)
 element_below_from classes k (d ∷ ds) zero i h l = omega (arith, h.0.1, l)
 element_below_from classes k (d ∷ ds) (suc n) i h l = omega (arith, element_below_from classes (k + d.size) ds n i h.1 l)
@@ -119,7 +128,7 @@ element_size (negsuc k) size h = absurd (cc h)
 in_range : (z : ℤ) → is_in_range z ≡ true → IsInRange z
 in_range z h = grind (arith, ints)
 
--- the thread behind a step that goes on
+-- the thread after a step that goes on
 pub record IsKept (p : ProgramText) (s next : ThreadState) : Type 0 where
   pub state : IsStateOf p next
   pub holds : next.holds ≡ s.holds
@@ -137,7 +146,8 @@ pub set_state : (p : ProgramText) (s : ThreadState) (x : ℕ) (v : Value) → Is
 set_state p s x v st is = record { holds = st.holds; few = st.few; dumps = st.dumps; locals = all_set (IsValueOf (objects_total p)) s.locals x v is st.locals }
 
 sets_step : (p : ProgramText) (s : ThreadState) (x : ℕ) (v : Value) → IsStateOf p s → IsValueOf (objects_total p) v → IsStepOf p s (sets s x v)
-sets_step p s x v st is = let next = set_state p s x v st is in record { state = record { holds = next.holds; few = next.few; dumps = next.dumps; locals = next.locals }; holds = refl }
+sets_step p s x v st is = let next = set_state p s x v st is in
+    record { state = record { holds = next.holds; few = next.few; dumps = next.dumps; locals = next.locals }; holds = refl }
 
 local_value : (p : ProgramText) (s : ThreadState) (x : ℕ) → IsStateOf p s → IsValueOf (objects_total p) (local s x)
 local_value p s x st = all_or (IsValueOf (objects_total p)) s.locals x Nil (tt, tt) st.locals
@@ -170,21 +180,24 @@ enters_step p s o l = go (nat_lt (sum s.holds) most_holds) refl
     go false e = tt
 
 -- a call that only the owner may make
-owner_step : (p : ProgramText) (s : ThreadState) (o : ℕ) (fault : Fault) (c : Call) → (1 ≤ holds_of s o → IsCallOf p s.holds s.dumps s.made c) → IsStepOf p s (owner_only s o fault (Calls c))
+owner_step : (p : ProgramText) (s : ThreadState) (o : ℕ) (fault : Fault) (c : MonitorCall)
+    → (1 ≤ holds_of s o → IsCallOf p s.holds s.dumps s.made c) → IsStepOf p s (owner_only s o fault (Calls c))
 owner_step p s o fault c h = go (nat_le 1 (holds_of s o)) refl
   where
     go : (b : Bool) → nat_le 1 (holds_of s o) ≡ b → IsStepOf p s (if b then Calls c else faults s fault)
     go true e = h (leb-true _ _ e)
     go false e = tt
 
-slot_step : (p : ProgramText) (s : ThreadState) (o k : ℕ) (c : Call) → (1 ≤ holds_of s o → k < slots_of p o → IsCallOf p s.holds s.dumps s.made c) → IsStepOf p s (on_slot p s o k c)
+slot_step : (p : ProgramText) (s : ThreadState) (o k : ℕ) (c : MonitorCall)
+    → (1 ≤ holds_of s o → k < slots_of p o → IsCallOf p s.holds s.dumps s.made c) → IsStepOf p s (on_slot p s o k c)
 slot_step p s o k c h = go (nat_lt k (slots_of p o)) refl
   where
     go : (b : Bool) → nat_lt k (slots_of p o) ≡ b → IsStepOf p s (if b then owner_only s o Unguarded (Calls c) else faults s Range)
     go true e = owner_step p s o Unguarded c (λ held. h held (ltb-true _ _ e))
     go false e = tt
 
-object_step : (p : ProgramText) (s : ThreadState) (x : ℕ) (f : ℕ → Step) → IsStateOf p s → ((o : ℕ) → IsObject p o → IsStepOf p s (f o)) → IsStepOf p s (on_object s (local s x) f)
+object_step : (p : ProgramText) (s : ThreadState) (x : ℕ) (f : ℕ → Step) → IsStateOf p s
+    → ((o : ℕ) → IsObject p o → IsStepOf p s (f o)) → IsStepOf p s (on_object s (local s x) f)
 object_step p s x f st h = go (local s x) (local_value p s x st)
   where
     go : (v : Value) → IsValueOf (objects_total p) v → IsStepOf p s (on_object s v f)
@@ -223,12 +236,18 @@ step_keeps p s (code.Mul x y z) h st r = combines_step p s x (λ a b. a *ℤ b) 
 step_keeps p s (code.Ref x k) h st r = sets_step p s x (Ref (first_of (slice_get p.objects k))) st (first_below p k h r, tt)
 step_keeps p s (code.Elem x k i) h st r = element_step p s x k (local s i) h st
 step_keeps p s (code.Enter x) h st r = object_step p s x (enters s) st (enters_step p s)
-step_keeps p s (code.Exit x) h st r = object_step p s x (λ o. owner_only s o IllegalMonitorState (Calls (call.Exit o))) st (λ o l. owner_step p s o IllegalMonitorState (call.Exit o) (λ held. (l, held)))
-step_keeps p s (code.Wait x) h st r = object_step p s x (λ o. owner_only s o IllegalMonitorState (Calls (call.Wait o))) st (λ o l. owner_step p s o IllegalMonitorState (call.Wait o) (λ held. (l, held)))
-step_keeps p s (code.Notify x) h st r = object_step p s x (λ o. owner_only s o IllegalMonitorState (Calls (call.Notify o))) st (λ o l. owner_step p s o IllegalMonitorState (call.Notify o) (λ held. (l, held)))
-step_keeps p s (code.NotifyAll x) h st r = object_step p s x (λ o. owner_only s o IllegalMonitorState (Calls (call.NotifyAll o))) st (λ o l. owner_step p s o IllegalMonitorState (call.NotifyAll o) (λ held. (l, held)))
-step_keeps p s (code.Get x y k) h st r = object_step p s y (λ o. on_slot p s o k (call.Get x o k)) st (λ o l. slot_step p s o k (call.Get x o k) (λ held slot. ((l, held), slot)))
-step_keeps p s (code.Put y k x) h st r = object_step p s y (λ o. on_slot p s o k (call.Put o k (local s x))) st (λ o l. slot_step p s o k (call.Put o k (local s x)) (λ held slot. ((l, held), slot, local_value p s x st)))
+step_keeps p s (code.Exit x) h st r = object_step p s x (λ o. owner_only s o IllegalMonitorState (Calls (call.Exit o))) st
+    (λ o l. owner_step p s o IllegalMonitorState (call.Exit o) (λ held. (l, held)))
+step_keeps p s (code.Wait x) h st r = object_step p s x (λ o. owner_only s o IllegalMonitorState (Calls (call.Wait o))) st
+    (λ o l. owner_step p s o IllegalMonitorState (call.Wait o) (λ held. (l, held)))
+step_keeps p s (code.Notify x) h st r = object_step p s x (λ o. owner_only s o IllegalMonitorState (Calls (call.Notify o))) st
+    (λ o l. owner_step p s o IllegalMonitorState (call.Notify o) (λ held. (l, held)))
+step_keeps p s (code.NotifyAll x) h st r = object_step p s x (λ o. owner_only s o IllegalMonitorState (Calls (call.NotifyAll o))) st
+    (λ o l. owner_step p s o IllegalMonitorState (call.NotifyAll o) (λ held. (l, held)))
+step_keeps p s (code.Get x y k) h st r =
+    object_step p s y (λ o. on_slot p s o k (call.Get x o k)) st (λ o l. slot_step p s o k (call.Get x o k) (λ held slot. ((l, held), slot)))
+step_keeps p s (code.Put y k x) h st r = object_step p s y (λ o. on_slot p s o k (call.Put o k (local s x))) st
+    (λ o l. slot_step p s o k (call.Put o k (local s x)) (λ held slot. ((l, held), slot, local_value p s x st)))
 step_keeps p s (code.Hash x y) h st r = object_step p s y (λ o. Calls (call.Hash x o)) st (λ o l. l)
 step_keeps p s (code.New x c) h st r = new_step p s x c r.0 r.1
 step_keeps p s (code.Print x) h st r = local_value p s x st
@@ -246,21 +265,53 @@ pub record IsRunOf (p : ProgramText) (holds : List ℕ) (fuel : ℕ) (s : Thread
   pub one_entry : mode_work s.mode ≡ 1
   pub runs : (o : ℕ) → waiting_on s.mode o ≡ 0
 
-after_keeps : (p : ProgramText) (k : ℕ) (s : ThreadState) (step : Step) (go : ThreadState → ThreadState) → IsStateOf p s → IsStepOf p s step → ((next : ThreadState) → IsStateOf p next → IsRunOf p next.holds k (go next))
+after_keeps : (p : ProgramText) (k : ℕ) (s : ThreadState) (step : Step) (go : ThreadState → ThreadState)
+    → IsStateOf p s → IsStepOf p s step → ((next : ThreadState) → IsStateOf p next → IsRunOf p next.holds k (go next))
     → IsRunOf p s.holds (suc k) (after_step s k step go)
 after_keeps p k s (Goes next) go st h ih =
-    let r = ih next h.state in record { thread = r.thread; holds_stay = r.holds_stay ∙ h.holds; fuel_falls = omega (arith, r.fuel_falls); one_entry = r.one_entry; runs = r.runs }
+    let r = ih next h.state in record {
+      thread = r.thread;
+      holds_stay = r.holds_stay ∙ h.holds;
+      fuel_falls = omega (arith, r.fuel_falls);
+      one_entry = r.one_entry;
+      runs = r.runs;
+    }
 after_keeps p k s (Calls c) go st h ih =
-    record { thread = record { state = record { holds = st.holds; few = st.few; dumps = st.dumps; locals = st.locals }; mode = (omega arith, h) }; holds_stay = refl; fuel_falls = omega arith; one_entry = refl; runs = λ o. refl }
+    record {
+      thread = record { state = record { holds = st.holds; few = st.few; dumps = st.dumps; locals = st.locals }; mode = (omega arith, h) };
+      holds_stay = refl;
+      fuel_falls = omega arith;
+      one_entry = refl;
+      runs = λ o. refl;
+    }
 after_keeps p k s (Stops e) go st h ih =
-    record { thread = record { state = record { holds = st.holds; few = st.few; dumps = st.dumps; locals = st.locals }; mode = tt }; holds_stay = refl; fuel_falls = omega arith; one_entry = refl; runs = λ o. refl }
+    record {
+      thread = record { state = record { holds = st.holds; few = st.few; dumps = st.dumps; locals = st.locals }; mode = tt };
+      holds_stay = refl;
+      fuel_falls = omega arith;
+      one_entry = refl;
+      runs = λ o. refl;
+    }
 
-pub run_keeps : (p : ProgramText) (cs : List Code) → IsProgram p → AllByRecursion (IsRunnable p) cs → (fuel : ℕ) (s : ThreadState) → IsStateOf p s → IsRunOf p s.holds fuel (run_on p cs fuel s)
+pub run_keeps : (p : ProgramText) (cs : List Code) → IsProgram p → AllByRecursion (IsRunnable p) cs
+    → (fuel : ℕ) (s : ThreadState) → IsStateOf p s → IsRunOf p s.holds fuel (run_on p cs fuel s)
 unfolding run_on
 run_keeps p cs h all zero s st =
-    record { thread = record { state = record { holds = st.holds; few = st.few; dumps = st.dumps; locals = st.locals }; mode = tt }; holds_stay = refl; fuel_falls = omega arith; one_entry = refl; runs = λ o. refl }
+    record {
+      thread = record { state = record { holds = st.holds; few = st.few; dumps = st.dumps; locals = st.locals }; mode = tt };
+      holds_stay = refl;
+      fuel_falls = omega arith;
+      one_entry = refl;
+      runs = λ o. refl;
+    }
 run_keeps p cs h all (suc k) s st =
-    after_keeps p k s (step_of p s (instruction_at cs s.place)) (λ next. run_on p cs k next) st (step_keeps p s (instruction_at cs s.place) h st (all_or (IsRunnable p) cs s.place code.End tt all)) (λ next kept. run_keeps p cs h all k next kept)
+    after_keeps p k s (step_of p s (instruction_at cs s.place)) (λ next. run_on p cs k next) st (step_keeps p s
+    (instruction_at cs s.place) h st (all_or (IsRunnable p) cs s.place code.End tt all)) (λ next kept. run_keeps p cs h all k next kept)
 
 pub first_run : (p : ProgramText) (d : ThreadDef) (fuel : ℕ) → IsProgram p → RunsAll p d → IsRunOf p (replicate (objects_total p) 0) fuel (first_state p d fuel)
-first_run p d fuel h all = run_keeps p d.code h all fuel _ (record { holds = length-replicate _ 0; few = omega (arith, sum_by-replicate (λ (x : ℕ). x) (objects_total p) 0); dumps = omega arith; locals = all_replicate (IsValueOf (objects_total p)) (length d.locals) Nil (tt, tt) })
+first_run p d fuel h all = run_keeps p d.code h all fuel _ (record {
+  holds = length-replicate _ 0;
+  few = omega (arith, sum_by-replicate (λ (x : ℕ). x) (objects_total p) 0);
+  dumps = omega arith;
+  locals = all_replicate (IsValueOf (objects_total p)) (length d.locals) Nil (tt, tt);
+})

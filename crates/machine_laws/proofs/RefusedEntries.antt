@@ -4,7 +4,8 @@ use Rattle.std.specs.List.{list_all, list_any}
 use Rattle.std.proofs.lemmas.Bool.{false≢true}
 use Rattle.std.proofs.lemmas.Bool.Decides.{nat_tests}
 use Rattle.plain_monitor.specs.declared.entry.Entry.{Entry}
-use Rattle.plain_monitor.specs.declared.entry.Entry.TheVariants.{Enter, Exit, Get, Put, Wait, Resume, Notify, NotifyAll, Hash, New, Print, Dump, Trap, Spent, Done}
+use Rattle.plain_monitor.specs.declared.entry.Entry.TheVariants.{Enter, Exit, Get, Put, Wait, Resume, Notify, NotifyAll}
+use Rattle.plain_monitor.specs.declared.entry.Entry.TheVariants.{Hash, New, Print, Dump, Trap, Spent, Done}
 use Rattle.plain_monitor.specs.Limits.{most_made}
 use Rattle.plain_monitor.specs.Made.{Numbering, made_number, made_by, is_there, creates, needs, take_created}
 use Rattle.object_program.specs.Program.{numbering_of}
@@ -16,13 +17,15 @@ and_false true = refl
 and_false false = refl
 
 -- one of them isn't there
-not_all : (n : Numbering) (made : List (List ℕ)) (o : ℕ) (os : List ℕ) → list_any (λ i. o == i) os ≡ true → is_there n made o ≡ false → list_all (is_there n made) os ≡ false
+not_all : (n : Numbering) (made : List (List ℕ)) (o : ℕ) (os : List ℕ)
+    → list_any (λ i. o == i) os ≡ true → is_there n made o ≡ false → list_all (is_there n made) os ≡ false
 not_all n made o [] h none = absurd (cc h)
 not_all n made o (i ∷ os) h none = by_test (o == i) refl h (λ g. not_all n made o os g none)
   where
     by_test : (b : Bool) → (o == i) ≡ b → (b || list_any (λ i. o == i) os) ≡ true → (list_any (λ i. o == i) os ≡ true → list_all (is_there n made) os ≡ false)
         → (is_there n made i && list_all (is_there n made) os) ≡ false
-    by_test true e g ih = let same = eqb-true o i e in ap (λ j. is_there n made j && list_all (is_there n made) os) (sym same) ∙ ap (λ b. b && list_all (is_there n made) os) none
+    by_test true e g ih = let same = eqb-true o i e in
+        ap (λ j. is_there n made j && list_all (is_there n made) os) (sym same) ∙ ap (λ b. b && list_all (is_there n made) os) none
     by_test false e g ih = ap (λ b. is_there n made i && b) (ih g) ∙ and_false (is_there n made i)
 
 -- an entry that makes an object needs none
@@ -43,14 +46,17 @@ maker_needs_none o (Trap fault index) h = refl
 maker_needs_none o Spent h = refl
 maker_needs_none o Done h = refl
 
-pub not_there : (m : PlainMachine) (t o : ℕ) (e : Entry) → list_any (λ i. o == i) (needs e) ≡ true → is_there (numbering_of m.program) m.made o ≡ false → take m t e ≡ None
+pub not_there : (m : PlainMachine) (t o : ℕ) (e : Entry) → list_any (λ i. o == i) (needs e) ≡ true
+    → is_there (numbering_of m.program) m.made o ≡ false → take m t e ≡ None
 not_there m t o e among none =
-    nothing_taken m t e (ap (take_created (numbering_of m.program) m.made t e) (maker_needs_none o e among) ∙ rw (not_all (numbering_of m.program) m.made o (needs e) among none) refl)
+    nothing_taken m t e (ap (take_created (numbering_of m.program) m.made t e) (maker_needs_none o e among)
+    ∙ rw (not_all (numbering_of m.program) m.made o (needs e) among none) refl)
 
 pub other_number : (m : PlainMachine) (t o c : ℕ) → o ≢ made_number (numbering_of m.program) t (length (made_by m.made t)) → take m t (New o c) ≡ None
 other_number m t o c d =
     let apart : (o == made_number (numbering_of m.program) t (length (made_by m.made t))) ≡ false = grind (arith, nat_tests, d) in
-    nothing_taken m t (New o c) (rw (apart, and_false (nat_lt t (length m.made) && nat_lt (length (made_by m.made t)) most_made && nat_lt c (length m.program.classes))) refl)
+    nothing_taken m t (New o c)
+    (rw (apart, and_false (nat_lt t (length m.made) && nat_lt (length (made_by m.made t)) most_made && nat_lt c (length m.program.classes))) refl)
 
 pub too_many : (m : PlainMachine) (t o c : ℕ) → most_made ≤ length (made_by m.made t) → take m t (New o c) ≡ None
 too_many m t o c h =

@@ -1,5 +1,6 @@
 -- A run of local instructions brings no reference but to declared objects.
-use Rattle.std.proofs.Common.{◌≡◌, ℕ, zero, suc, ◌+◌, ◌<◌, ℤ, ◌+ℤ◌, ◌-ℤ◌, ◌*ℤ◌, nat_abs, Bool, true, false, List, sum, slice_get, nat_le, nat_lt, if◌then◌else◌, refl, ◌∙◌}
+use Rattle.std.proofs.Common.{◌≡◌, ℕ, zero, suc, ◌+◌, ◌<◌, ℤ, ◌+ℤ◌, ◌-ℤ◌, ◌*ℤ◌, nat_abs, Bool, true}
+use Rattle.std.proofs.Common.{false, List, sum, slice_get, nat_le, nat_lt, if◌then◌else◌, refl, ◌∙◌}
 use Rattle.std.specs.List.{AllByRecursion}
 use Rattle.plain_monitor.specs.Limits.{most_holds, most_made}
 use Rattle.plain_monitor.specs.declared.entry.Value.{Value}
@@ -11,9 +12,11 @@ use Rattle.object_program.specs.declared.program.Code.{Code}
 use Rattle.object_program.specs.declared.program.Code.TheVariants as code
 use Rattle.object_program.specs.Program.{ProgramText, declared_total, slots_of}
 use Rattle.object_program.specs.Valid.{IsProgram}
-use Rattle.plain_machine.specs.declared.call.Call.{Call}
-use Rattle.plain_machine.specs.declared.call.Call.TheVariants as call
-use Rattle.plain_machine.specs.Thread.{ThreadState, Step, Goes, Calls, Stops, step_of, local, on_object, on_slot, enters, owner_only, computes, combines, faults, sets, holds_of, first_of, size_of, is_element, element, jumps_where, jumps_below, dumps_next, makes_next}
+use Rattle.plain_machine.specs.declared.monitor_call.MonitorCall.{MonitorCall}
+use Rattle.plain_machine.specs.declared.monitor_call.MonitorCall.TheVariants as call
+use Rattle.plain_machine.specs.Thread.{ThreadState, Step, Goes, Calls, Stops, step_of, local, on_object, on_slot}
+use Rattle.plain_machine.specs.Thread.{enters, owner_only, computes, combines, faults, sets, holds_of, first_of, size_of}
+use Rattle.plain_machine.specs.Thread.{is_element, element, jumps_where, jumps_below, dumps_next, makes_next}
 use Rattle.plain_machine.specs.Running.{instruction_at, after_step, run_on}
 use Rattle.machine_laws.specs.References.{RefersTo, CallRefersTo, ModeRefersTo}
 use Rattle.machine_laws.proofs.ReachedRunning.{IsRunnable, element_declared, first_declared, element_size}
@@ -55,7 +58,8 @@ module _ (These : ℕ → Type 0) (p : ProgramText) (declared : (o : ℕ) → o 
       where
         go : (b : Bool) → is_element i (size_of (slice_get p.objects k)) ≡ b
             → StepRefersTo These s (if b then sets s x (Ref (first_of (slice_get p.objects k) + nat_abs i)) else faults s Range)
-        go true e = sets_refers x (Ref (first_of (slice_get p.objects k) + nat_abs i)) (declared _ (element_declared p k (nat_abs i) valid (element_size i _ e)))
+        go true e = sets_refers x (Ref (first_of (slice_get p.objects k) + nat_abs i))
+            (declared _ (element_declared p k (nat_abs i) valid (element_size i _ e)))
         go false e = tt
     element_refers x k v = tt
 
@@ -66,14 +70,14 @@ module _ (These : ℕ → Type 0) (p : ProgramText) (declared : (o : ℕ) → o 
         go true = h
         go false = tt
 
-    owner_refers : (o : ℕ) (fault : Fault) (c : Call) → CallRefersTo These c → StepRefersTo These s (owner_only s o fault (Calls c))
+    owner_refers : (o : ℕ) (fault : Fault) (c : MonitorCall) → CallRefersTo These c → StepRefersTo These s (owner_only s o fault (Calls c))
     owner_refers o fault c h = go (nat_le 1 (holds_of s o))
       where
         go : (b : Bool) → StepRefersTo These s (if b then Calls c else faults s fault)
         go true = h
         go false = tt
 
-    slot_refers : (o k : ℕ) (c : Call) → CallRefersTo These c → StepRefersTo These s (on_slot p s o k c)
+    slot_refers : (o k : ℕ) (c : MonitorCall) → CallRefersTo These c → StepRefersTo These s (on_slot p s o k c)
     slot_refers o k c h = go (nat_lt k (slots_of p o))
       where
         go : (b : Bool) → StepRefersTo These s (if b then owner_only s o Unguarded (Calls c) else faults s Range)
@@ -121,12 +125,17 @@ module _ (These : ℕ → Type 0) (p : ProgramText) (declared : (o : ℕ) → o 
     step_refers (code.Ref x k) r = sets_refers x (Ref (first_of (slice_get p.objects k))) (declared _ (first_declared p k valid r))
     step_refers (code.Elem x k i) r = element_refers x k (local s i)
     step_refers (code.Enter x) r = object_refers x (enters s) enters_refers
-    step_refers (code.Exit x) r = object_refers x (λ o. owner_only s o IllegalMonitorState (Calls (call.Exit o))) (λ o h. owner_refers o IllegalMonitorState (call.Exit o) h)
-    step_refers (code.Wait x) r = object_refers x (λ o. owner_only s o IllegalMonitorState (Calls (call.Wait o))) (λ o h. owner_refers o IllegalMonitorState (call.Wait o) h)
-    step_refers (code.Notify x) r = object_refers x (λ o. owner_only s o IllegalMonitorState (Calls (call.Notify o))) (λ o h. owner_refers o IllegalMonitorState (call.Notify o) h)
-    step_refers (code.NotifyAll x) r = object_refers x (λ o. owner_only s o IllegalMonitorState (Calls (call.NotifyAll o))) (λ o h. owner_refers o IllegalMonitorState (call.NotifyAll o) h)
+    step_refers (code.Exit x) r =
+        object_refers x (λ o. owner_only s o IllegalMonitorState (Calls (call.Exit o))) (λ o h. owner_refers o IllegalMonitorState (call.Exit o) h)
+    step_refers (code.Wait x) r =
+        object_refers x (λ o. owner_only s o IllegalMonitorState (Calls (call.Wait o))) (λ o h. owner_refers o IllegalMonitorState (call.Wait o) h)
+    step_refers (code.Notify x) r = object_refers x (λ o. owner_only s o IllegalMonitorState (Calls (call.Notify o)))
+        (λ o h. owner_refers o IllegalMonitorState (call.Notify o) h)
+    step_refers (code.NotifyAll x) r = object_refers x (λ o. owner_only s o IllegalMonitorState (Calls (call.NotifyAll o)))
+        (λ o h. owner_refers o IllegalMonitorState (call.NotifyAll o) h)
     step_refers (code.Get x y k) r = object_refers y (λ o. on_slot p s o k (call.Get x o k)) (λ o h. slot_refers o k (call.Get x o k) h)
-    step_refers (code.Put y k x) r = object_refers y (λ o. on_slot p s o k (call.Put o k (local s x))) (λ o h. slot_refers o k (call.Put o k (local s x)) (h, local_refers x))
+    step_refers (code.Put y k x) r =
+        object_refers y (λ o. on_slot p s o k (call.Put o k (local s x))) (λ o h. slot_refers o k (call.Put o k (local s x)) (h, local_refers x))
     step_refers (code.Hash x y) r = object_refers y (λ o. Calls (call.Hash x o)) (λ o h. h)
     step_refers (code.New x c) r = new_refers x c
     step_refers (code.Print x) r = local_refers x

@@ -1,7 +1,8 @@
 -- What holds of each entry that a reached machine takes, and of each offer that it makes.
 use Rattle.std.specs.Prelude.{ℕ, ◌<◌, ◌≤◌, MatchOption}
 use Rattle.plain_monitor.specs.declared.entry.Entry.{Entry}
-use Rattle.plain_monitor.specs.declared.entry.Entry.TheVariants.{Enter, Exit, Get, Put, Wait, Resume, Notify, NotifyAll, Hash, New, Print, Dump, Trap, Spent, Done}
+use Rattle.plain_monitor.specs.declared.entry.Entry.TheVariants.{Enter, Exit, Get, Put, Wait, Resume, Notify, NotifyAll}
+use Rattle.plain_monitor.specs.declared.entry.Entry.TheVariants.{Hash, New, Print, Dump, Trap, Spent, Done}
 use Rattle.plain_machine.specs.declared.offer.Offer.{Offer}
 use Rattle.plain_machine.specs.declared.offer.Offer.TheVariants.{Next, NextHash, Blocked, Waiting, Ended}
 use Rattle.plain_machine.specs.Values.{IsValueOf}

@@ -3,8 +3,8 @@ use Rattle.std.specs.Prelude.{◌≡◌, ℕ, ◌+◌, ◌<◌, ◌≤◌, ◌==
 use Rattle.std.specs.List.{AllByRecursion}
 use Rattle.plain_monitor.specs.Listed.{times_in, counts_in, presence}
 use Rattle.plain_monitor.specs.Monitor.{PlainMonitor, is_thread}
-use Rattle.plain_machine.specs.declared.call.Mode.{Mode}
-use Rattle.plain_machine.specs.declared.call.Mode.TheVariants.{Waiting}
+use Rattle.plain_machine.specs.declared.monitor_call.Mode.{Mode}
+use Rattle.plain_machine.specs.declared.monitor_call.Mode.TheVariants.{Waiting}
 use Rattle.plain_machine.specs.Thread.{ThreadState, holds_of}
 
 -- the number for the owner, and 0 for each other thread

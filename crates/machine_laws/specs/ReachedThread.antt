@@ -3,10 +3,10 @@ use Rattle.std.specs.Prelude.{◌≡◌, ℕ, ◌+◌, ◌<◌, ◌≤◌, true,
 use Rattle.std.specs.List.{AllByRecursion}
 use Rattle.plain_monitor.specs.Limits.{most_holds, most_made}
 use Rattle.object_program.specs.Program.{ProgramText, has_new, objects_total, slots_of}
-use Rattle.plain_machine.specs.declared.call.Call.{Call}
-use Rattle.plain_machine.specs.declared.call.Call.TheVariants as call
-use Rattle.plain_machine.specs.declared.call.Mode.{Mode}
-use Rattle.plain_machine.specs.declared.call.Mode.TheVariants.{Calling, Waiting, Unwinding, Ended}
+use Rattle.plain_machine.specs.declared.monitor_call.MonitorCall.{MonitorCall}
+use Rattle.plain_machine.specs.declared.monitor_call.MonitorCall.TheVariants as call
+use Rattle.plain_machine.specs.declared.monitor_call.Mode.{Mode}
+use Rattle.plain_machine.specs.declared.monitor_call.Mode.TheVariants.{Calling, Waiting, Unwinding, Ended}
 use Rattle.plain_machine.specs.Thread.{ThreadState}
 use Rattle.plain_machine.specs.Values.{IsObject, IsValueOf}
 
@@ -15,7 +15,7 @@ abbrev pub IsHeld : ProgramText → List ℕ → ℕ → Type 0
 IsHeld p holds o = IsObject p o × (1 ≤ slice_index holds o)
 
 -- a call that a thread may make that has these holds and has made so many dumps and objects
-abbrev pub IsCallOf : ProgramText → List ℕ → ℕ → ℕ → Call → Type 0
+abbrev pub IsCallOf : ProgramText → List ℕ → ℕ → ℕ → MonitorCall → Type 0
 IsCallOf p holds dumps made (call.Enter o) = IsObject p o × (sum holds < most_holds)
 IsCallOf p holds dumps made (call.Exit o) = IsHeld p holds o
 IsCallOf p holds dumps made (call.Wait o) = IsHeld p holds o
@@ -42,7 +42,7 @@ pub record IsStateOf (p : ProgramText) (s : ThreadState) : Type 0 where
   pub dumps : s.dumps ≤ 4
   pub locals : AllByRecursion (IsValueOf (objects_total p)) s.locals
 
--- what holds of it behind each entry
+-- what holds of it after each entry
 pub record IsThreadOf (p : ProgramText) (s : ThreadState) : Type 0 where
   pub state : IsStateOf p s
   pub mode : IsModeOf p s s.mode

@@ -6,10 +6,10 @@ use Rattle.plain_monitor.specs.declared.entry.Value.TheVariants.{Ref}
 use Rattle.plain_monitor.specs.Made.{is_there}
 use Rattle.plain_monitor.specs.Objects.{PlainObject}
 use Rattle.object_program.specs.Program.{ProgramText, numbering_of}
-use Rattle.plain_machine.specs.declared.call.Call.{Call}
-use Rattle.plain_machine.specs.declared.call.Call.TheVariants as call
-use Rattle.plain_machine.specs.declared.call.Mode.{Mode}
-use Rattle.plain_machine.specs.declared.call.Mode.TheVariants.{Calling, Waiting}
+use Rattle.plain_machine.specs.declared.monitor_call.MonitorCall.{MonitorCall}
+use Rattle.plain_machine.specs.declared.monitor_call.MonitorCall.TheVariants as call
+use Rattle.plain_machine.specs.declared.monitor_call.Mode.{Mode}
+use Rattle.plain_machine.specs.declared.monitor_call.Mode.TheVariants.{Calling, Waiting}
 use Rattle.plain_machine.specs.Thread.{ThreadState, holds_of}
 
 -- object o is there, beside what threads have made
@@ -22,7 +22,7 @@ RefersTo These (Ref o) = These o
 RefersTo These v = Unit {0}
 
 -- what the entry of a call needs are objects of these
-abbrev pub CallRefersTo : (ℕ → Type 0) → Call → Type 0
+abbrev pub CallRefersTo : (ℕ → Type 0) → MonitorCall → Type 0
 CallRefersTo These (call.Enter o) = These o
 CallRefersTo These (call.Exit o) = These o
 CallRefersTo These (call.Wait o) = These o

@@ -14,9 +14,9 @@ ghost use Rattle.plain_monitor.specs.History.{log_of};
 ghost use Rattle.plain_monitor.specs.Made.{is_there, IsMadeInTime};
 ghost use Rattle.object_program.specs.Program.{ProgramText, numbering_of};
 ghost use Rattle.object_program.specs.Valid.{IsProgram};
-ghost use Rattle.plain_machine.specs.declared.call.Call.TheVariants.{Dump};
-ghost use Rattle.plain_machine.specs.declared.call.Call.TheVariants as call;
-ghost use Rattle.plain_machine.specs.declared.call.Asked.TheVariants.{Calls};
+ghost use Rattle.plain_machine.specs.declared.monitor_call.MonitorCall.TheVariants.{Dump};
+ghost use Rattle.plain_machine.specs.declared.monitor_call.MonitorCall.TheVariants as call;
+ghost use Rattle.plain_machine.specs.declared.monitor_call.NextEntry.TheVariants.{Calls};
 ghost use Rattle.plain_machine.specs.declared.offer.Offer.TheVariants.{Next, NextHash};
 ghost use Rattle.plain_machine.specs.Thread.{ThreadState, local};
 ghost use Rattle.plain_machine.specs.Asking.{ask};
@@ -29,7 +29,7 @@ ghost use Rattle.machine_laws.specs.Reached.{IsReached};
 ghost use Rattle.machine_laws.specs.LogEnds.{ending_said, HaveEnded};
 ghost use Rattle.machine_laws.specs.ReachedEntry.{IsEntryOf, IsOfferOf};
 
-/// A machine before its first entry is one that is reached, and so is each one behind an entry of such a machine.
+/// A machine before its first entry is one that is reached, and so is each one after an entry of such a machine.
 pub fn machines_stay_reached()
     ensures first { (p : ProgramText) (fuel : ℕ) → IsProgram p → IsReached (new_machine p fuel) }
     ensures each { (m n : PlainMachine) (t : ℕ) (e : Entry) → IsReached m → take m t e ≡ Some n → IsReached n }

@@ -1,5 +1,6 @@
 -- A walk goes past items that its step leaves as they are.
-use Rattle.std.proofs.Common.{◌≡◌, inl, inr, ℕ, zero, suc, ◌+◌, ◌<◌, ◌≤◌, List, [], ◌∷◌, ◌++◌, length, take, drop, get_or, slice_get, Some, refl, sym, ap, ◌∙◌, subst, arith, append-nil}
+use Rattle.std.proofs.Common.{◌≡◌, inl, inr, ℕ, zero, suc, ◌+◌, ◌<◌, ◌≤◌, List, [], ◌∷◌, ◌++◌, length, take}
+use Rattle.std.proofs.Common.{drop, get_or, slice_get, Some, refl, sym, ap, ◌∙◌, subst, arith, append-nil}
 use Rattle.std.proofs.lemmas.Bool.{cases_lt}
 use Rattle.std.proofs.lemmas.Option.{slice_get-get_or}
 use Rattle.std.proofs.lemmas.List.{drop_all, take_all, set-get_or}
@@ -16,19 +17,19 @@ walks_skip step first words k items rest d lt same h =
     (walks_more step first words k items rest (get_or items k d) d rest lt (ap (λ (r : _ × List ℕ). r.0) (sym same))
     (ap (λ (r : _ × List ℕ). r.1) (sym same)) h)
 
--- behind the last item
+-- after the last item
 pub walks_past : {A : Type 0} (step : ℕ → A → List ℕ → A × List ℕ) (first : List A) (words : List ℕ) (k j : ℕ) (items : List A) (rest : List ℕ)
     → length items ≤ k → length items ≤ j → Walks step first words k items rest → Walks step first words j items rest
 walks_past step first words k j items rest le past h =
     let all = walks_all step first words k items rest le h in
-    let behind : length first ≤ j = omega (arith, past, h.count) in
-    let none : walk step j (drop j first) rest ≡ ([], rest) = ap (λ xs. walk step j xs rest) (drop_all j first behind) in
+    let beyond : length first ≤ j = omega (arith, past, h.count) in
+    let none : walk step j (drop j first) rest ≡ ([], rest) = ap (λ xs. walk step j xs rest) (drop_all j first beyond) in
     record {
       done =
           all.0 ∙ sym (append-nil items) ∙ ap (λ xs. xs ++ []) (sym (take_all j items past))
           ∙ ap (λ (r : List _ × List ℕ). take j items ++ r.0) (sym none);
-      behind = all.1 ∙ ap (λ (r : List _ × List ℕ). r.1) (sym none);
-      left = drop_all j items past ∙ sym (drop_all j first behind);
+      beyond = all.1 ∙ ap (λ (r : List _ × List ℕ). r.1) (sym none);
+      left = drop_all j items past ∙ sym (drop_all j first beyond);
       count = h.count;
     }
 

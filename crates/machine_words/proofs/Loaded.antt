@@ -11,7 +11,7 @@ use Rattle.machine_words.specs.ObjectWords.{read_objects}
 use Rattle.machine_words.specs.ThreadWords.{read_threads, threads_with}
 use Rattle.machine_words.specs.MachineWords.{machine_of}
 use Rattle.machine_words.specs.inner.Reading.{walk, renewed, object_step, thread_step, beside, place_step}
-use Rattle.machine_words.proofs.WalkedParts.{HaveSlots, threads_behind, renewed_slots, objects_walked, threads_placed}
+use Rattle.machine_words.proofs.WalkedParts.{HaveSlots, threads_after, renewed_slots, objects_walked, threads_placed}
 use Rattle.machine_words.proofs.Beside.{beside_count}
 
 have_slots : (p : ProgramText) (k : ℕ) (xs : List PlainObject) → ((j : ℕ) (x : PlainObject) → slice_get xs j ≡ Some x → HasSlots p (k + j) x)
@@ -25,19 +25,19 @@ have_slots p k (x ∷ xs) each =
           let moved : k + suc j ≡ k + 1 + j = omega arith in subst (λ (o : ℕ). HasSlots p o z) moved (each (suc j) z at)),
     )
 
-pub loaded : (fuel : ℕ) (ws : List ℕ) (m : PlainMachine) (new : List PlainObject) (free threads : List ThreadState) (behind : List ℕ)
+pub loaded : (fuel : ℕ) (ws : List ℕ) (m : PlainMachine) (new : List PlainObject) (free threads : List ThreadState) (beyond : List ℕ)
     (made : List (List ℕ)) (later : List ℕ) (objects : List PlainObject) (holding placed : List ThreadState) → IsReached m
     → new ≡ map renewed m.objects → free ≡ beside new 0 m.threads
-    → threads ≡ (walk (thread_step fuel) 0 free ws).0 → behind ≡ (walk (thread_step fuel) 0 free ws).1
-    → made ≡ (read_made (length m.made) behind).0 → later ≡ (read_made (length m.made) behind).1
+    → threads ≡ (walk (thread_step fuel) 0 free ws).0 → beyond ≡ (walk (thread_step fuel) 0 free ws).1
+    → made ≡ (read_made (length m.made) beyond).0 → later ≡ (read_made (length m.made) beyond).1
     → objects ≡ (walk object_step 0 new later).0 → holding ≡ beside objects 0 threads → placed ≡ (walk (place_step m.program fuel) 0 holding []).0
     → record { program = m.program; objects = objects; made = made; threads = placed } ≡ machine_of m.program fuel ws
-loaded fuel ws m new free threads behind made later objects holding placed h is_new is_free is_read is_behind is_made is_later is_objects is_held is_placed =
+loaded fuel ws m new free threads beyond made later objects holding placed h is_new is_free is_read is_after is_made is_later is_objects is_held is_placed =
     let p = m.program in
     let read = read_threads (length p.threads) ws in
     let rows = read_made (length p.threads) read.1 in
     let count : length free ≡ length p.threads = ap length is_free ∙ beside_count new 0 m.threads ∙ h.thread_count in
-    let e2 : behind ≡ read.1 = is_behind ∙ threads_behind fuel 0 free ws ∙ ap (λ (n : ℕ). (read_threads n ws).1) count in
+    let e2 : beyond ≡ read.1 = is_after ∙ threads_after fuel 0 free ws ∙ ap (λ (n : ℕ). (read_threads n ws).1) count in
     let e3 : made ≡ rows.0 = is_made ∙ (λ i. (read_made (h.row_count i) (e2 i)).0) in
     let e4 : later ≡ rows.1 = is_later ∙ (λ i. (read_made (h.row_count i) (e2 i)).1) in
     let old : HaveSlots (slots_of p) 0 m.objects = have_slots p 0 m.objects (λ j x at.

@@ -21,19 +21,19 @@ written_all F xs i out total le none inv =
 pub reads_none : {A : Type 0} (read : ℕ → List ℕ → List A × List ℕ) (start : List A) (count : ℕ) (words : List ℕ) (left : ℕ) → left ≡ count
     → Reads read start count words start left words
 reads_none read start count words left e =
-    record { items = ap (λ n. start ++ (read n words).0) (sym e); behind = ap (λ n. (read n words).1) (sym e) }
+    record { items = ap (λ n. start ++ (read n words).0) (sym e); beyond = ap (λ n. (read n words).1) (sym e) }
 
 -- one item more is read
 pub reads_more : {A : Type 0} (read : ℕ → List ℕ → List A × List ℕ) (start : List A) (count : ℕ) (words : List ℕ) (done : List A) (left : ℕ)
-    (rest : List ℕ) (x : A) (less : ℕ) (behind : List ℕ) (grown : List A) → grown ≡ done ++ x ∷ [] → left ≡ suc less
-    → read (suc less) rest ≡ (x ∷ (read less behind).0, (read less behind).1) → Reads read start count words done left rest
-    → Reads read start count words grown less behind
-reads_more read start count words done left rest x less behind grown g e is h =
+    (rest : List ℕ) (x : A) (less : ℕ) (beyond : List ℕ) (grown : List A) → grown ≡ done ++ x ∷ [] → left ≡ suc less
+    → read (suc less) rest ≡ (x ∷ (read less beyond).0, (read less beyond).1) → Reads read start count words done left rest
+    → Reads read start count words grown less beyond
+reads_more read start count words done left rest x less beyond grown g e is h =
     record {
       items =
           h.items ∙ ap (λ n. done ++ (read n rest).0) e ∙ ap (λ (r : List _ × List ℕ). done ++ r.0) is
-          ∙ sym (append_assoc done (x ∷ []) (read less behind).0) ∙ ap (λ ys. ys ++ (read less behind).0) (sym g);
-      behind = h.behind ∙ ap (λ n. (read n rest).1) e ∙ ap (λ (r : List _ × List ℕ). r.1) is;
+          ∙ sym (append_assoc done (x ∷ []) (read less beyond).0) ∙ ap (λ ys. ys ++ (read less beyond).0) (sym g);
+      beyond = h.beyond ∙ ap (λ n. (read n rest).1) e ∙ ap (λ (r : List _ × List ℕ). r.1) is;
     }
 
 -- none is left
@@ -42,7 +42,7 @@ pub reads_all : {A : Type 0} (read : ℕ → List ℕ → List A × List ℕ) (s
     → (start ++ (read count words).0 ≡ done) × ((read count words).1 ≡ rest)
 reads_all read start count words done left rest e is h = (
   h.items ∙ ap (λ n. done ++ (read n rest).0) e ∙ ap (λ (r : List _ × List ℕ). done ++ r.0) is ∙ append-nil done,
-  h.behind ∙ ap (λ n. (read n rest).1) e ∙ ap (λ (r : List _ × List ℕ). r.1) is,
+  h.beyond ∙ ap (λ n. (read n rest).1) e ∙ ap (λ (r : List _ × List ℕ). r.1) is,
 )
 
 -- a list of a record, which alone has changed since the first one, has one item more

@@ -4,8 +4,8 @@ use Rattle.std.proofs.lemmas.List.Sums.{sum_by-set}
 use Rattle.plain_monitor.specs.declared.entry.Ending.TheVariants.{Done}
 use Rattle.object_program.specs.declared.program.Code.{Code}
 use Rattle.object_program.specs.Program.{ProgramText}
-use Rattle.plain_machine.specs.declared.call.Mode.{Mode}
-use Rattle.plain_machine.specs.declared.call.Mode.TheVariants.{Unwinding}
+use Rattle.plain_machine.specs.declared.monitor_call.Mode.{Mode}
+use Rattle.plain_machine.specs.declared.monitor_call.Mode.TheVariants.{Unwinding}
 use Rattle.plain_machine.specs.Thread.{ThreadState, step_of}
 use Rattle.plain_machine.specs.Running.{instruction_at}
 use Rattle.machine_words.specs.ThreadWords.{calling_in}

@@ -5,9 +5,9 @@ use Rattle.plain_monitor.specs.declared.entry.Value.{Value}
 use Rattle.plain_monitor.specs.declared.entry.Value.TheVariants.{Int}
 use Rattle.plain_monitor.specs.Made.{made_by}
 use Rattle.plain_monitor.specs.Objects.{PlainObject, new_object}
-use Rattle.plain_machine.specs.declared.call.Call.TheVariants.{Dump}
-use Rattle.plain_machine.specs.declared.call.Mode.{Mode}
-use Rattle.plain_machine.specs.declared.call.Mode.TheVariants.{Calling}
+use Rattle.plain_machine.specs.declared.monitor_call.MonitorCall.TheVariants.{Dump}
+use Rattle.plain_machine.specs.declared.monitor_call.Mode.{Mode}
+use Rattle.plain_machine.specs.declared.monitor_call.Mode.TheVariants.{Calling}
 use Rattle.plain_machine.specs.Thread.{ThreadState}
 use Rattle.machine_words.specs.Readers.{word_option, read_numbers, read_pairs, read_values}
 use Rattle.machine_words.specs.MadeWords.{read_row}

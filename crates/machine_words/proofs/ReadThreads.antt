@@ -1,5 +1,6 @@
 -- The threads of a reached machine are read from their words, beside its objects.
-use Rattle.std.proofs.Common.{◌≡◌, ℕ, zero, suc, ◌+◌, ◌*◌, ◌/◌, ◌%◌, ◌≤◌, List, [], ◌∷◌, ◌++◌, length, map, slice_get, slice_index, Some, refl, sym, ap, ◌∙◌, subst, arith, append_assoc}
+use Rattle.std.proofs.Common.{◌≡◌, ℕ, zero, suc, ◌+◌, ◌*◌, ◌/◌, ◌%◌, ◌≤◌, List, [], ◌∷◌, ◌++◌, length, map}
+use Rattle.std.proofs.Common.{slice_get, slice_index, Some, refl, sym, ap, ◌∙◌, subst, arith, append_assoc}
 use Rattle.std.specs.List.{AllByRecursion}
 use Rattle.std.proofs.lemmas.Option.{none-some, same_Some}
 use Rattle.plain_monitor.specs.declared.entry.Ending.TheVariants.{Done}
@@ -8,8 +9,8 @@ use Rattle.plain_monitor.specs.ValueWords.{IsSpellable}
 use Rattle.plain_monitor.proofs.Lists.{all_at}
 use Rattle.object_program.specs.declared.program.Code.{Code}
 use Rattle.object_program.specs.Program.{ProgramText}
-use Rattle.plain_machine.specs.declared.call.Mode.{Mode}
-use Rattle.plain_machine.specs.declared.call.Mode.TheVariants.{Calling, Waiting, Unwinding, Ended}
+use Rattle.plain_machine.specs.declared.monitor_call.Mode.{Mode}
+use Rattle.plain_machine.specs.declared.monitor_call.Mode.TheVariants.{Calling, Waiting, Unwinding, Ended}
 use Rattle.plain_machine.specs.Thread.{ThreadState, step_of}
 use Rattle.plain_machine.specs.Running.{instruction_at}
 use Rattle.plain_machine.specs.Machine.{PlainMachine, code_of}
@@ -18,11 +19,12 @@ use Rattle.machine_laws.specs.ReachedMonitor.{standing}
 use Rattle.machine_laws.specs.ReachedThread.{IsThreadOf}
 use Rattle.machine_laws.proofs.ReachedLists.{at_within}
 use Rattle.every_outcome.specs.Fuel.{with_fuel}
-use Rattle.every_outcome.specs.Stands.{StandsBefore}
+use Rattle.every_outcome.specs.Stands.{IsAtCall}
 use Rattle.every_outcome.proofs.Places.{length_map, same_list}
 use Rattle.every_outcome.proofs.SameSteps.{with_mode, step_with, step_same}
 use Rattle.machine_words.specs.ModeWords.{mode_kind, mode_rest}
-use Rattle.machine_words.specs.ThreadWords.{ThreadParts, head_word, thread_words, threads_words, parts_with, read_thread, read_threads, holds_in, calling_in, unmoded, thread_with, threads_with}
+use Rattle.machine_words.specs.ThreadWords.{ThreadParts, head_word, thread_words, threads_words, parts_with, read_thread}
+use Rattle.machine_words.specs.ThreadWords.{read_threads, holds_in, calling_in, unmoded, thread_with, threads_with}
 use Rattle.machine_words.proofs.ReadWords.{values_back}
 use Rattle.machine_words.proofs.ReadModes.{mode_small, IsCallingIn, mode_back}
 
@@ -58,7 +60,7 @@ threads_back (s ∷ ss) ws all =
     ∙ ap (λ (r : List ThreadParts × List ℕ). (parts_of s ∷ r.0, r.1)) (threads_back ss ws all.1)
 
 -- the instruction that a thread is at tells the call that it stands before
-told : (fuel : ℕ) (p : ProgramText) (i : List Code) (s : ThreadState) (mode : Mode) → StandsBefore p i s mode
+told : (fuel : ℕ) (p : ProgramText) (i : List Code) (s : ThreadState) (mode : Mode) → IsAtCall p i s mode
     → IsCallingIn (calling_in (step_of p (with_mode fuel (Unwinding Done) s) (instruction_at i s.place))) mode
 told fuel p i s (Calling c) h = ap calling_in (step_same fuel (Unwinding Done) p s (instruction_at i s.place) ∙ ap (step_with fuel (Unwinding Done)) h)
 told fuel p i s (Waiting o) h = tt
@@ -66,7 +68,7 @@ told fuel p i s (Unwinding e) h = tt
 told fuel p i s (Ended e) h = tt
 
 thread_is : (fuel t : ℕ) (p : ProgramText) (i : List Code) (objects : List PlainObject) (s : ThreadState) → holds_in t objects ≡ s.holds
-    → StandsBefore p i s s.mode → thread_with p i (parts_of s) (unmoded fuel t objects (parts_of s)) ≡ with_fuel fuel s
+    → IsAtCall p i s s.mode → thread_with p i (parts_of s) (unmoded fuel t objects (parts_of s)) ≡ with_fuel fuel s
 thread_is fuel t p i objects s holds stands =
     let same : unmoded fuel t objects (parts_of s) ≡ with_mode fuel (Unwinding Done) s =
     ap (λ (hs : List ℕ). record s { fuel = fuel; holds = hs; mode = Unwinding Done }) holds in
@@ -101,7 +103,7 @@ all_are fuel t p objects (s ∷ ss) each =
     λ i. first i ∷ others i
 
 pub threads_are : (fuel : ℕ) (m : PlainMachine) → IsReached m
-    → ((t : ℕ) (s : ThreadState) → slice_get m.threads t ≡ Some s → StandsBefore m.program (code_of m.program t) s s.mode)
+    → ((t : ℕ) (s : ThreadState) → slice_get m.threads t ≡ Some s → IsAtCall m.program (code_of m.program t) s s.mode)
     → threads_with m.program fuel m.objects 0 (map parts_of m.threads) ≡ map (λ s. with_fuel fuel s) m.threads
 threads_are fuel m h stands =
     all_are fuel 0 m.program m.objects m.threads (λ j s at.

@@ -1,13 +1,14 @@
 -- Objects that are as at first are passed over.
-use Rattle.std.proofs.Common.{◌≡◌, ℕ, ◌+◌, ◌-◌, ◌<◌, ◌≤◌, ◌==◌, if◌then◌else◌, Bool, true, false, List, [], ◌∷◌, length, map, drop, slice_get, option_map, is_some, Some, refl, sym, ap, ◌∙◌, subst, arith, eq-eqb}
+use Rattle.std.proofs.Common.{◌≡◌, ℕ, ◌+◌, ◌-◌, ◌<◌, ◌≤◌, ◌==◌, if◌then◌else◌, Bool, true, false, List, [], ◌∷◌, length}
+use Rattle.std.proofs.Common.{map, drop, slice_get, option_map, is_some, Some, refl, sym, ap, ◌∙◌, subst, arith, eq-eqb}
 use Rattle.std.proofs.lemmas.Bool.Decides.{nat_tests}
 use Rattle.std.proofs.lemmas.Option.{same_Some, slice_get-map}
-use Rattle.plain_monitor.specs.Made.{Numbering, first_made, class_of, is_there}
+use Rattle.plain_monitor.specs.Made.{Numbering, first_made, class_if_there, is_there}
 use Rattle.plain_monitor.specs.Objects.{PlainObject}
-use Rattle.machine_words.specs.ObjectWords.{is_new, objects_words, begins, behind_one, read_object}
-use Rattle.machine_words.specs.inner.Reading.{Walks, renewed, renew_step, object_step, behind_row}
+use Rattle.machine_words.specs.ObjectWords.{is_new, objects_words, begins, after_one, read_object}
+use Rattle.machine_words.specs.inner.Reading.{Walks, renewed, renew_step, object_step, after_row}
 use Rattle.machine_words.proofs.ReadObjects.{new_is}
-use Rattle.machine_words.proofs.There.{there_has_class, row_ends, not_declared, row_behind}
+use Rattle.machine_words.proofs.There.{there_has_class, row_ends, not_declared, row_after}
 use Rattle.machine_words.proofs.Jumps.{walks_jump, left_at}
 use Rattle.machine_words.proofs.Writing.{objects_skip}
 
@@ -15,17 +16,17 @@ use Rattle.machine_words.proofs.Writing.{objects_skip}
 abbrev pub AreNew : Numbering → List (List ℕ) → List PlainObject → Type 0
 AreNew n made objects = (o : ℕ) (x : PlainObject) → slice_get objects o ≡ Some x → is_there n made o ≡ false → is_new x ≡ true
 
-pub is_not_there : (n : Numbering) (made : List (List ℕ)) (o : ℕ) → is_some (class_of n made o) ≡ false → is_there n made o ≡ false
+pub is_not_there : (n : Numbering) (made : List (List ℕ)) (o : ℕ) → is_some (class_if_there n made o) ≡ false → is_there n made o ≡ false
 is_not_there n made o none = sym (there_has_class n made o) ∙ none
 
 -- past the numbers of a thread that has made no more objects
 pub renew_jump : (n : Numbering) (made : List (List ℕ)) (first : List PlainObject) (o : ℕ) (objects : List PlainObject) → AreNew n made first
-    → is_some (class_of n made o) ≡ false → Walks renew_step first [] o objects [] → Walks renew_step first [] (behind_row (first_made n) o) objects []
+    → is_some (class_if_there n made o) ≡ false → Walks renew_step first [] o objects [] → Walks renew_step first [] (after_row (first_made n) o) objects []
 renew_jump n made first o objects new none h =
     let unthere = is_not_there n made o none in
-    let ahead = row_behind (first_made n) o (not_declared n made o unthere) in
-    let way : ℕ = behind_row (first_made n) o - o in
-    let whole : o + way ≡ behind_row (first_made n) o = omega (arith, ahead) in
+    let ahead = row_after (first_made n) o (not_declared n made o unthere) in
+    let way : ℕ = after_row (first_made n) o - o in
+    let whole : o + way ≡ after_row (first_made n) o = omega (arith, ahead) in
     subst (λ (j : ℕ). Walks renew_step first [] j objects []) whole
     (walks_jump renew_step first [] way o objects [] (λ j x le lt at.
     let before : slice_get first j ≡ Some x = sym (left_at renew_step first [] o objects [] h j le) ∙ at in
@@ -33,13 +34,13 @@ renew_jump n made first o objects new none h =
     ap (λ (y : PlainObject). (y, [])) (sym (new_is (length x.slots) x refl as_at_first))) h)
 
 -- no words are written of them
-pub words_jump : (n : Numbering) (made : List (List ℕ)) (objects : List PlainObject) (o : ℕ) → AreNew n made objects → is_some (class_of n made o) ≡ false
-    → objects_words o (drop o objects) ≡ objects_words (behind_row (first_made n) o) (drop (behind_row (first_made n) o) objects)
+pub words_jump : (n : Numbering) (made : List (List ℕ)) (objects : List PlainObject) (o : ℕ) → AreNew n made objects → is_some (class_if_there n made o) ≡ false
+    → objects_words o (drop o objects) ≡ objects_words (after_row (first_made n) o) (drop (after_row (first_made n) o) objects)
 words_jump n made objects o new none =
     let unthere = is_not_there n made o none in
-    let ahead = row_behind (first_made n) o (not_declared n made o unthere) in
-    let way : ℕ = behind_row (first_made n) o - o in
-    let whole : o + way ≡ behind_row (first_made n) o = omega (arith, ahead) in
+    let ahead = row_after (first_made n) o (not_declared n made o unthere) in
+    let way : ℕ = after_row (first_made n) o - o in
+    let whole : o + way ≡ after_row (first_made n) o = omega (arith, ahead) in
     objects_skip objects way o (λ j x le lt at. new j x at (row_ends n made o j unthere le (omega (arith, lt, whole))))
     ∙ ap (λ (j : ℕ). objects_words j (drop j objects)) whole
 
@@ -58,7 +59,7 @@ read_jump first objects words rest k o new le later h =
     (walks_jump object_step first words way k objects rest (λ j x from lt at.
     let before : slice_get first j ≡ Some x = sym (left_at object_step first words k objects rest h j from) ∙ at in
     let other : begins j rest ≡ false = later j (omega (arith, lt, whole)) in
-    ap (λ (b : Bool). if b then read_object (length x.slots) (behind_one rest) else (renewed x, rest)) other
+    ap (λ (b : Bool). if b then read_object (length x.slots) (after_one rest) else (renewed x, rest)) other
     ∙ ap (λ (y : PlainObject). (y, rest)) (renewed_at first j x new before)) h)
 
 pub begins_here : (w : ℕ) (rest after : List ℕ) → rest ≡ w ∷ after → begins w rest ≡ true
@@ -67,5 +68,5 @@ begins_here w rest after is = ap (begins w) is ∙ eq-eqb w w refl
 pub begins_later : (w j : ℕ) (rest after : List ℕ) → rest ≡ w ∷ after → j < w → begins j rest ≡ false
 begins_later w j rest after is lt = let other : (w == j) ≡ false = grind (arith, nat_tests, lt) in ap (begins j) is ∙ other
 
-pub step_reads : (w : ℕ) (x : PlainObject) (rest : List ℕ) → begins w rest ≡ true → read_object (length x.slots) (behind_one rest) ≡ object_step w x rest
-step_reads w x rest here = ap (λ (b : Bool). if b then read_object (length x.slots) (behind_one rest) else (renewed x, rest)) (sym here)
+pub step_reads : (w : ℕ) (x : PlainObject) (rest : List ℕ) → begins w rest ≡ true → read_object (length x.slots) (after_one rest) ≡ object_step w x rest
+step_reads w x rest here = ap (λ (b : Bool). if b then read_object (length x.slots) (after_one rest) else (renewed x, rest)) (sym here)

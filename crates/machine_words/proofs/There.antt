@@ -1,9 +1,10 @@
 -- Which numbers aren't there.
-use Rattle.std.proofs.Common.{◌≡◌, ℕ, zero, suc, ◌<◌, ◌≤◌, ◌||◌, nat_lt, cond, Bool, true, false, List, [], ◌∷◌, length, slice_get, is_some, refl, sym, ap, ◌∙◌, arith}
+use Rattle.std.proofs.Common.{◌≡◌, ℕ, zero, suc, ◌<◌, ◌≤◌, ◌||◌, nat_lt, cond, Bool, true, false, List}
+use Rattle.std.proofs.Common.{[], ◌∷◌, length, slice_get, is_some, refl, sym, ap, ◌∙◌, arith}
 use Rattle.std.proofs.lemmas.Bool.{true≢false}
 use Rattle.std.proofs.lemmas.Bool.Decides.{nat_tests}
-use Rattle.plain_monitor.specs.Made.{Numbering, first_made, maker_of, place_of, made_by, class_of, is_there}
-use Rattle.machine_words.specs.inner.Reading.{behind_row}
+use Rattle.plain_monitor.specs.Made.{Numbering, first_made, maker_of, place_of, made_by, class_if_there, is_there}
+use Rattle.machine_words.specs.inner.Reading.{after_row}
 
 get_some : (xs : List ℕ) (k : ℕ) → is_some (slice_get xs k) ≡ nat_lt k (length xs)
 get_some [] k = sym (grind (arith, nat_tests))
@@ -11,7 +12,7 @@ get_some (x ∷ xs) zero = sym (grind (arith, nat_tests))
 get_some (x ∷ xs) (suc k) = get_some xs k ∙ grind (arith, nat_tests)
 
 -- what has a class is there
-pub there_has_class : (n : Numbering) (made : List (List ℕ)) (o : ℕ) → is_some (class_of n made o) ≡ is_there n made o
+pub there_has_class : (n : Numbering) (made : List (List ℕ)) (o : ℕ) → is_some (class_if_there n made o) ≡ is_there n made o
 there_has_class n made o = by_test (nat_lt o (first_made n)) refl
   where
     by_test : (b : Bool) → nat_lt o (first_made n) ≡ b
@@ -30,8 +31,8 @@ not_declared n made o h =
     let test = (none_of (nat_lt o (first_made n)) (nat_lt (place_of n o) (length (made_by made (maker_of n o)))) h).0 in
     grind (arith, nat_tests, test)
 
--- nor is what stands behind it, up to the next thread's objects
-pub row_ends : (n : Numbering) (made : List (List ℕ)) (o j : ℕ) → is_there n made o ≡ false → o ≤ j → j < behind_row (first_made n) o
+-- nor is what stands after it, up to the next thread's objects
+pub row_ends : (n : Numbering) (made : List (List ℕ)) (o j : ℕ) → is_there n made o ≡ false → o ≤ j → j < after_row (first_made n) o
     → is_there n made j ≡ false
 row_ends n made o j h le lt =
     let from = not_declared n made o h in
@@ -44,5 +45,5 @@ row_ends n made o j h le lt =
     ap (λ (b : Bool). b || nat_lt (place_of n j) (length (made_by made (maker_of n j)))) undeclared ∙ unmade
 
 -- which are further on
-pub row_behind : (first o : ℕ) → first ≤ o → o < behind_row first o
-row_behind first o le = omega (arith, le)
+pub row_after : (first o : ℕ) → first ≤ o → o < after_row first o
+row_after first o le = omega (arith, le)

@@ -1,5 +1,6 @@
 -- An object that isn't there is as at first.
-use Rattle.std.proofs.Common.{◌≡◌, ◌≢◌, inl, inr, ℕ, zero, suc, pos, ◌+◌, ◌<◌, ◌≤◌, ◌||◌, nat_lt, Bool, true, false, List, [], ◌∷◌, ◌++◌, length, replicate, slice_get, slice_set, Option, Some, None, refl, sym, ap, ◌∙◌, subst, arith, length-append}
+use Rattle.std.proofs.Common.{◌≡◌, ◌≢◌, inl, inr, ℕ, zero, suc, pos, ◌+◌, ◌<◌, ◌≤◌, ◌||◌, nat_lt, Bool, true, false, List, [], ◌∷◌, ◌++◌}
+use Rattle.std.proofs.Common.{length, replicate, slice_get, slice_set, Option, Some, None, refl, sym, ap, ◌∙◌, subst, arith, length-append}
 use Rattle.std.specs.List.{list_all}
 use Rattle.std.proofs.lemmas.Bool.{true≢false, and_parts, cases_eq}
 use Rattle.std.proofs.lemmas.Bool.Decides.{nat_tests}
@@ -7,8 +8,10 @@ use Rattle.std.proofs.lemmas.List.{get_or-set_same, get_or-set_other}
 use Rattle.std.proofs.lemmas.Option.{none-some, same_Some, cond_some}
 use Rattle.plain_monitor.specs.declared.entry.Value.TheVariants.{Int}
 use Rattle.plain_monitor.specs.declared.entry.Entry.{Entry}
-use Rattle.plain_monitor.specs.declared.entry.Entry.TheVariants.{Enter, Exit, Get, Put, Wait, Resume, Notify, NotifyAll, Hash, New, Print, Dump, Trap, Spent, Done}
-use Rattle.plain_monitor.specs.Made.{Numbering, first_made, maker_of, place_of, made_by, is_there, creates, needs, one_or_none, hands_on, may_create, take_created}
+use Rattle.plain_monitor.specs.declared.entry.Entry.TheVariants.{Enter, Exit, Get, Put, Wait, Resume, Notify, NotifyAll}
+use Rattle.plain_monitor.specs.declared.entry.Entry.TheVariants.{Hash, New, Print, Dump, Trap, Spent, Done}
+use Rattle.plain_monitor.specs.Made.{Numbering, first_made, maker_of, place_of, made_by, is_there}
+use Rattle.plain_monitor.specs.Made.{creates, needs, one_or_none, hands_on, may_create, take_created}
 use Rattle.plain_monitor.specs.Objects.{PlainObject, new_object, new_objects, same_value, named, take_named}
 use Rattle.plain_monitor.proofs.Lists.{all_at, all_map, all_each, get_set_other}
 use Rattle.object_program.specs.Program.{ProgramText, shape_of, numbering_of}
@@ -86,7 +89,7 @@ thread_there n made t p h =
     let test = one.0 in
     grind (arith, nat_tests, test)
 
-module _ (n : Numbering) (objects after : List PlainObject) (made behind : List (List ℕ)) (t : ℕ) (e : Entry)
+module _ (n : Numbering) (objects after : List PlainObject) (made made_then : List (List ℕ)) (t : ℕ) (e : Entry)
     (untouched : (o : ℕ) (x : PlainObject) → slice_get objects o ≡ Some x → is_there n made o ≡ false → is_new x ≡ true) where
   -- an entry that names an object that is there, or none
   stays : (q : Option ℕ) → take_named objects t e q ≡ Some after → list_all (is_there n made) (one_or_none q ++ hands_on e) ≡ true
@@ -100,19 +103,19 @@ module _ (n : Numbering) (objects after : List PlainObject) (made behind : List 
       sym (get_set_other objects k o r.y other) ∙ subst (λ (xs : List PlainObject). slice_get xs o ≡ Some x) (sym r.is) at in
       untouched o x before none
 
-  stays_behind : (c : Option (ℕ × ℕ)) → creates e ≡ c → take_created n made t e c ≡ Some behind → take_named objects t e (named e) ≡ Some after
-      → (o : ℕ) (x : PlainObject) → slice_get after o ≡ Some x → is_there n behind o ≡ false → is_new x ≡ true
-  stays_behind None is makes takes o x at none =
-      let a = cond_some (list_all (is_there n made) (needs e)) made behind makes in
+  stays_after : (c : Option (ℕ × ℕ)) → creates e ≡ c → take_created n made t e c ≡ Some made_then → take_named objects t e (named e) ≡ Some after
+      → (o : ℕ) (x : PlainObject) → slice_get after o ≡ Some x → is_there n made_then o ≡ false → is_new x ≡ true
+  stays_after None is makes takes o x at none =
+      let a = cond_some (list_all (is_there n made) (needs e)) made made_then makes in
       stays (named e) takes a.0 o x at (ap (λ (m : List (List ℕ)). is_there n m o) a.1 ∙ none)
-  stays_behind (Some p) is makes takes o x at none =
-      let a = cond_some (may_create n made t p) (grown made t p.1) behind makes in
+  stays_after (Some p) is makes takes o x at none =
+      let a = cond_some (may_create n made t p) (grown made t p.1) made_then makes in
       let same : objects ≡ after = same_Some objects after (subst (λ (q : Option ℕ). take_named objects t e q ≡ Some after) (new_names_none e p is) takes) in
       let before : slice_get objects o ≡ Some x = subst (λ (xs : List PlainObject). slice_get xs o ≡ Some x) (sym same) at in
       untouched o x before (was_not n made t p.1 o (thread_there n made t p a.0) (ap (λ (m : List (List ℕ)). is_there n m o) a.1 ∙ none))
 
-pub untouched_behind : (m n : PlainMachine) (t : ℕ) (e : Entry) → IsUntouched m → take m t e ≡ Some n → IsUntouched n
-untouched_behind m n t e untouched takes =
+pub untouched_after : (m n : PlainMachine) (t : ℕ) (e : Entry) → IsUntouched m → take m t e ≡ Some n → IsUntouched n
+untouched_after m n t e untouched takes =
     let k = taken m t e n takes in
     subst IsUntouched k.is
-    (stays_behind (numbering_of m.program) m.objects k.objects m.made k.behind t e untouched (creates e) refl k.makes k.takes)
+    (stays_after (numbering_of m.program) m.objects k.objects m.made k.made_then t e untouched (creates e) refl k.makes k.takes)

@@ -5,22 +5,22 @@ use Rattle.plain_monitor.specs.declared.entry.Value.TheVariants.{Int}
 use Rattle.plain_monitor.specs.Objects.{PlainObject, new_object}
 use Rattle.object_program.specs.declared.program.Code.{Code}
 use Rattle.object_program.specs.Program.{ProgramText}
-use Rattle.plain_machine.specs.declared.call.Call.TheVariants.{Dump}
-use Rattle.plain_machine.specs.declared.call.Mode.{Mode}
-use Rattle.plain_machine.specs.declared.call.Mode.TheVariants.{Calling}
+use Rattle.plain_machine.specs.declared.monitor_call.MonitorCall.TheVariants.{Dump}
+use Rattle.plain_machine.specs.declared.monitor_call.Mode.{Mode}
+use Rattle.plain_machine.specs.declared.monitor_call.Mode.TheVariants.{Calling}
 use Rattle.plain_machine.specs.Thread.{ThreadState, step_of}
 use Rattle.plain_machine.specs.Running.{instruction_at}
 use Rattle.plain_machine.specs.Machine.{code_of}
 use Rattle.machine_words.specs.MadeWords.{read_row, read_made}
 use Rattle.machine_words.specs.ModeWords.{mode_with}
-use Rattle.machine_words.specs.ObjectWords.{begins, behind_one, read_object, read_objects}
+use Rattle.machine_words.specs.ObjectWords.{begins, after_one, read_object, read_objects}
 use Rattle.machine_words.specs.ThreadWords.{ThreadParts, read_thread, read_threads, holds_in, calling_in, unmoded, thread_with, threads_with}
 use Rattle.machine_words.specs.inner.Reading.{walk, renewed, renew_step, object_step, row_step, unplaced, thread_step, beside, placed_mode, placed, place_step}
 
--- the words behind those of the threads
-pub threads_behind : (fuel k : ℕ) (ss : List ThreadState) (ws : List ℕ) → (walk (thread_step fuel) k ss ws).1 ≡ (read_threads (length ss) ws).1
-threads_behind fuel k [] ws = refl
-threads_behind fuel k (s ∷ ss) ws = threads_behind fuel (k + 1) ss (read_thread ws).1
+-- the words after those of the threads
+pub threads_after : (fuel k : ℕ) (ss : List ThreadState) (ws : List ℕ) → (walk (thread_step fuel) k ss ws).1 ≡ (read_threads (length ss) ws).1
+threads_after fuel k [] ws = refl
+threads_after fuel k (s ∷ ss) ws = threads_after fuel (k + 1) ss (read_thread ws).1
 
 pub rows_walked : (k : ℕ) (rows : List (List ℕ)) (ws : List ℕ) → walk row_step k rows ws ≡ read_made (length rows) ws
 rows_walked k [] ws = refl
@@ -53,8 +53,8 @@ objects_walked slots k (x ∷ xs) ws have = go (begins k ws) refl (λ rest. obje
         → (walk object_step k (x ∷ xs) ws).0 ≡ read_objects slots k (length (x ∷ xs)) ws
     go true e ih =
         rw e
-        (ap (λ (n : ℕ). (read_object n (behind_one ws)).0 ∷ (walk object_step (k + 1) xs (read_object n (behind_one ws)).1).0) have.0
-        ∙ ap (λ (ys : List PlainObject). (read_object (slots k) (behind_one ws)).0 ∷ ys) (ih (read_object (slots k) (behind_one ws)).1))
+        (ap (λ (n : ℕ). (read_object n (after_one ws)).0 ∷ (walk object_step (k + 1) xs (read_object n (after_one ws)).1).0) have.0
+        ∙ ap (λ (ys : List PlainObject). (read_object (slots k) (after_one ws)).0 ∷ ys) (ih (read_object (slots k) (after_one ws)).1))
     go false e ih = rw e (λ i. new_object (have.0 i) ∷ ih ws i)
 
 mode_placed : (calling : Mode) (kind rest : ℕ) → placed_mode calling (mode_with (Calling (Dump 0)) kind rest) ≡ mode_with calling kind rest

@@ -19,7 +19,7 @@ machine_with p fuel parts made objects =
 abbrev pub machine_beside : ProgramText → ℕ → List ThreadParts → List (List ℕ) × List ℕ → PlainMachine
 machine_beside p fuel parts r = machine_with p fuel parts r.0 (read_objects (slots_of p) 0 (objects_total p) r.1)
 
--- the same, by the words that stand behind those of its threads
+-- the same, by the words that stand after those of its threads
 abbrev pub machine_from : ProgramText → ℕ → List ThreadParts × List ℕ → PlainMachine
 machine_from p fuel r = machine_beside p fuel r.0 (read_made (length p.threads) r.1)
 

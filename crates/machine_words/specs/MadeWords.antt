@@ -7,7 +7,7 @@ abbrev pub made_words : List (List ℕ) → List ℕ
 made_words [] = []
 made_words (row ∷ rows) = length row ∷ row ++ made_words rows
 
--- the classes of what one thread has made, and the words behind them
+-- the classes of what one thread has made, and the words after them
 abbrev pub read_row : List ℕ → List ℕ × List ℕ
 read_row (count ∷ ws) = read_numbers count ws
 read_row [] = ([], [])

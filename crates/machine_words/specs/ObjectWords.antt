@@ -1,4 +1,4 @@
--- The words of objects: those of each object that isn't as at first, behind its number.
+-- The words of objects: those of each object that isn't as at first, after its number.
 use Rattle.std.specs.Prelude.{ℕ, zero, suc, pos, ◌+◌, Bool, false, ◌&&◌, ◌==◌, if◌then◌else◌, List, [], ◌∷◌, ◌++◌, length, map, is_none}
 use Rattle.std.specs.List.{list_all}
 use Rattle.plain_monitor.specs.declared.entry.Value.TheVariants.{Int}
@@ -22,7 +22,7 @@ abbrev pub objects_words : ℕ → List PlainObject → List ℕ
 objects_words k [] = []
 objects_words k (x ∷ xs) = (if is_new x then [] else k ∷ object_words x) ++ objects_words (k + 1) xs
 
--- an object of so many slots, and the words behind it
+-- an object of so many slots, and the words after it
 abbrev pub read_slots : ℕ → ℕ → ℕ → ℕ → List (ℕ × ℕ) → List (ℕ × ℕ) × List ℕ → PlainObject × List ℕ
 read_slots slots owner count hash waits r = (
   record {
@@ -43,14 +43,14 @@ abbrev pub begins : ℕ → List ℕ → Bool
 begins k [] = false
 begins k (w ∷ ws) = w == k
 
-abbrev pub behind_one : List ℕ → List ℕ
-behind_one [] = []
-behind_one (w ∷ ws) = ws
+abbrev pub after_one : List ℕ → List ℕ
+after_one [] = []
+after_one (w ∷ ws) = ws
 
 -- so many objects, of which the first has number k, each of so many slots
 abbrev pub read_objects : (ℕ → ℕ) → ℕ → ℕ → List ℕ → List PlainObject
 read_objects slots k zero ws = []
 read_objects slots k (suc n) ws =
     if begins k ws
-    then (read_object (slots k) (behind_one ws)).0 ∷ read_objects slots (k + 1) n (read_object (slots k) (behind_one ws)).1
+    then (read_object (slots k) (after_one ws)).0 ∷ read_objects slots (k + 1) n (read_object (slots k) (after_one ws)).1
     else new_object (slots k) ∷ read_objects slots (k + 1) n ws

@@ -17,13 +17,13 @@ abbrev pub pair_words : List (ℕ × ℕ) → List ℕ
 pair_words [] = []
 pair_words (p ∷ ps) = p.0 ∷ p.1 ∷ pair_words ps
 
--- so many numbers, and the words behind them
+-- so many numbers, and the words after them
 abbrev pub read_numbers : ℕ → List ℕ → List ℕ × List ℕ
 read_numbers zero ws = ([], ws)
 read_numbers (suc n) (w ∷ ws) = (w ∷ (read_numbers n ws).0, (read_numbers n ws).1)
 read_numbers (suc n) [] = ([], [])
 
--- so many pairs, and the words behind them
+-- so many pairs, and the words after them
 abbrev pub read_pairs : ℕ → List ℕ → List (ℕ × ℕ) × List ℕ
 read_pairs zero ws = ([], ws)
 read_pairs (suc n) (a ∷ b ∷ ws) = ((a, b) ∷ (read_pairs n ws).0, (read_pairs n ws).1)
@@ -37,7 +37,7 @@ value_or_nil (Some v) = v
 abbrev pub value_at : ℕ → Value
 value_at w = value_or_nil (read_value w)
 
--- so many values, and the words behind them
+-- so many values, and the words after them
 abbrev pub read_values : ℕ → List ℕ → List Value × List ℕ
 read_values zero ws = ([], ws)
 read_values (suc n) (w ∷ ws) = (value_at w ∷ (read_values n ws).0, (read_values n ws).1)

@@ -7,8 +7,8 @@ use Rattle.plain_monitor.specs.Objects.{PlainObject}
 use Rattle.plain_monitor.specs.ValueWords.{word_of}
 use Rattle.object_program.specs.declared.program.Code.{Code}
 use Rattle.object_program.specs.Program.{ProgramText}
-use Rattle.plain_machine.specs.declared.call.Mode.{Mode}
-use Rattle.plain_machine.specs.declared.call.Mode.TheVariants.{Calling, Unwinding}
+use Rattle.plain_machine.specs.declared.monitor_call.Mode.{Mode}
+use Rattle.plain_machine.specs.declared.monitor_call.Mode.TheVariants.{Calling, Unwinding}
 use Rattle.plain_machine.specs.Thread.{ThreadState, Step, Calls, step_of}
 use Rattle.plain_machine.specs.Running.{instruction_at}
 use Rattle.plain_machine.specs.Machine.{code_of}
@@ -43,13 +43,13 @@ abbrev pub parts_with : ℕ → ℕ → ℕ → List Value → ThreadParts
 parts_with head rest made locals =
     record { place = head / 256; dumps = head / 32 % 8; kind = head % 32; rest = rest; made = made; locals = locals }
 
--- the parts of a thread, and the words behind it
+-- the parts of a thread, and the words after it
 abbrev pub read_thread : List ℕ → ThreadParts × List ℕ
 read_thread (head ∷ rest ∷ made ∷ locals ∷ ws) =
     (parts_with head rest made (read_values locals ws).0, (read_values locals ws).1)
 read_thread ws = (no_parts, [])
 
--- the parts of so many threads, and the words behind them
+-- the parts of so many threads, and the words after them
 abbrev pub read_threads : ℕ → List ℕ → List ThreadParts × List ℕ
 read_threads zero ws = ([], ws)
 read_threads (suc n) ws =

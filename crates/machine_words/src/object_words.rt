@@ -9,7 +9,7 @@ ghost use Rattle.machine_laws.specs.Reached.{IsReached};
 ghost use Rattle.machine_words.specs.ObjectWords.{is_new, object_words, objects_words};
 ghost use Rattle.machine_words.specs.Untouched.{IsUntouched};
 
-use crate::numbers::behind_row;
+use crate::numbers::after_row;
 use crate::writer::{add, add_pairs, add_values, option_word};
 use plain_machine::{Machine, Object};
 use plain_monitor::{NoMemory, Value};
@@ -67,7 +67,7 @@ fn add_object(out: &mut Vec<u64>, object: &Object) -> Result<(), NoMemory>
     Ok(())
 }
 
-/// The words of the object with this number, behind it, where it isn't as at first.
+/// The words of the object with this number, after it, where it isn't as at first.
 fn add_changed(out: &mut Vec<u64>, number: u64, object: &Object) -> Result<(), NoMemory>
     requires { AllByRecursion IsSpellable object.now.slots }
     ensures { OnOk result (out.new.items ≡ out.old.items ++ (if is_new object.now then [] else number ∷ object_words object.now)) }
@@ -94,7 +94,7 @@ pub(crate) fn add_objects(out: &mut Vec<u64>, machine: &Machine) -> Result<(), N
             add_changed(out, number as u64, &objects[number])?;
             number += 1;
         } else {
-            number = behind_row(first, number);
+            number = after_row(first, number);
         }
     }
     Ok(())

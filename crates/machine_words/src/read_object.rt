@@ -2,7 +2,7 @@
 
 ghost use Rattle.std.specs.Prelude.{◌≡◌, ◌<◌, ◌^◌, ◌++◌, length, map, drop, OnOk};
 ghost use Rattle.machine_words.specs.Readers.{read_pairs, read_values};
-ghost use Rattle.machine_words.specs.ObjectWords.{behind_one, read_object};
+ghost use Rattle.machine_words.specs.ObjectWords.{after_one, read_object};
 ghost use Rattle.machine_words.specs.inner.Reading.{walk, renewed, object_step, beside};
 
 use crate::place_object::place_object;
@@ -97,8 +97,8 @@ fn read_object(
 
 /// The object whose number the words go on with, with as many slots as it has.
 fn read_at(words: &[u64], at: &mut usize, object: &mut Object) -> Result<(), Unread>
-    ensures object { OnOk result (object.new ≡ (read_object (length object.old.slots) (behind_one (drop at.old words.now))).0) }
-    ensures rest { OnOk result (drop at.new words.now ≡ (read_object (length object.old.slots) (behind_one (drop at.old words.now))).1) }
+    ensures object { OnOk result (object.new ≡ (read_object (length object.old.slots) (after_one (drop at.old words.now))).0) }
+    ensures rest { OnOk result (drop at.new words.now ≡ (read_object (length object.old.slots) (after_one (drop at.old words.now))).1) }
 {
     let slots = object.slots().len();
     take_word(words, at)?;
@@ -107,7 +107,7 @@ fn read_at(words: &[u64], at: &mut usize, object: &mut Object) -> Result<(), Unr
 }
 
 /// All objects, which are as at first, each with as many slots as it has, and the threads' holds of them. Where the words of an object don't
-/// stand behind those of the ones before it, `NoMachine`.
+/// stand after those of the ones before it, `NoMachine`.
 pub(crate) fn read_objects(
     words: &[u64],
     at: &mut usize,

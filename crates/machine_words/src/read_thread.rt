@@ -2,8 +2,8 @@
 
 ghost use Rattle.std.specs.Prelude.{◌≡◌, ◌<◌, ◌++◌, length, drop, slice_set, OnOk};
 ghost use Rattle.plain_monitor.specs.Made.{made_by};
-ghost use Rattle.plain_machine.specs.declared.call.Call.TheVariants.{Dump};
-ghost use Rattle.plain_machine.specs.declared.call.Mode.TheVariants.{Calling};
+ghost use Rattle.plain_machine.specs.declared.monitor_call.MonitorCall.TheVariants.{Dump};
+ghost use Rattle.plain_machine.specs.declared.monitor_call.Mode.TheVariants.{Calling};
 ghost use Rattle.machine_words.specs.Readers.{read_values, read_numbers};
 ghost use Rattle.machine_words.specs.MadeWords.{read_row, read_made};
 ghost use Rattle.machine_words.specs.ModeWords.{fault_with, ending_with, mode_with};
@@ -12,7 +12,7 @@ ghost use Rattle.machine_words.specs.inner.Reading.{walk, unplaced, thread_step}
 
 use crate::reader::{number_of, take_number, take_word, value_of};
 use crate::unread::Unread;
-use plain_machine::{Call, Mode, Register, Thread};
+use plain_machine::{Mode, MonitorCall, Register, Thread};
 use plain_monitor::{Ending, Fault};
 
 fn fault_with(number: u64) -> Fault
@@ -52,7 +52,7 @@ fn mode_with(kind: u64, rest: u32) -> Mode
 {
     if kind == 0 {
         Mode::Calling {
-            call: Call::Dump { number: 0 },
+            call: MonitorCall::Dump { number: 0 },
         }
     } else if kind == 1 {
         Mode::Waiting { object: rest }
@@ -116,7 +116,7 @@ pub(crate) fn read_threads(
     Ok(())
 }
 
-/// The classes of so many objects that thread t has made, behind those that it has. Where there are more than a thread may make, `NoMachine`.
+/// The classes of so many objects that thread t has made, after those that it has. Where there are more than a thread may make, `NoMachine`.
 fn read_classes(
     words: &[u64],
     at: &mut usize,

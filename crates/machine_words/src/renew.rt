@@ -7,7 +7,7 @@ ghost use Rattle.machine_laws.specs.Reached.{IsReached};
 ghost use Rattle.machine_words.specs.Untouched.{IsUntouched};
 ghost use Rattle.machine_words.specs.inner.Reading.{renewed, beside};
 
-use crate::numbers::behind_row;
+use crate::numbers::after_row;
 use crate::object_words::is_new;
 use crate::place_object::place_object;
 use crate::unread::Unread;
@@ -75,7 +75,7 @@ pub(crate) fn renew_all(
             renew_at(number, objects, threads)?;
             number += 1;
         } else {
-            number = behind_row(first, number);
+            number = after_row(first, number);
         }
     }
     Ok(())

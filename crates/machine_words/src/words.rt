@@ -24,7 +24,7 @@ fn add_made(out: &mut Vec<u64>, register: &Register) -> Result<(), NoMemory>
     Ok(())
 }
 
-/// Writes the words of a machine that entries of its program lead to, behind those that are there.
+/// Writes the words of a machine that entries of its program lead to, after those that are there.
 ///
 /// # Errors
 ///

@@ -1,4 +1,4 @@
-//! Words that are written behind others.
+//! Words that are written after others.
 
 ghost use Rattle.std.specs.Prelude.{◌≡◌, ◌++◌, ◌∷◌, [], map, OnOk};
 ghost use Rattle.std.specs.List.{AllByRecursion};

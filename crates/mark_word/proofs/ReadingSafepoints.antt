@@ -9,7 +9,8 @@ use Rattle.mark_word.specs.Safe.{IsSafeInRange, safe_of, SpellsSafe, requester_o
 
 -- the fields are read back from their word
 fields_back : (running : ℕ) (requester : Option ℕ) (halted : Bool) → running < 2 ^ 32 → IfSome requester (λ thread. thread < 32)
-    → read_safe (safe_of (record { running = running; requester = requester; halted = halted })) ≡ Some (record { running = running; requester = requester; halted = halted })
+    → read_safe (safe_of (record { running = running; requester = requester; halted = halted }))
+    ≡ Some (record { running = running; requester = requester; halted = halted })
 unfolding read_safe
 fields_back running None true h k = grind (arith, nat_tests)
 fields_back running None false h k = grind (arith, nat_tests)

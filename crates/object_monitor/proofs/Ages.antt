@@ -1,5 +1,6 @@
 -- The waiters by their age: who is the first of them, and who is left without it.
-use Rattle.std.proofs.Common.{◌≡◌, ℕ, suc, ◌+◌, ◌<◌, ◌≤◌, Bool, true, false, cond, List, [], ◌∷◌, length, take, drop, set, get_or, Option, Some, None, refl, sym, ap, ◌∙◌, arith, length-take, drop-cons, get_or-take}
+use Rattle.std.proofs.Common.{◌≡◌, ℕ, suc, ◌+◌, ◌<◌, ◌≤◌, Bool, true, false, cond, List, [], ◌∷◌, length, take, drop, set}
+use Rattle.std.proofs.Common.{get_or, Option, Some, None, refl, sym, ap, ◌∙◌, arith, length-take, drop-cons, get_or-take}
 use Rattle.std.proofs.Math.Seq.{take-set-lt}
 use Rattle.mark_word.specs.declared.wait.WaitForm.{WaitForm}
 use Rattle.mark_word.specs.declared.wait.WaitForm.TheVariants.{Ready}
@@ -93,9 +94,9 @@ module _ (o t w : ℕ) (ws : List ℕ) (p : ℕ × ℕ) (ps : List (ℕ × ℕ))
     left = without_me ∙ rest ∙ ap others_than_first e;
   }
 
-  -- it comes behind the first, who is among the others
-  behind : (q : ℕ × ℕ) (qs : List (ℕ × ℕ)) → waits_on w o ≡ true → q ∷ insert_waiter me qs ≡ p ∷ ps → Taken o (t + 1) ws q qs → Taken o t (w ∷ ws) p ps
-  behind q qs on e r = record {
+  -- it comes after the first, who is among the others
+  after : (q : ℕ × ℕ) (qs : List (ℕ × ℕ)) → waits_on w o ≡ true → q ∷ insert_waiter me qs ≡ p ∷ ps → Taken o (t + 1) ws q qs → Taken o t (w ∷ ws) p ps
+  after q qs on e r = record {
     place = suc r.place;
     is = let from = r.is in sym (ap number_first e) ∙ omega (arith, from);
     within = let low = r.within in omega (arith, low);
@@ -109,7 +110,7 @@ module _ (o t w : ℕ) (ws : List ℕ) (p : ℕ × ℕ) (ps : List (ℕ × ℕ))
     where
       older : (b : Bool) → cond b (me ∷ q ∷ qs) (q ∷ insert_waiter me qs) ≡ p ∷ ps → Taken o t (w ∷ ws) p ps
       older true e = is_me (q ∷ qs) rest e
-      older false e = behind q qs on e (below q qs rest)
+      older false e = after q qs on e (below q qs rest)
 
   one_more : (b : Bool) → waits_on w o ≡ b → by_age (chosen b ws) ≡ p ∷ ps
       → ((q : ℕ × ℕ) (qs : List (ℕ × ℕ)) → by_age (waiters o (t + 1) ws) ≡ q ∷ qs → Taken o (t + 1) ws q qs) → Taken o t (w ∷ ws) p ps
@@ -132,7 +133,8 @@ pub record TakenOf (o n : ℕ) (words : List ℕ) (p : ℕ × ℕ) (ps : List (�
   pub within : p.0 < n
   pub left : by_age (waiters o 0 (take n (set words p.0 0))) ≡ ps
 
-pub taken_of : (o n : ℕ) (words : List ℕ) (p : ℕ × ℕ) (ps : List (ℕ × ℕ)) → n ≤ length words → by_age (waiters o 0 (take n words)) ≡ p ∷ ps → TakenOf o n words p ps
+pub taken_of : (o n : ℕ) (words : List ℕ) (p : ℕ × ℕ) (ps : List (ℕ × ℕ))
+    → n ≤ length words → by_age (waiters o 0 (take n words)) ≡ p ∷ ps → TakenOf o n words p ps
 taken_of o n words p ps fits e =
     let r = taken o 0 (take n words) p ps e in
     let all : length (take n words) ≡ n = length-take n words ∙ omega (arith, fits) in
@@ -150,7 +152,7 @@ abbrev one_or : ℕ × ℕ → Option (ℕ × ℕ) → ℕ × ℕ
 one_or p None = p
 one_or p (Some x) = x
 
--- what is first has others behind it
+-- what is first has others after it
 pub first_and_others : (ps : List (ℕ × ℕ)) (p : ℕ × ℕ) → first_of ps ≡ Some p → ps ≡ p ∷ others_than_first ps
 first_and_others [] p e = absurd (cc e)
 first_and_others (q ∷ qs) p e = ap (λ (x : Option (ℕ × ℕ)). one_or p x ∷ qs) e

@@ -7,17 +7,17 @@ use Rattle.mark_word.specs.declared.mark.MarkForm.TheVariants.{Inflating, Neutra
 use Rattle.mark_word.specs.declared.owner.OwnerForm.TheVariants.{ByRecord}
 use Rattle.mark_word.specs.Mark.{mark_of, read_mark}
 use Rattle.mark_word.specs.Owner.{owner_of}
-use Rattle.core_world.specs.declared.answer.Turn.{Turn}
-use Rattle.core_world.specs.declared.answer.Why.TheVariants as why
-use Rattle.core_world.specs.declared.name.Name.TheVariants.{Mark, Displaced, Header}
-use Rattle.core_world.specs.declared.plan.Own.TheVariants.{Spend}
+use Rattle.core_world.specs.declared.answer.Progress.{Progress}
+use Rattle.core_world.specs.declared.answer.PendingCause.TheVariants as why
+use Rattle.core_world.specs.declared.word_id.WordId.TheVariants.{Mark, Displaced, Header}
+use Rattle.core_world.specs.declared.plan.LocalEffect.TheVariants.{DropClaim}
 use Rattle.core_world.specs.declared.stage.Stage.{Stage}
-use Rattle.core_world.specs.declared.stage.Stage.TheVariants.{Calm, Inflates}
-use Rattle.core_world.specs.Threads.Known.{Known}
+use Rattle.core_world.specs.declared.stage.Stage.TheVariants.{Settled, Inflates}
+use Rattle.core_world.specs.Threads.ThreadView.{ThreadView}
 use Rattle.core_world.specs.Trees.MonitorSteps.{claim_plan, fetch_plan, inflate_plan, prepare_plan, name_plan, name_neutral_plan}
 use Rattle.core_world.specs.Trees.MonitorSteps.{prepare_steps, inflate_locked, inflate_with, inflate_by, inflate_at}
-use Rattle.core_world.specs.Trees.Plans.{Purpose, with_own, swap, load_plan, done_with, pending_for}
-use Rattle.core_world.specs.Trees.Todo.{Todo, never, ◌>>=◌, ask}
+use Rattle.core_world.specs.Trees.Plans.{CallContext, with_own, swap, load_plan, done_with, pending_for}
+use Rattle.core_world.specs.Trees.StepTree.{StepTree, unreachable, ◌>>=◌, ask}
 use Rattle.core_world.specs.Valid.{IsRevoking}
 use Rattle.core_world.specs.Words.Shape.{Shape, IsInLimits, monitor_count}
 use Rattle.core_world.specs.World.{World}
@@ -25,7 +25,7 @@ use Rattle.core_world.proofs.CallRests.{part_due}
 use Rattle.core_law.specs.Logic.{Heap}
 use Rattle.core_law.specs.Sound.{Sound}
 use Rattle.core_world.proofs.There.{kept_there}
-use Rattle.heap_table.specs.Parts.{IsDueOn, HasRun}
+use Rattle.heap_table.specs.Parts.{IsDueOn, HasMadeSteps}
 use Rattle.heap_table.specs.Seen.{HeapSeen, PassSeen, IsOf}
 use Rattle.heap_table.specs.StepPlans.{store_plan}
 use Rattle.heap_table.specs.Stepping.{HasStepped}
@@ -52,8 +52,8 @@ sound_kept w t m sound kept = elim sound.valid.is [
     known : (s : IsRevoking w sound.valid.objects) (b : Bool) → (t == s.requester) ≡ b → (s.before.known t).kept ≡ (w.known t).kept
     known s true e =
         let is : t ≡ s.requester = eqb-true t s.requester e in
-        ap (λ (u : ℕ). (s.before.known u).kept) is ∙ ap (λ (k : Known). k.kept) (sym s.knows) ∙ ap (λ (u : ℕ). (w.known u).kept) (sym is)
-    known s false e = ap (λ (k : Known). k.kept) (sym (s.others t (eqb-false t s.requester e)))
+        ap (λ (u : ℕ). (s.before.known u).kept) is ∙ ap (λ (k : ThreadView). k.kept) (sym s.knows) ∙ ap (λ (u : ℕ). (w.known u).kept) (sym is)
+    known s false e = ap (λ (k : ThreadView). k.kept) (sym (s.others t (eqb-false t s.requester e)))
 
     before : (s : IsRevoking w sound.valid.objects) → (s.before.known t).kept ≡ Some m
     before s = known s (t == s.requester) refl ∙ kept
@@ -62,39 +62,39 @@ sound_kept w t m sound kept = elim sound.valid.is [
 pub kept_in : (h : HeapSeen) (p : PassSeen) (m : ℕ) → IsOf h p → p.known.kept ≡ Some m → m < monitor_count h.heap.shape
 kept_in h p m is_of kept =
     let r = is_of.real in
-    subst (λ (z : Heap). m < monitor_count z.shape) r.is_of (sound_kept r.world p.known.thread m r.sound (ap (λ (k : Known). k.kept) r.knew ∙ kept))
+    subst (λ (z : Heap). m < monitor_count z.shape) r.is_of (sound_kept r.world p.known.thread m r.sound (ap (λ (k : ThreadView). k.kept) r.knew ∙ kept))
 
 -- and the number of each of its monitors fits a mark
 pub fits : (h : HeapSeen) (p : PassSeen) (m : ℕ) → IsOf h p → m < monitor_count h.heap.shape → m < 2 ^ 20
 fits h p m is_of within = let l = limits h p is_of in omega (arith, within, l.objects, l.threads)
 
--- THE PARTS of an inflation: what comes behind the claim of a ring position,
-abbrev pub claimed_on : Shape → Purpose → ℕ → ℕ → ℕ → Todo (Turn ℕ)
+-- THE PARTS of an inflation: what comes after the claim of a ring position,
+abbrev pub claimed_on : Shape → CallContext → ℕ → ℕ → ℕ → StepTree (Progress ℕ)
 claimed_on s e o mark position = do
   m ← ask (fetch_plan e s position)
   inflate_with (read_mark mark) e o mark m
 
--- behind the exchange of a mark that named a lock record,
-abbrev pub locked_on : Purpose → ℕ → ℕ → ℕ → ℕ → Todo (Turn ℕ)
+-- after the exchange of a mark that named a lock record,
+abbrev pub locked_on : CallContext → ℕ → ℕ → ℕ → ℕ → StepTree (Progress ℕ)
 locked_on e o m t place = do
   header ← ask (load_plan e (Inflates o t place) (Displaced t place))
   _ ← prepare_steps e (Inflates o t place) o m header (owner_of (ByRecord t place))
   _ ← ask (name_plan e o m)
   done_with m
 
--- behind the words of its monitor,
-abbrev pub locked_named : Purpose → ℕ → ℕ → Todo (Turn ℕ)
+-- after the words of its monitor,
+abbrev pub locked_named : CallContext → ℕ → ℕ → StepTree (Progress ℕ)
 locked_named e o m = do
   _ ← ask (name_plan e o m)
   done_with m
 
--- and behind those of the monitor of a neutral mark
-abbrev pub neutral_named : Purpose → ℕ → ℕ → ℕ → Todo (Turn ℕ)
+-- and after those of the monitor of a neutral mark
+abbrev pub neutral_named : CallContext → ℕ → ℕ → ℕ → StepTree (Progress ℕ)
 neutral_named e o mark m = do
   found ← ask (name_neutral_plan e o mark m)
   if found == mark then done_with m else pending_for (why.Raced mark found)
 
-module _ {A : Type 0} (h : HeapSeen) (p : PassSeen) (e : Purpose) (stage : Stage) (o m header owner : ℕ) (g : Todo A)
+module _ {A : Type 0} (h : HeapSeen) (p : PassSeen) (e : CallContext) (stage : Stage) (o m header owner : ℕ) (g : StepTree A)
     (due : IsDueOn h p e.task (prepare_steps e stage o m header owner >>= (λ _. g))) where
   -- the words of a monitor are stored first,
   pub prepares : IsDueOn h p e.task (prepare_steps e stage o m header owner)
@@ -105,16 +105,16 @@ module _ {A : Type 0} (h : HeapSeen) (p : PassSeen) (e : Purpose) (stage : Stage
   fits_mark is_of = fits h p m is_of (there h p e.task (prepare_plan e stage (Header m) header) _ is_of due refl)
 
   -- and then the rest is due
-  pub prepared : (q : PassSeen) → HasRun h (prepare_steps e stage o m header owner) p q tt → IsDueOn h q e.task g
+  pub prepared : (q : PassSeen) → HasMadeSteps h (prepare_steps e stage o m header owner) p q tt → IsDueOn h q e.task g
   prepared q run = part_then h p q e.task (prepare_plan e stage (Header m) header) _ (λ _. g) tt due refl run
 
--- behind the claim of a ring position its monitor is loaded
-pub claimed_due : (h : HeapSeen) (p q : PassSeen) (e : Purpose) (o mark position : ℕ) → IsDueOn h p e.task (inflate_by None h.heap.shape e o mark)
+-- after the claim of a ring position its monitor is loaded
+pub claimed_due : (h : HeapSeen) (p q : PassSeen) (e : CallContext) (o mark position : ℕ) → IsDueOn h p e.task (inflate_by None h.heap.shape e o mark)
     → HasStepped h p q (claim_plan e) position → IsDueOn h q e.task (claimed_on h.heap.shape e o mark position)
 claimed_due h p q e o mark position due s = rest_due h p e.task (claim_plan e) (claimed_on h.heap.shape e o mark) due refl q position s
 
 -- where the exchange of a mark that named a lock record hit, it goes on
-module _ (h : HeapSeen) (p q : PassSeen) (e : Purpose) (o mark m t place found : ℕ) where
+module _ (h : HeapSeen) (p q : PassSeen) (e : CallContext) (o mark m t place found : ℕ) where
   pub locked_due : IsDueOn h p e.task (inflate_locked e o mark m t place) → HasStepped h p q (inflate_plan e o mark t place) found
       → (found == mark) ≡ true → IsDueOn h q e.task (locked_on e o m t place)
   locked_due due s hit =
@@ -122,16 +122,16 @@ module _ (h : HeapSeen) (p q : PassSeen) (e : Purpose) (o mark m t place found :
       (rest_due h p e.task (inflate_plan e o mark t place) _ due refl q found s) hit
 
 -- THE LAST PLAN names the monitor, where its word is that of an inflated mark
-module _ (e : Purpose) (o mark m word : ℕ) (is : word ≡ mark_of (Inflated m)) where
-  pub names : with_own Spend (store_plan e Calm (Mark o) word) ≡ name_plan e o m
-  names = ap (λ w. with_own Spend (store_plan e Calm (Mark o) w)) is
+module _ (e : CallContext) (o mark m word : ℕ) (is : word ≡ mark_of (Inflated m)) where
+  pub names : with_own DropClaim (store_plan e Settled (Mark o) word) ≡ name_plan e o m
+  names = ap (λ w. with_own DropClaim (store_plan e Settled (Mark o) w)) is
 
-  pub names_neutral : with_own Spend (swap e (Mark o) mark word) ≡ name_neutral_plan e o mark m
-  names_neutral = ap (λ w. with_own Spend (swap e (Mark o) mark w)) is
+  pub names_neutral : with_own DropClaim (swap e (Mark o) mark word) ≡ name_neutral_plan e o mark m
+  names_neutral = ap (λ w. with_own DropClaim (swap e (Mark o) mark w)) is
 
 -- MARKS that no valid world comes with, and those whose lock gets a monitor
-pub never_with : (f : MarkForm) (e : Purpose) (o mark m : ℕ) → ((t p : ℕ) → f ≡ Locked t p → ⊥)
-    → ((hash age : ℕ) → f ≡ Neutral hash age → ⊥) → inflate_with (Some f) e o mark m ≡ never
+pub never_with : (f : MarkForm) (e : CallContext) (o mark m : ℕ) → ((t p : ℕ) → f ≡ Locked t p → ⊥)
+    → ((hash age : ℕ) → f ≡ Neutral hash age → ⊥) → inflate_with (Some f) e o mark m ≡ unreachable
 never_with Inflating e o mark m locked neutral = refl
 never_with (Neutral hash age) e o mark m locked neutral = absurd (neutral hash age refl)
 never_with (Anonymous epoch age) e o mark m locked neutral = refl
@@ -140,7 +140,7 @@ never_with (Locked t p) e o mark m locked neutral = absurd (locked t p refl)
 never_with (Inflated n) e o mark m locked neutral = refl
 never_with Marked e o mark m locked neutral = refl
 
-pub is_made : (f : MarkForm) (s : Shape) (e : Purpose) (kept : Option ℕ) (o mark : ℕ) → (f ≡ Inflating → ⊥) → ((m : ℕ) → f ≡ Inflated m → ⊥)
+pub is_made : (f : MarkForm) (s : Shape) (e : CallContext) (kept : Option ℕ) (o mark : ℕ) → (f ≡ Inflating → ⊥) → ((m : ℕ) → f ≡ Inflated m → ⊥)
     → inflate_at (Some f) s e kept o mark ≡ inflate_by kept s e o mark
 is_made Inflating s e kept o mark inflating inflated = absurd (inflating refl)
 is_made (Neutral hash age) s e kept o mark inflating inflated = refl

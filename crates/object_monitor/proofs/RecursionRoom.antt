@@ -1,5 +1,5 @@
 -- The recursions that an owner raises fit their word: the monitor is that of the object, so they count hold words, of which there are 64.
--- That follows from the sound worlds behind the thread's next steps: the one that raises them, and those up to its new hold word.
+-- That follows from the sound worlds after the thread's next steps: the one that raises them, and those up to its new hold word.
 use Rattle.std.proofs.Common.{◌≡◌, ℕ, ◌+◌, ◌^◌, ◌<◌, ◌≤◌, ◌||◌, eq-eqb, ne_eqb, eqb-true, Bool, true, false, cond, length}
 use Rattle.std.proofs.Common.{slice_index, Option, Some, None, refl, sym, ap, ◌∙◌, subst, arith, inl, inr}
 use Rattle.mark_word.specs.declared.mark.MarkForm.{MarkForm}
@@ -12,30 +12,30 @@ use Rattle.plain_monitor.specs.Limits.{most_holds}
 use Rattle.plain_monitor.specs.Monitor.{is_thread}
 use Rattle.plain_monitor.specs.declared.entry.Path.{Path}
 use Rattle.plain_monitor.specs.declared.entry.Path.TheVariants.{MonitorAgain}
-use Rattle.core_world.specs.declared.answer.Turn.{Turn}
-use Rattle.core_world.specs.declared.name.Name.TheVariants.{Displaced, Hold, Recursions}
+use Rattle.core_world.specs.declared.answer.Progress.{Progress}
+use Rattle.core_world.specs.declared.word_id.WordId.TheVariants.{Displaced, Hold, Recursions}
 use Rattle.core_world.specs.declared.plan.StepPlan.{StepPlan}
 use Rattle.core_world.specs.declared.stage.Stage.{Stage}
-use Rattle.core_world.specs.declared.stage.Stage.TheVariants.{Calm, Takes, Ahead, Enters}
-use Rattle.core_world.specs.declared.task.Task.{Task}
+use Rattle.core_world.specs.declared.stage.Stage.TheVariants.{Settled, BiasAcquired, RecursionsRaised, Enters}
+use Rattle.core_world.specs.declared.heap_call.HeapCall.{HeapCall}
 use Rattle.core_world.specs.Clauses.Safepoints.{IsQuiet}
 use Rattle.core_world.specs.Due.{IsDue, IsNext}
 use Rattle.core_world.specs.Locks.{Lock, Open, BiasedTo, OnRecord, OwnedBy, lock, lock_form, owner_lock, holder, who, has_epoch, owner_at}
 use Rattle.core_world.specs.Locks.{marks, owner_words, prototype_of, inflations, displaced_words, hold_count, recursion_count}
 use Rattle.core_world.specs.Steps.{known_after, world_after}
-use Rattle.core_world.specs.Threads.Known.{Known, Local, local_of}
-use Rattle.core_world.specs.Threads.Stages.{Inflation, bears, one_if, path_into, recursions_ahead, recursions_behind, revocation_in}
+use Rattle.core_world.specs.Threads.ThreadView.{ThreadView, Local, local_of}
+use Rattle.core_world.specs.Threads.Stages.{Inflation, bears, one_if, path_into, recursions_ahead, recursions_lowered, revocation_in}
 use Rattle.core_world.specs.Trees.LockSteps.{displace_plan, hold_plan, hold_steps}
 use Rattle.core_world.specs.Trees.MonitorSteps.{raise_count_plan, record_steps}
-use Rattle.core_world.specs.Trees.Plans.{Purpose, load, free_place, done_with}
-use Rattle.core_world.specs.Trees.Todo.{Todo, step, ◌>>=◌, ask}
+use Rattle.core_world.specs.Trees.Plans.{CallContext, load, free_place, done_with}
+use Rattle.core_world.specs.Trees.StepTree.{StepTree, step, ◌>>=◌, ask}
 use Rattle.core_world.specs.Valid.{Fits}
 use Rattle.core_world.specs.Words.Forms.{hold_word, is_biased, is_biased_form, is_neutral, monitor_in, monitor_form, epoch_in}
 use Rattle.core_world.specs.World.{World}
 use Rattle.core_world.proofs.CallRests.{next_due, then_due}
 use Rattle.core_world.proofs.KnowledgeParts.{by_equal}
-use Rattle.core_world.proofs.LookWhileRevoking.{forgotten}
-use Rattle.core_world.proofs.OwnersShown.{fits_running, inflated_form, with_word_there}
+use Rattle.core_world.proofs.bias.LookWhileRevoking.{forgotten}
+use Rattle.core_world.proofs.enter_exit.OwnersShown.{fits_running, inflated_form, with_word_there}
 use Rattle.core_law.specs.BiasLaw.{BiasLawHolds}
 use Rattle.core_law.specs.WholeLaw.{LawsHold, WhollyValid}
 use Rattle.core_law.specs.Logic.{Heap, heap_of}
@@ -103,8 +103,8 @@ record InMiddle (w : World) (v : WhollyValid w) (t : ℕ) : Type 0 where
   pub law : BiasLawHolds w
   pub runs : (w.known t).running ≡ true
 
-in_middle : (w : World) (v : WhollyValid w) (t : ℕ) (stage : Stage) → (w.known t).stage ≡ stage → (stage ≡ Calm → ⊥)
-    → ((i : ℕ) → stage ≡ Takes i → ⊥) → revocation_in stage ≡ None → InMiddle w v t
+in_middle : (w : World) (v : WhollyValid w) (t : ℕ) (stage : Stage) → (w.known t).stage ≡ stage → (stage ≡ Settled → ⊥)
+    → ((i : ℕ) → stage ≡ BiasAcquired i → ⊥) → revocation_in stage ≡ None → InMiddle w v t
 in_middle w v t stage at some other none = elim v.is [
   | inl a ↦ record { fits = a.0; law = a.1.biases; runs = running (w.known t).running refl a.0 }
   | inr s ↦ absurd (by_equal t s.0.requester
@@ -113,9 +113,9 @@ in_middle w v t stage at some other none = elim v.is [
       let not : revocation_in (w.known s.0.requester).stage ≡ None = ap (λ u. revocation_in (w.known u).stage) (sym e) ∙ ap revocation_in at ∙ none in
       cc (revokes, not))
       (λ n.
-      let stopped : (w.known t).running ≡ false = (s.0.safe.safepoint s.0.requester (ap (λ (k : Known). k.reached) s.0.knows ∙ s.0.reached)).1 t in
+      let stopped : (w.known t).running ≡ false = (s.0.safe.safepoint s.0.requester (ap (λ (k : ThreadView). k.reached) s.0.knows ∙ s.0.reached)).1 t in
       let same = s.0.others t n in
-      unquiet (sym at ∙ ap (λ (k : Known). k.stage) same) (s.0.fits.quiet.quiet t (ap (λ (k : Known). k.running) (sym same) ∙ stopped))))
+      unquiet (sym at ∙ ap (λ (k : ThreadView). k.stage) same) (s.0.fits.quiet.quiet t (ap (λ (k : ThreadView). k.running) (sym same) ∙ stopped))))
 ]
   where
     unquiet : {b : Bool} {s : Stage} → stage ≡ s → IsQuiet b s → ⊥
@@ -126,8 +126,9 @@ in_middle w v t stage at some other none = elim v.is [
     running true e a = e
     running false e a = absurd (unquiet (sym at) (a.quiet.quiet t e))
 
--- THE WORLD BEHIND A STEP that is due
-module _ {A : Type 0} (w : World) (t : ℕ) (within : t < w.shape.threads) (law : HeapLaw (heap_of w)) (sound : Sound w) (task : Task) (p : StepPlan) (f : ℕ → Todo A)
+-- THE WORLD AFTER A STEP that is due
+module _ {A : Type 0} (w : World) (t : ℕ) (within : t < w.shape.threads)
+    (law : HeapLaw (heap_of w)) (sound : Sound w) (task : HeapCall) (p : StepPlan) (f : ℕ → StepTree A)
     (due : IsDue w.shape w.start w.biasing (w.known t) task (step p f)) (same : p.task ≡ task) where
   next : IsNext w.shape w.start w.biasing (w.known t) p
   next = next_due w.shape w.start w.biasing (w.known t) task p f due same
@@ -138,8 +139,8 @@ module _ {A : Type 0} (w : World) (t : ℕ) (within : t < w.shape.threads) (law 
   knows_then : (world_after p t w).known t ≡ known_after w.shape w.start p (w.words p.at) (w.known t)
   knows_then = told_here t (known_after w.shape w.start p (w.words p.at) (w.known t)) w.known
 
-  due_behind : IsDue w.shape w.start w.biasing ((world_after p t w).known t) task (f (w.words p.at))
-  due_behind = subst (λ (k : Known). IsDue w.shape w.start w.biasing k task (f (w.words p.at))) (sym knows_then)
+  due_after : IsDue w.shape w.start w.biasing ((world_after p t w).known t) task (f (w.words p.at))
+  due_after = subst (λ (k : ThreadView). IsDue w.shape w.start w.biasing k task (f (w.words p.at))) (sym knows_then)
       (then_due w.shape w.start w.biasing (w.known t) task p f due same (w.words p.at))
 
 -- THE LOCK WHERE THE THREAD IS ABOUT TO LOG AN ENTER BY THE MONITOR: the record that it has just made is no part of a stack lock
@@ -189,14 +190,15 @@ module _ (w : World) (v : WhollyValid w) (t o q d : ℕ) (at : (w.known t).stage
 lock_is : (w : World) (o m t : ℕ) → monitor_in (marks w o) ≡ Some m → owner_lock (read_owner (owner_words w m)) ≡ OwnedBy t → lock w o ≡ OwnedBy t
 lock_is w o m t names own = ap (λ f. lock_form f (prototype_of w o) (owner_words w) (inflations w o)) (inflated_form (read_mark (marks w o)) m names) ∙ own
 
--- the steps of `monitor_again_steps` behind its load, which found r
-abbrev raising : Purpose → Local → ℕ → ℕ → ℕ → Todo (Turn Path)
+-- the steps of `monitor_again_steps` after its load, which found r
+abbrev raising : CallContext → Local → ℕ → ℕ → ℕ → StepTree (Progress Path)
 raising e k o m r = do
   _ ← ask (raise_count_plan e o m r)
-  record_steps e (Ahead o) k o MonitorAgain
+  record_steps e (RecursionsRaised o) k o MonitorAgain
 
 -- A calm thread is to raise the recursions of m from r, and then to take a hold of o by the monitor.
-module _ (w : World) (t : ℕ) (within : t < w.shape.threads) (law : HeapLaw (heap_of w)) (sound : Sound w) (e : Purpose) (o m r : ℕ) (calm : (w.known t).stage ≡ Calm)
+module _ (w : World) (t : ℕ) (within : t < w.shape.threads) (law : HeapLaw (heap_of w))
+    (sound : Sound w) (e : CallContext) (o m r : ℕ) (calm : (w.known t).stage ≡ Settled)
     (due : IsDue w.shape w.start w.biasing (w.known t) e.task (raising e (local_of (w.known t)) o m r)) where
   -- its lowest free place, the depth of its new hold word, and how many of its records were made through the monitor
   abbrev q : ℕ
@@ -221,10 +223,10 @@ module _ (w : World) (t : ℕ) (within : t < w.shape.threads) (law : HeapLaw (he
   raised_knows = knows_then w t within law sound e.task raise _ due refl
 
   abbrev displace : StepPlan
-  displace = displace_plan e (Ahead o) (w.known t).thread q 3
+  displace = displace_plan e (RecursionsRaised o) (w.known t).thread q 3
 
-  raised_due : IsDue w.shape w.start w.biasing (raised.known t) e.task (record_steps e (Ahead o) (local_of (w.known t)) o MonitorAgain)
-  raised_due = due_behind w t within law sound e.task raise _ due refl
+  raised_due : IsDue w.shape w.start w.biasing (raised.known t) e.task (record_steps e (RecursionsRaised o) (local_of (w.known t)) o MonitorAgain)
+  raised_due = due_after w t within law sound e.task raise _ due refl
 
   abbrev displaced : World
   displaced = world_after displace t raised
@@ -236,7 +238,7 @@ module _ (w : World) (t : ℕ) (within : t < w.shape.threads) (law : HeapLaw (he
   hold = hold_plan e (w.known t).thread o d q MonitorAgain
 
   displaced_due : IsDue w.shape w.start w.biasing (displaced.known t) e.task (hold_steps e (local_of (w.known t)) o MonitorAgain >>= done_with)
-  displaced_due = due_behind raised t within law raised_sound e.task displace _ raised_due refl
+  displaced_due = due_after raised t within law raised_sound e.task displace _ raised_due refl
 
   abbrev held : World
   held = world_after hold t displaced
@@ -245,16 +247,16 @@ module _ (w : World) (t : ℕ) (within : t < w.shape.threads) (law : HeapLaw (he
   held_sound = sound_then displaced t within law displaced_sound e.task hold _ displaced_due refl
 
   held_at : (held.known t).stage ≡ Enters o q MonitorAgain
-  held_at = ap (λ (y : Known). y.stage) (knows_then displaced t within law displaced_sound e.task hold _ displaced_due refl)
+  held_at = ap (λ (y : ThreadView). y.stage) (knows_then displaced t within law displaced_sound e.task hold _ displaced_due refl)
 
-  raised_at : (raised.known t).stage ≡ Ahead o
-  raised_at = ap (λ (y : Known). y.stage) raised_knows
+  raised_at : (raised.known t).stage ≡ RecursionsRaised o
+  raised_at = ap (λ (y : ThreadView). y.stage) raised_knows
 
   raised_middle : InMiddle raised raised_sound.valid t
-  raised_middle = in_middle raised raised_sound.valid t (Ahead o) raised_at (λ e. cc e) (λ i e. cc e) refl
+  raised_middle = in_middle raised raised_sound.valid t (RecursionsRaised o) raised_at (λ e. cc e) (λ i e. cc e) refl
 
   runs : (w.known t).running ≡ true
-  runs = ap (λ (y : Known). y.running) (sym raised_knows) ∙ raised_middle.runs
+  runs = ap (λ (y : ThreadView). y.running) (sym raised_knows) ∙ raised_middle.runs
 
   fits : Fits w sound.valid.objects
   fits = fits_running w sound.valid.objects t runs (forgotten LawsHold w sound.valid.objects sound.valid.is)
@@ -263,7 +265,8 @@ module _ (w : World) (t : ℕ) (within : t < w.shape.threads) (law : HeapLaw (he
   number = fits.numbered t
 
   place : q < most_holds
-  place = (stepping_there raised t displace within (law.begins e.task) raised_sound (next raised t within law raised_sound e.task displace _ raised_due refl)).0.1
+  place = (stepping_there raised t displace within (law.begins e.task) raised_sound
+      (next raised t within law raised_sound e.task displace _ raised_due refl)).0.1
 
   room : d ≤ 64
   room = room_here (heap_of w) (w.known t) (stands_here w t within sound.valid) runs o place
@@ -282,17 +285,17 @@ module _ (w : World) (t : ℕ) (within : t < w.shape.threads) (law : HeapLaw (he
   before =
       let a = fits.recursions.owned o named.0 t named.1 (lock_is w o named.0 t named.1 named.2) (λ s. cc (sym s ∙ calm)) (λ s. cc (sym s ∙ calm)) in
       let up = ap (λ s. recursions_ahead s o) calm in
-      let down = ap (λ s. recursions_behind s o) calm in
+      let down = ap (λ s. recursions_lowered s o) calm in
       omega (arith, a, up, down)
 
-  behind : raised.words (Recursions named.0) ≡ count + 1
-  behind =
+  after : raised.words (Recursions named.0) ≡ count + 1
+  after =
       let a = raised_middle.fits.recursions.owned o named.0 t named.1 (lock_is raised o named.0 t named.1 named.2)
       (λ s. cc (sym s ∙ raised_at)) (λ s. cc (sym s ∙ raised_at)) in
       let up : recursions_ahead (raised.known t).stage o ≡ 1 = ap (λ s. recursions_ahead s o) raised_at ∙ ap one_if (eq-eqb o o refl) in
-      let down : recursions_behind (raised.known t).stage o ≡ 0 = ap (λ s. recursions_behind s o) raised_at in
+      let down : recursions_lowered (raised.known t).stage o ≡ 0 = ap (λ s. recursions_lowered s o) raised_at in
       let same : recursion_count o (displaced_words w t) (raised.known t).holds ≡ count =
-      ap (λ (y : Known). recursion_count o (displaced_words w t) y.holds) raised_knows in
+      ap (λ (y : ThreadView). recursion_count o (displaced_words w t) y.holds) raised_knows in
       omega (arith, a, up, down, same)
 
   pub raised_fits : r + 1 ≤ 65
@@ -303,25 +306,26 @@ module _ (w : World) (t : ℕ) (within : t < w.shape.threads) (law : HeapLaw (he
       (λ same.
       let there : raised.words (Recursions named.0) ≡ r + 1 =
       ap (λ z. raised.words (Recursions z)) same ∙ with_word_there (Recursions m) (r + 1) w.words in
-      omega (arith, there, behind, most, all))
+      omega (arith, there, after, most, all))
       (λ other.
       let still : raised.words (Recursions named.0) ≡ w.words (Recursions named.0) =
       ap (λ (b : Bool). cond b (r + 1) (w.words (Recursions named.0))) (ne_eqb named.0 m other) in
-      absurd (omega (arith, still, before, behind)))
+      absurd (omega (arith, still, before, after)))
 
 -- so in a call of a heap they fit their word
-pub recursion_room : (h : HeapSeen) (p q : PassSeen) (e : Purpose) (o m n : ℕ) → IsOf h p
+pub recursion_room : (h : HeapSeen) (p q : PassSeen) (e : CallContext) (o m n : ℕ) → IsOf h p
     → IsDueOn h p e.task (step (load e (Recursions m)) (λ r. raising e (local_of p.known) o m r))
     → HasStepped h p q (load e (Recursions m)) n → n + 1 < 2 ^ 64
 recursion_room h p q e o m n is_of due s =
     let look = load e (Recursions m) in
     let rest = rest_due h p e.task look _ due refl q n s in
     let local : local_of q.known ≡ local_of p.known = ap local_of s.known in
-    let calm : q.known.stage ≡ Calm = ap (λ (y : Known). y.stage) s.known in
+    let calm : q.known.stage ≡ Settled = ap (λ (y : ThreadView). y.stage) s.known in
     let real = s.heap.real in
     let at : real.world.known q.known.thread ≡ q.known = real.knew in
     let within : q.known.thread < real.world.shape.threads = subst (λ (z : Heap). q.known.thread < z.shape.threads) (sym real.is_of) s.heap.within in
-    let here = subst (λ (x : Heap × Known × Local). IsDue x.0.shape x.0.start x.0.biasing x.1 e.task (raising e x.2 o m n))
+    let here = subst (λ (x : Heap × ThreadView × Local). IsDue x.0.shape x.0.start x.0.biasing x.1 e.task (raising e x.2 o m n))
     (λ i. (sym real.is_of i, sym at i, (sym local ∙ ap local_of (sym at)) i)) rest in
-    let a = raised_fits real.world q.known.thread within (subst HeapLaw (sym real.is_of) (law_of real.law)) real.sound e o m n (ap (λ (y : Known). y.stage) at ∙ calm) here in
+    let a = raised_fits real.world q.known.thread within (subst HeapLaw (sym real.is_of) (law_of real.law)) real.sound e o m n
+    (ap (λ (y : ThreadView). y.stage) at ∙ calm) here in
     omega (arith, a)

@@ -6,18 +6,18 @@ use Rattle.mark_word.specs.declared.owner.OwnerForm.{OwnerForm}
 use Rattle.mark_word.specs.declared.owner.OwnerForm.TheVariants.{Free, ByThread, ByRecord}
 use Rattle.mark_word.specs.declared.wait.WaitForm.{WaitForm}
 use Rattle.mark_word.specs.declared.wait.WaitForm.TheVariants as wait
-use Rattle.core_world.specs.declared.answer.Why.TheVariants as why
-use Rattle.core_world.specs.declared.answer.Turn.{Turn}
-use Rattle.core_world.specs.Trees.Plans.{Purpose, pending_for}
-use Rattle.core_world.specs.Trees.Todo.{Todo, never}
+use Rattle.core_world.specs.declared.answer.PendingCause.TheVariants as why
+use Rattle.core_world.specs.declared.answer.Progress.{Progress}
+use Rattle.core_world.specs.Trees.Plans.{CallContext, pending_for}
+use Rattle.core_world.specs.Trees.StepTree.{StepTree, unreachable}
 use Rattle.core_world.specs.Trees.WaitSteps.{resume_owner_at, resume_mark_at, resume_at}
 use Rattle.heap_table.specs.Parts.{IsDueOn}
 use Rattle.heap_table.specs.Seen.{HeapSeen, PassSeen, IsOf}
 use Rattle.heap_table.proofs.Ruled.{not_due}
 
-module _ (h : HeapSeen) (p : PassSeen) (e : Purpose) (t saved o m found : ℕ) (is_of : IsOf h p) where
-  other : (d : Todo (Turn (Unit {0}))) (b : Bool) → IsDueOn h p e.task (cond b never d) → cond b never d ≡ d
-  other d true due = absurd (not_due h p e.task never is_of due refl)
+module _ (h : HeapSeen) (p : PassSeen) (e : CallContext) (t saved o m found : ℕ) (is_of : IsOf h p) where
+  other : (d : StepTree (Progress (Unit {0}))) (b : Bool) → IsDueOn h p e.task (cond b unreachable d) → cond b unreachable d ≡ d
+  other d true due = absurd (not_due h p e.task unreachable is_of due refl)
   other d false due = refl
 
   -- where the owner word wasn't free, another thread owns the monitor
@@ -28,7 +28,7 @@ module _ (h : HeapSeen) (p : PassSeen) (e : Purpose) (t saved o m found : ℕ) (
   owned (ByRecord u place) due free = other (pending_for (why.Owned found)) (u == t) due
 
 -- MARKS AND WAITING WORDS that no valid world comes with
-pub never_marked : (f : MarkForm) (e : Purpose) (t saved o : ℕ) → ((m : ℕ) → f ≡ Inflated m → ⊥) → resume_mark_at (Some f) e t saved o ≡ never
+pub never_marked : (f : MarkForm) (e : CallContext) (t saved o : ℕ) → ((m : ℕ) → f ≡ Inflated m → ⊥) → resume_mark_at (Some f) e t saved o ≡ unreachable
 never_marked Inflating e t saved o inflated = refl
 never_marked (Neutral hash age) e t saved o inflated = refl
 never_marked (Anonymous epoch age) e t saved o inflated = refl
@@ -37,8 +37,8 @@ never_marked (Locked u p) e t saved o inflated = refl
 never_marked (Inflated m) e t saved o inflated = absurd (inflated m refl)
 never_marked Marked e t saved o inflated = refl
 
-pub never_resumed : (f : WaitForm) (e : Purpose) (t saved o word : ℕ) → ((object stamp : ℕ) → f ≡ wait.Waiting object stamp → ⊥)
-    → ((object : ℕ) → f ≡ wait.Notified object → ⊥) → resume_at (Some f) e t saved o word ≡ never
+pub never_resumed : (f : WaitForm) (e : CallContext) (t saved o word : ℕ) → ((object stamp : ℕ) → f ≡ wait.Waiting object stamp → ⊥)
+    → ((object : ℕ) → f ≡ wait.Notified object → ⊥) → resume_at (Some f) e t saved o word ≡ unreachable
 never_resumed wait.Ready e t saved o word waiting notified = refl
 never_resumed (wait.Entering object) e t saved o word waiting notified = refl
 never_resumed (wait.Waiting object stamp) e t saved o word waiting notified = absurd (waiting object stamp refl)

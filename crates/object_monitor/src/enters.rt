@@ -1,135 +1,148 @@
 //! How a thread takes a hold by the monitor.
 ghost use Rattle.std.specs.Prelude.{◌≡◌, ◌<◌, length, Some};
-ghost use Rattle.core_world.specs.Threads.Known.{local_of};
+ghost use Rattle.core_world.specs.Threads.ThreadView.{local_of};
 ghost use Rattle.core_world.specs.Trees.MonitorSteps.{record_steps, owned_steps, monitor_again_steps, monitor_own_steps};
 ghost use Rattle.core_world.specs.Trees.MonitorSteps.{monitor_enter_at, monitor_enter_steps};
-ghost use Rattle.heap_table.specs.Parts.{IsDueOn, HasRun};
+ghost use Rattle.heap_table.specs.Parts.{IsDueOn, HasMadeSteps};
 ghost use Rattle.heap_table.specs.Seen.{IsOf};
 
-use core_world::{Name, Stage, Turn, Why};
-use heap_table::{Heap, Pass, Purpose, owner_of_word};
+use core_world::{PendingCause, Progress, Stage, WordId};
+use heap_table::{CallContext, Heap, Pass, owner_of_word};
 use mark_word::{OwnerForm, WaitForm, encode_owner, encode_wait};
 use plain_monitor::Path;
 use stack_lock::{free_place, hold};
 
 // The displaced word 3 of the new record says that its hold goes by the monitor.
-fn record(
+fn push_record(
     heap: &Heap,
     pass: &mut Pass,
-    why: &Purpose,
+    call: &CallContext,
     stage: Stage,
     object: u32,
     path: Path,
-) -> Turn<Path>
+) -> Progress<Path>
     requires heap { IsOf heap.now pass.old }
     requires object { object < length heap.now.heap.shape.objects }
-    requires due { IsDueOn heap.now pass.old why.now.task
-        (record_steps why.now stage (local_of pass.old.known) object path) }
+    requires due { IsDueOn heap.now pass.old call.now.task
+        (record_steps call.now stage (local_of pass.old.known) object path) }
     requires room { length pass.old.known.log < pass.old.limit }
-    ensures { HasRun heap.now (record_steps why.now stage (local_of pass.old.known) object path)
+    ensures { HasMadeSteps heap.now (record_steps call.now stage (local_of pass.old.known) object path)
         pass.old pass.new result }
 {
-    let at = Name::Displaced {
+    let at = WordId::Displaced {
         thread: pass.thread(),
         place: free_place(pass),
     };
-    heap.store(pass, why, stage, at, 3);
-    Turn::Done(hold(heap, pass, why, object, path))
+    heap.store(pass, call, stage, at, 3);
+    Progress::Done(hold(heap, pass, call, object, path))
 }
 
 // Another owns the monitor, by this owner word: the thread's waiting word says that it is entering the object.
-fn owned(heap: &Heap, pass: &mut Pass, why: &Purpose, object: u32, word: u64) -> Turn<Path>
+fn pend_on_owner(
+    heap: &Heap,
+    pass: &mut Pass,
+    call: &CallContext,
+    object: u32,
+    word: u64,
+) -> Progress<Path>
     requires heap { IsOf heap.now pass.old }
     requires object { object < length heap.now.heap.shape.objects }
-    requires due { IsDueOn heap.now pass.old why.now.task
-        (owned_steps why.now (local_of pass.old.known) object word) }
-    ensures { HasRun heap.now (owned_steps why.now (local_of pass.old.known) object word) pass.old pass.new result }
+    requires due { IsDueOn heap.now pass.old call.now.task
+        (owned_steps call.now (local_of pass.old.known) object word) }
+    ensures { HasMadeSteps heap.now (owned_steps call.now (local_of pass.old.known) object word)
+        pass.old pass.new result }
 {
-    let at = Name::Waiting {
+    let at = WordId::Waiting {
         thread: pass.thread(),
     };
     let entering = encode_wait(&WaitForm::Entering { object });
-    heap.store(pass, why, Stage::Calm, at, entering);
-    Turn::Pending(Why::Owned { word })
+    heap.store(pass, call, Stage::Settled, at, entering);
+    Progress::Pending(PendingCause::Owned { word })
 }
 
 // The thread owns the monitor: its recursions rise.
 fn monitor_again(
     heap: &Heap,
     pass: &mut Pass,
-    why: &Purpose,
+    call: &CallContext,
     object: u32,
     monitor: u32,
-) -> Turn<Path>
+) -> Progress<Path>
     requires heap { IsOf heap.now pass.old }
     requires object { object < length heap.now.heap.shape.objects }
-    requires due { IsDueOn heap.now pass.old why.now.task
-        (monitor_again_steps why.now (local_of pass.old.known) object monitor) }
+    requires due { IsDueOn heap.now pass.old call.now.task
+        (monitor_again_steps call.now (local_of pass.old.known) object monitor) }
     requires room { length pass.old.known.log < pass.old.limit }
-    ensures { HasRun heap.now (monitor_again_steps why.now (local_of pass.old.known) object monitor)
+    ensures { HasMadeSteps heap.now (monitor_again_steps call.now (local_of pass.old.known) object monitor)
         pass.old pass.new result }
 {
-    let at = Name::Recursions { monitor };
-    let stage = Stage::Ahead { object };
-    let recursions = heap.load(pass, why, Stage::Calm, at);
-    heap.store(pass, why, stage, at, recursions + 1);
-    record(heap, pass, why, stage, object, Path::MonitorAgain)
+    let at = WordId::Recursions { monitor };
+    let stage = Stage::RecursionsRaised { object };
+    let recursions = heap.load(pass, call, Stage::Settled, at);
+    heap.store(pass, call, stage, at, recursions + 1);
+    push_record(heap, pass, call, stage, object, Path::MonitorAgain)
 }
 
 // A lock record of the thread owns the monitor: the thread itself becomes the owner, with one recursion.
-fn monitor_own(heap: &Heap, pass: &mut Pass, why: &Purpose, object: u32, monitor: u32) -> Turn<Path>
+fn monitor_own(
+    heap: &Heap,
+    pass: &mut Pass,
+    call: &CallContext,
+    object: u32,
+    monitor: u32,
+) -> Progress<Path>
     requires heap { IsOf heap.now pass.old }
     requires object { object < length heap.now.heap.shape.objects }
-    requires due { IsDueOn heap.now pass.old why.now.task
-        (monitor_own_steps why.now (local_of pass.old.known) object monitor) }
+    requires due { IsDueOn heap.now pass.old call.now.task
+        (monitor_own_steps call.now (local_of pass.old.known) object monitor) }
     requires room { length pass.old.known.log < pass.old.limit }
-    ensures { HasRun heap.now (monitor_own_steps why.now (local_of pass.old.known) object monitor)
+    ensures { HasMadeSteps heap.now (monitor_own_steps call.now (local_of pass.old.known) object monitor)
         pass.old pass.new result }
 {
     let thread = pass.thread();
     let word = encode_owner(&OwnerForm::ByThread { thread });
-    let stage = Stage::TakesOver { object };
-    heap.store(pass, why, stage, Name::Owner { monitor }, word);
-    let ahead = Stage::Ahead { object };
-    heap.store(pass, why, ahead, Name::Recursions { monitor }, 1);
-    record(heap, pass, why, ahead, object, Path::MonitorAgain)
+    let stage = Stage::OwnerConverted { object };
+    heap.store(pass, call, stage, WordId::Owner { monitor }, word);
+    let ahead = Stage::RecursionsRaised { object };
+    heap.store(pass, call, ahead, WordId::Recursions { monitor }, 1);
+    push_record(heap, pass, call, ahead, object, Path::MonitorAgain)
 }
 
 // An enter by the owner word that the exchange found, which has this form.
-fn enter_by(
+fn enter_by_owner(
     heap: &Heap,
     pass: &mut Pass,
-    why: &Purpose,
+    call: &CallContext,
     object: u32,
     monitor: u32,
     found: u64,
     form: OwnerForm,
-) -> Turn<Path>
+) -> Progress<Path>
     requires heap { IsOf heap.now pass.old }
     requires object { object < length heap.now.heap.shape.objects }
-    requires due { IsDueOn heap.now pass.old why.now.task
-        (monitor_enter_at (Some form) why.now (local_of pass.old.known) object monitor found) }
+    requires due { IsDueOn heap.now pass.old call.now.task
+        (monitor_enter_at (Some form) call.now (local_of pass.old.known) object monitor found) }
     requires room { length pass.old.known.log < pass.old.limit }
-    ensures { HasRun heap.now (monitor_enter_at (Some form) why.now (local_of pass.old.known) object monitor found)
+    ensures { HasMadeSteps heap.now (monitor_enter_at (Some form) call.now (local_of pass.old.known) object monitor found)
         pass.old pass.new result }
 {
     match form {
         OwnerForm::Free => {
-            let stage = Stage::Grabs { object };
-            record(heap, pass, why, stage, object, Path::MonitorFirst)
+            let stage = Stage::MonitorAcquired { object };
+            push_record(heap, pass, call, stage, object, Path::MonitorFirst)
         }
         OwnerForm::ByThread { thread } => {
             if thread == pass.thread() {
-                monitor_again(heap, pass, why, object, monitor)
+                monitor_again(heap, pass, call, object, monitor)
             } else {
-                owned(heap, pass, why, object, found)
+                pend_on_owner(heap, pass, call, object, found)
             }
         }
         OwnerForm::ByRecord { thread, .. } => {
             if thread == pass.thread() {
-                monitor_own(heap, pass, why, object, monitor)
+                monitor_own(heap, pass, call, object, monitor)
             } else {
-                owned(heap, pass, why, object, found)
+                pend_on_owner(heap, pass, call, object, found)
             }
         }
     }
@@ -148,26 +161,26 @@ fn enter_by(
 pub fn monitor_enter(
     heap: &Heap,
     pass: &mut Pass,
-    why: &Purpose,
+    call: &CallContext,
     object: u32,
     monitor: u32,
-) -> Turn<Path>
+) -> Progress<Path>
     requires heap { IsOf heap.now pass.old }
     requires object { object < length heap.now.heap.shape.objects }
-    requires due { IsDueOn heap.now pass.old why.now.task
-        (monitor_enter_steps why.now (local_of pass.old.known) object monitor) }
+    requires due { IsDueOn heap.now pass.old call.now.task
+        (monitor_enter_steps call.now (local_of pass.old.known) object monitor) }
     requires room { length pass.old.known.log < pass.old.limit }
-    ensures { HasRun heap.now (monitor_enter_steps why.now (local_of pass.old.known) object monitor)
+    ensures { HasMadeSteps heap.now (monitor_enter_steps call.now (local_of pass.old.known) object monitor)
         pass.old pass.new result }
 {
     let thread = pass.thread();
-    let stage = Stage::Grabs { object };
-    let at = Name::Owner { monitor };
+    let stage = Stage::MonitorAcquired { object };
+    let at = WordId::Owner { monitor };
     let free = encode_owner(&OwnerForm::Free);
     let word = encode_owner(&OwnerForm::ByThread { thread });
-    let found = heap.exchange(pass, why, stage, at, free, word);
+    let found = heap.exchange(pass, call, stage, at, free, word);
     match owner_of_word(found) {
-        Some(form) => enter_by(heap, pass, why, object, monitor, found, form),
+        Some(form) => enter_by_owner(heap, pass, call, object, monitor, found, form),
         None => unreachable!(),
     }
 }

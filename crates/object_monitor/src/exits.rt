@@ -1,15 +1,15 @@
 //! How a thread leaves a hold by the monitor.
 ghost use Rattle.std.specs.Prelude.{◌≡◌, ◌<◌, length, Some};
 ghost use Rattle.core_world.specs.Locks.{hold_count};
-ghost use Rattle.core_world.specs.Threads.Known.{local_of};
+ghost use Rattle.core_world.specs.Threads.ThreadView.{local_of};
 ghost use Rattle.core_world.specs.Trees.MonitorSteps.{own_steps, release_steps, monitor_exit_steps};
 ghost use Rattle.core_world.specs.Trees.Plans.{top_place};
-ghost use Rattle.heap_table.specs.Parts.{IsDueOn, HasRun};
+ghost use Rattle.heap_table.specs.Parts.{IsDueOn, HasMadeSteps};
 ghost use Rattle.heap_table.specs.Seen.{IsOf};
 ghost use Rattle.object_monitor.specs.inner.ExitParts.{lowered_exit, counted_exit};
 
-use core_world::{Name, Stage};
-use heap_table::{Heap, Pass, Purpose, owner_of_word};
+use core_world::{Stage, WordId};
+use heap_table::{CallContext, Heap, Pass, owner_of_word};
 use mark_word::{OwnerForm, encode_owner};
 use plain_monitor::Entry;
 use stack_lock::{clear, leave, top_place};
@@ -18,11 +18,18 @@ use stack_lock::{clear, leave, top_place};
 /// this form.
 ///
 /// In OpenJDK 8: `ObjectMonitor::exit` and `CHECK_OWNER` (`objectMonitor.cpp`).
-pub fn own(heap: &Heap, pass: &mut Pass, why: &Purpose, object: u32, monitor: u32, form: OwnerForm)
+pub fn own(
+    heap: &Heap,
+    pass: &mut Pass,
+    call: &CallContext,
+    object: u32,
+    monitor: u32,
+    form: OwnerForm,
+)
     requires heap { IsOf heap.now pass.old }
-    requires due { IsDueOn heap.now pass.old why.now.task
-        (own_steps (Some form) why.now (local_of pass.old.known) object monitor) }
-    ensures run { HasRun heap.now (own_steps (Some form) why.now (local_of pass.old.known) object monitor)
+    requires due { IsDueOn heap.now pass.old call.now.task
+        (own_steps (Some form) call.now (local_of pass.old.known) object monitor) }
+    ensures run { HasMadeSteps heap.now (own_steps (Some form) call.now (local_of pass.old.known) object monitor)
         pass.old pass.new result }
     ensures kept { local_of pass.new.known ≡ local_of pass.old.known }
 {
@@ -31,37 +38,37 @@ pub fn own(heap: &Heap, pass: &mut Pass, why: &Purpose, object: u32, monitor: u3
         OwnerForm::ByRecord { .. } => {
             let thread = pass.thread();
             let word = encode_owner(&OwnerForm::ByThread { thread });
-            let stage = Stage::TakesOver { object };
-            heap.store(pass, why, stage, Name::Owner { monitor }, word);
-            let at = Name::Recursions { monitor };
-            heap.store(pass, why, Stage::Calm, at, 0);
+            let stage = Stage::OwnerConverted { object };
+            heap.store(pass, call, stage, WordId::Owner { monitor }, word);
+            let at = WordId::Recursions { monitor };
+            heap.store(pass, call, Stage::Settled, at, 0);
         }
         OwnerForm::Free => unreachable!(),
     }
 }
 
 // The last hold: the owner word is cleared, which logs the Exit, and then the hold word.
-fn release(heap: &Heap, pass: &mut Pass, why: &Purpose, object: u32, monitor: u32, place: u32)
+fn release(heap: &Heap, pass: &mut Pass, call: &CallContext, object: u32, monitor: u32, place: u32)
     requires heap { IsOf heap.now pass.old }
     requires place { place ≡ top_place object pass.old.known.holds }
-    requires due { IsDueOn heap.now pass.old why.now.task
-        (release_steps why.now (local_of pass.old.known) object monitor) }
+    requires due { IsDueOn heap.now pass.old call.now.task
+        (release_steps call.now (local_of pass.old.known) object monitor) }
     requires room { length pass.old.known.log < pass.old.limit }
-    ensures { HasRun heap.now (release_steps why.now (local_of pass.old.known) object monitor)
+    ensures { HasMadeSteps heap.now (release_steps call.now (local_of pass.old.known) object monitor)
         pass.old pass.new result }
 {
     let stage = Stage::Exits { object, place };
-    let at = Name::Owner { monitor };
+    let at = WordId::Owner { monitor };
     let word = encode_owner(&OwnerForm::Free);
-    heap.log_store(pass, why, stage, at, word, Entry::Exit { object });
-    clear(heap, pass, why, place);
+    heap.log_store(pass, call, stage, at, word, Entry::Exit { object });
+    clear(heap, pass, call, place);
 }
 
 // Another hold is left: the recursions, which are this word, are lowered before the hold word is cleared.
 fn lower(
     heap: &Heap,
     pass: &mut Pass,
-    why: &Purpose,
+    call: &CallContext,
     object: u32,
     monitor: u32,
     place: u32,
@@ -70,34 +77,41 @@ fn lower(
     requires heap { IsOf heap.now pass.old }
     requires place { place ≡ top_place object pass.old.known.holds }
     requires some { 0 < recursions }
-    requires due { IsDueOn heap.now pass.old why.now.task
-        (lowered_exit why.now (local_of pass.old.known) object monitor recursions) }
+    requires due { IsDueOn heap.now pass.old call.now.task
+        (lowered_exit call.now (local_of pass.old.known) object monitor recursions) }
     requires room { length pass.old.known.log < pass.old.limit }
-    ensures { HasRun heap.now (lowered_exit why.now (local_of pass.old.known) object monitor recursions)
+    ensures { HasMadeSteps heap.now (lowered_exit call.now (local_of pass.old.known) object monitor recursions)
         pass.old pass.new result }
 {
-    let stage = Stage::Behind { object };
-    let at = Name::Recursions { monitor };
-    heap.store(pass, why, stage, at, recursions - 1);
-    leave(heap, pass, why, object, place);
+    let stage = Stage::RecursionsLowered { object };
+    let at = WordId::Recursions { monitor };
+    heap.store(pass, call, stage, at, recursions - 1);
+    leave(heap, pass, call, object, place);
 }
 
 // The thread owns the monitor: the recursions say whether this is its last hold.
-fn leave_owned(heap: &Heap, pass: &mut Pass, why: &Purpose, object: u32, monitor: u32, place: u32)
+fn leave_owned(
+    heap: &Heap,
+    pass: &mut Pass,
+    call: &CallContext,
+    object: u32,
+    monitor: u32,
+    place: u32,
+)
     requires heap { IsOf heap.now pass.old }
     requires place { place ≡ top_place object pass.old.known.holds }
-    requires due { IsDueOn heap.now pass.old why.now.task
-        (counted_exit why.now (local_of pass.old.known) object monitor) }
+    requires due { IsDueOn heap.now pass.old call.now.task
+        (counted_exit call.now (local_of pass.old.known) object monitor) }
     requires room { length pass.old.known.log < pass.old.limit }
-    ensures { HasRun heap.now (counted_exit why.now (local_of pass.old.known) object monitor)
+    ensures { HasMadeSteps heap.now (counted_exit call.now (local_of pass.old.known) object monitor)
         pass.old pass.new result }
 {
-    let at = Name::Recursions { monitor };
-    let recursions = heap.load(pass, why, Stage::Calm, at);
+    let at = WordId::Recursions { monitor };
+    let recursions = heap.load(pass, call, Stage::Settled, at);
     if recursions == 0 {
-        release(heap, pass, why, object, monitor, place);
+        release(heap, pass, call, object, monitor, place);
     } else {
-        lower(heap, pass, why, object, monitor, place, recursions);
+        lower(heap, pass, call, object, monitor, place, recursions);
     }
 }
 
@@ -109,22 +123,22 @@ fn leave_owned(heap: &Heap, pass: &mut Pass, why: &Purpose, object: u32, monitor
 /// itself became it before, with no recursions.
 ///
 /// In OpenJDK 8: `ObjectMonitor::exit` (`objectMonitor.cpp`). Nobody is woken.
-pub fn monitor_exit(heap: &Heap, pass: &mut Pass, why: &Purpose, object: u32, monitor: u32)
+pub fn monitor_exit(heap: &Heap, pass: &mut Pass, call: &CallContext, object: u32, monitor: u32)
     requires heap { IsOf heap.now pass.old }
     requires object { object < length heap.now.heap.shape.objects }
     requires held { 0 < hold_count object pass.old.known.holds }
-    requires due { IsDueOn heap.now pass.old why.now.task
-        (monitor_exit_steps why.now (local_of pass.old.known) object monitor) }
+    requires due { IsDueOn heap.now pass.old call.now.task
+        (monitor_exit_steps call.now (local_of pass.old.known) object monitor) }
     requires room { length pass.old.known.log < pass.old.limit }
-    ensures { HasRun heap.now (monitor_exit_steps why.now (local_of pass.old.known) object monitor)
+    ensures { HasMadeSteps heap.now (monitor_exit_steps call.now (local_of pass.old.known) object monitor)
         pass.old pass.new result }
 {
     let place = top_place(pass, object);
-    let owner = heap.load(pass, why, Stage::Calm, Name::Owner { monitor });
+    let owner = heap.load(pass, call, Stage::Settled, WordId::Owner { monitor });
     match owner_of_word(owner) {
         Some(form) => {
-            own(heap, pass, why, object, monitor, form);
-            leave_owned(heap, pass, why, object, monitor, place);
+            own(heap, pass, call, object, monitor, form);
+            leave_owned(heap, pass, call, object, monitor, place);
         }
         None => unreachable!(),
     }

@@ -1,16 +1,16 @@
 //! How a thread that owns a monitor notifies those that wait on it: the one that has waited longest comes first.
 ghost use Rattle.std.specs.Prelude.{◌≡◌, ◌<◌, ◌≤◌, length, take, Some};
 ghost use Rattle.plain_monitor.specs.Limits.{most_threads};
-ghost use Rattle.core_world.specs.Threads.Known.{local_of};
+ghost use Rattle.core_world.specs.Threads.ThreadView.{local_of};
 ghost use Rattle.core_world.specs.Trees.WaitSteps.{look_steps, waiters, by_age};
 ghost use Rattle.core_world.specs.Trees.WaitSteps.{monitor_notify_steps, monitor_notify_all_steps};
-ghost use Rattle.heap_table.specs.Parts.{IsDueOn, HasRun};
+ghost use Rattle.heap_table.specs.Parts.{IsDueOn, HasMadeSteps};
 ghost use Rattle.heap_table.specs.Seen.{IsOf};
 ghost use Rattle.object_monitor.specs.inner.NotifyParts.{first_of, older_of, oldest_with, notify_one, notify_those};
 
 use crate::waits::publish;
-use core_world::{Name, Stage};
-use heap_table::{Heap, Pass, Purpose, wait_of_word};
+use core_world::{Stage, WordId};
+use heap_table::{CallContext, Heap, Pass, wait_of_word};
 use mark_word::{WaitForm, encode_wait};
 use plain_monitor::Entry;
 use plain_monitor::limits::THREADS;
@@ -19,16 +19,16 @@ use plain_monitor::limits::THREADS;
 const ALL: usize = THREADS as usize;
 
 // The waiting words of all threads, by rising number.
-fn look(heap: &Heap, pass: &mut Pass, why: &Purpose) -> [u64; ALL]
+fn look(heap: &Heap, pass: &mut Pass, call: &CallContext) -> [u64; ALL]
     requires heap { IsOf heap.now pass.old }
-    requires due { IsDueOn heap.now pass.old why.now.task (look_steps why.now heap.now.heap.shape.threads) }
-    ensures { HasRun heap.now (look_steps why.now heap.now.heap.shape.threads)
+    requires due { IsDueOn heap.now pass.old call.now.task (look_steps call.now heap.now.heap.shape.threads) }
+    ensures { HasMadeSteps heap.now (look_steps call.now heap.now.heap.shape.threads)
         pass.old pass.new (take heap.now.heap.shape.threads result) }
 {
     let mut words = [0; ALL];
     for thread in 0..heap.shape().threads() {
-        let at = Name::Waiting { thread };
-        words[thread as usize] = heap.load(pass, why, Stage::Calm, at);
+        let at = WordId::Waiting { thread };
+        words[thread as usize] = heap.load(pass, call, Stage::Settled, at);
     }
     words
 }
@@ -83,29 +83,30 @@ fn oldest(words: &[u64; ALL], count: u32, object: u32) -> Option<(u32, u64)>
 fn notify_one(
     heap: &Heap,
     pass: &mut Pass,
-    why: &Purpose,
+    call: &CallContext,
     object: u32,
     waiter: Option<(u32, u64)>,
 ) -> Option<u32>
     requires heap { IsOf heap.now pass.old }
     requires object { object < length heap.now.heap.shape.objects }
-    requires due { IsDueOn heap.now pass.old why.now.task
-        (notify_one waiter why.now (local_of pass.old.known) object) }
+    requires due { IsDueOn heap.now pass.old call.now.task
+        (notify_one waiter call.now (local_of pass.old.known) object) }
     requires room { length pass.old.known.log < pass.old.limit }
-    ensures { HasRun heap.now (notify_one waiter why.now (local_of pass.old.known) object) pass.old pass.new result }
+    ensures { HasMadeSteps heap.now (notify_one waiter call.now (local_of pass.old.known) object)
+        pass.old pass.new result }
 {
     match waiter {
         Some((thread, _)) => {
             let word = encode_wait(&WaitForm::Notified { object });
             let woken = Some(thread);
-            let at = Name::Waiting { thread };
+            let at = WordId::Waiting { thread };
             let entry = Entry::Notify { object, woken };
-            heap.log_store(pass, why, Stage::Calm, at, word, entry);
+            heap.log_store(pass, call, Stage::Settled, at, word, entry);
             woken
         }
         None => {
             let woken = None;
-            publish(heap, pass, why, Entry::Notify { object, woken });
+            publish(heap, pass, call, Entry::Notify { object, woken });
             woken
         }
     }
@@ -118,19 +119,19 @@ fn notify_one(
 /// `None` says that no thread waited on the object, and that a Notify of none is logged.
 ///
 /// In OpenJDK 8: `ObjectMonitor::notify` (`objectMonitor.cpp`).
-pub fn monitor_notify(heap: &Heap, pass: &mut Pass, why: &Purpose, object: u32) -> Option<u32>
+pub fn monitor_notify(heap: &Heap, pass: &mut Pass, call: &CallContext, object: u32) -> Option<u32>
     requires heap { IsOf heap.now pass.old }
     requires object { object < length heap.now.heap.shape.objects }
-    requires due { IsDueOn heap.now pass.old why.now.task
-        (monitor_notify_steps why.now (local_of pass.old.known) heap.now.heap.shape.threads object) }
+    requires due { IsDueOn heap.now pass.old call.now.task
+        (monitor_notify_steps call.now (local_of pass.old.known) heap.now.heap.shape.threads object) }
     requires room { length pass.old.known.log < pass.old.limit }
-    ensures { HasRun heap.now
-        (monitor_notify_steps why.now (local_of pass.old.known) heap.now.heap.shape.threads object)
+    ensures { HasMadeSteps heap.now
+        (monitor_notify_steps call.now (local_of pass.old.known) heap.now.heap.shape.threads object)
         pass.old pass.new result }
 {
-    let words = look(heap, pass, why);
+    let words = look(heap, pass, call);
     let waiter = oldest(&words, heap.shape().threads(), object);
-    notify_one(heap, pass, why, object, waiter)
+    notify_one(heap, pass, call, object, waiter)
 }
 
 // Notifies each waiter by these waiting words, of whom `first` is the oldest. The word of one who is next to be
@@ -138,7 +139,7 @@ pub fn monitor_notify(heap: &Heap, pass: &mut Pass, why: &Purpose, object: u32) 
 fn notify_those(
     heap: &Heap,
     pass: &mut Pass,
-    why: &Purpose,
+    call: &CallContext,
     object: u32,
     words: [u64; ALL],
     first: (u32, u64),
@@ -146,11 +147,11 @@ fn notify_those(
     requires heap { IsOf heap.now pass.old }
     requires object { object < length heap.now.heap.shape.objects }
     requires first { first_of (by_age (waiters object 0 (take heap.now.heap.shape.threads words))) ≡ Some first }
-    requires due { IsDueOn heap.now pass.old why.now.task
-        (notify_those (by_age (waiters object 0 (take heap.now.heap.shape.threads words))) why.now object) }
+    requires due { IsDueOn heap.now pass.old call.now.task
+        (notify_those (by_age (waiters object 0 (take heap.now.heap.shape.threads words))) call.now object) }
     requires room { length pass.old.known.log < pass.old.limit }
-    ensures { HasRun heap.now
-        (notify_those (by_age (waiters object 0 (take heap.now.heap.shape.threads words))) why.now object)
+    ensures { HasMadeSteps heap.now
+        (notify_those (by_age (waiters object 0 (take heap.now.heap.shape.threads words))) call.now object)
         pass.old pass.new result }
 {
     let count = heap.shape().threads();
@@ -164,14 +165,14 @@ fn notify_those(
             object,
             notified: woken,
         };
-        heap.store(pass, why, stage, Name::Waiting { thread }, word);
+        heap.store(pass, call, stage, WordId::Waiting { thread }, word);
         words[next as usize] = 0;
         thread = next;
         woken += 1;
     }
-    let at = Name::Waiting { thread };
+    let at = WordId::Waiting { thread };
     let entry = Entry::NotifyAll { object, woken };
-    heap.log_store(pass, why, Stage::Calm, at, word, entry);
+    heap.log_store(pass, call, Stage::Settled, at, word, entry);
     woken
 }
 
@@ -182,21 +183,21 @@ fn notify_those(
 /// many is logged.
 ///
 /// In OpenJDK 8: `ObjectMonitor::notifyAll` (`objectMonitor.cpp`).
-pub fn monitor_notify_all(heap: &Heap, pass: &mut Pass, why: &Purpose, object: u32) -> u32
+pub fn monitor_notify_all(heap: &Heap, pass: &mut Pass, call: &CallContext, object: u32) -> u32
     requires heap { IsOf heap.now pass.old }
     requires object { object < length heap.now.heap.shape.objects }
-    requires due { IsDueOn heap.now pass.old why.now.task
-        (monitor_notify_all_steps why.now (local_of pass.old.known) heap.now.heap.shape.threads object) }
+    requires due { IsDueOn heap.now pass.old call.now.task
+        (monitor_notify_all_steps call.now (local_of pass.old.known) heap.now.heap.shape.threads object) }
     requires room { length pass.old.known.log < pass.old.limit }
-    ensures { HasRun heap.now
-        (monitor_notify_all_steps why.now (local_of pass.old.known) heap.now.heap.shape.threads object)
+    ensures { HasMadeSteps heap.now
+        (monitor_notify_all_steps call.now (local_of pass.old.known) heap.now.heap.shape.threads object)
         pass.old pass.new result }
 {
-    let words = look(heap, pass, why);
+    let words = look(heap, pass, call);
     match oldest(&words, heap.shape().threads(), object) {
-        Some(first) => notify_those(heap, pass, why, object, words, first),
+        Some(first) => notify_those(heap, pass, call, object, words, first),
         None => {
-            publish(heap, pass, why, Entry::NotifyAll { object, woken: 0 });
+            publish(heap, pass, call, Entry::NotifyAll { object, woken: 0 });
             0
         }
     }

@@ -1,12 +1,14 @@
 -- What the instructions of threads make, one after another.
-use Rattle.std.proofs.Common.{◌≡◌, ℕ, zero, suc, ◌+◌, ◌*◌, ◌<◌, ◌≤◌, ◌||◌, nat_lt, max, Bool, true, false, if◌then◌else◌, List, [], ◌∷◌, ◌++◌, length, replicate, get_or, slice_get, drop, Some, length-append, refl, ◌∙◌, arith}
+use Rattle.std.proofs.Common.{◌≡◌, ℕ, zero, suc, ◌+◌, ◌*◌, ◌<◌, ◌≤◌, ◌||◌, nat_lt, max, Bool, true, false, if◌then◌else◌, List, []}
+use Rattle.std.proofs.Common.{◌∷◌, ◌++◌, length, replicate, get_or, slice_get, drop, Some, length-append, refl, ◌∙◌, arith}
 use Rattle.std.proofs.lemmas.List.{length-replicate}
 use Rattle.std.proofs.Math.Numerals.{add-one}
 use Rattle.std.proofs.Math.Seq.{drop-cons}
 use Rattle.std.specs.List.{list_any, AllByRecursion}
 use Rattle.plain_monitor.specs.Limits.{most_made}
 use Rattle.object_program.specs.Limits.{most_slots, most_objects, most_threads}
-use Rattle.object_program.specs.Program.{ProgramText, total_of, declared_total, made_total, made_slots, objects_total, shape_from, shape_of, slots_of_class, class_of, slots_of, is_new, has_new, slots_made, most_in_code, most_in}
+use Rattle.object_program.specs.Program.{ProgramText, total_of, declared_total, made_total, made_slots, objects_total, shape_from, shape_of}
+use Rattle.object_program.specs.Program.{slots_of_class, class_in_program, slots_of, is_new, has_new, slots_made, most_in_code, most_in}
 use Rattle.object_program.specs.Valid.{IsProgram}
 use Rattle.object_program.specs.declared.program.ClassDef.{ClassDef}
 use Rattle.object_program.specs.declared.program.Code.{Code}
@@ -17,10 +19,12 @@ use Rattle.object_program.specs.declared.program.ThreadDef.{ThreadDef}
 dropped : {A : Type 0} (xs : List A) (i : ℕ) (d : A) → i < length xs → drop i xs ≡ get_or xs i d ∷ drop (i + 1) xs
 dropped xs i d h = rw add-one (drop-cons xs i d h)
 
-pub any_new_step : (cs : List Code) (i : ℕ) (d : Code) → i < length cs → list_any is_new (drop i cs) ≡ (is_new (get_or cs i d) || list_any is_new (drop (i + 1) cs))
+pub any_new_step : (cs : List Code) (i : ℕ) (d : Code) → i < length cs
+    → list_any is_new (drop i cs) ≡ (is_new (get_or cs i d) || list_any is_new (drop (i + 1) cs))
 any_new_step cs i d h = rw (dropped cs i d h) refl
 
-pub has_new_step : (ts : List ThreadDef) (i : ℕ) (d : ThreadDef) → i < length ts → has_new (drop i ts) ≡ (list_any is_new (get_or ts i d).code || has_new (drop (i + 1) ts))
+pub has_new_step : (ts : List ThreadDef) (i : ℕ) (d : ThreadDef) → i < length ts
+    → has_new (drop i ts) ≡ (list_any is_new (get_or ts i d).code || has_new (drop (i + 1) ts))
 has_new_step ts i d h = rw (dropped ts i d h) refl
 
 pub most_in_code_step : (classes : List ClassDef) (cs : List Code) (i : ℕ) (d : Code) → i < length cs
@@ -60,12 +64,12 @@ before_others [] ys k l = absurd (omega arith)
 before_others (x ∷ xs) ys zero l = refl
 before_others (x ∷ xs) ys (suc k) l = before_others xs ys k (omega arith)
 
-behind_others : {X : Type 0} (xs : List X) (n : ℕ) (y : X) (k : ℕ) → length xs ≤ k → k < length xs + n → slice_get (xs ++ replicate n y) k ≡ Some y
-behind_others [] zero y k l m = absurd (omega arith)
-behind_others [] (suc n) y zero l m = refl
-behind_others [] (suc n) y (suc k) l m = behind_others [] n y k (omega arith) (omega arith)
-behind_others (x ∷ xs) n y zero l m = absurd (omega arith)
-behind_others (x ∷ xs) n y (suc k) l m = behind_others xs n y k (omega arith) (omega arith)
+after_others : {X : Type 0} (xs : List X) (n : ℕ) (y : X) (k : ℕ) → length xs ≤ k → k < length xs + n → slice_get (xs ++ replicate n y) k ≡ Some y
+after_others [] zero y k l m = absurd (omega arith)
+after_others [] (suc n) y zero l m = refl
+after_others [] (suc n) y (suc k) l m = after_others [] n y k (omega arith) (omega arith)
+after_others (x ∷ xs) n y zero l m = absurd (omega arith)
+after_others (x ∷ xs) n y (suc k) l m = after_others xs n y k (omega arith) (omega arith)
 
 pub declared_shape : (p : ProgramText) (o : ℕ) → o < declared_total p → slice_get (shape_of p) o ≡ slice_get (shape_from p.classes p.objects) o
 declared_shape p o l =
@@ -75,7 +79,7 @@ declared_shape p o l =
 pub made_shape : (p : ProgramText) (o : ℕ) → declared_total p ≤ o → o < objects_total p → slice_get (shape_of p) o ≡ Some (0, made_slots p)
 made_shape p o l m =
     let total = shape_length p.classes p.objects in
-    behind_others (shape_from p.classes p.objects) (made_total p) (0, made_slots p) o (omega (arith, l, total)) (omega (arith, m, total))
+    after_others (shape_from p.classes p.objects) (made_total p) (0, made_slots p) o (omega (arith, l, total)) (omega (arith, m, total))
 
 -- NO OBJECT HAS MANY SLOTS
 in_class : (classes : List ClassDef) (c : ℕ) → AllByRecursion (λ c. c.slots ≤ most_slots) classes → slots_of_class classes c ≤ most_slots
@@ -104,6 +108,6 @@ made_slots_few p h = threads_few p.classes p.threads h.class_slots
 pub slots_few : (p : ProgramText) (o : ℕ) → IsProgram p → slots_of p o ≤ most_slots
 slots_few p o h = by_test (nat_lt o (declared_total p))
   where
-    by_test : (b : Bool) → (if b then slots_of_class p.classes (class_of p o) else made_slots p) ≤ most_slots
-    by_test true = in_class p.classes (class_of p o) h.class_slots
+    by_test : (b : Bool) → (if b then slots_of_class p.classes (class_in_program p o) else made_slots p) ≤ most_slots
+    by_test true = in_class p.classes (class_in_program p o) h.class_slots
     by_test false = made_slots_few p h

@@ -1,5 +1,6 @@
 -- Declarations of objects, one after another.
-use Rattle.std.proofs.Common.{◌≡◌, ℕ, suc, ◌+◌, ◌-◌, ◌<◌, ◌≤◌, if◌then◌else◌, List, [], ◌∷◌, length, get_or, slice_get, drop, refl, sym, ap, ◌∙◌, Some, None, arith}
+use Rattle.std.proofs.Common.{◌≡◌, ℕ, suc, ◌+◌, ◌-◌, ◌<◌, ◌≤◌, if◌then◌else◌, List, [], ◌∷◌, length}
+use Rattle.std.proofs.Common.{get_or, slice_get, drop, refl, sym, ap, ◌∙◌, Some, None, arith}
 use Rattle.std.proofs.lemmas.Option.{none-some, same_Some}
 use Rattle.std.proofs.Math.Numerals.{add-one}
 use Rattle.std.proofs.Math.Seq.{drop-cons}
@@ -29,7 +30,8 @@ last_step e f ds =
     ap (slice_get (e ∷ f ∷ ds)) place
 
 -- declarations stand for neighbouring numbers, so that the last one tells how many objects there are
-pub last_total : (classes n : ℕ) (ds : List ObjectDef) (d : ObjectDef) → AreObjects classes n ds → Some d ≡ slice_get ds (length ds - 1) → d.first + d.size ≡ n + total_of ds
+pub last_total : (classes n : ℕ) (ds : List ObjectDef) (d : ObjectDef) → AreObjects classes n ds
+    → Some d ≡ slice_get ds (length ds - 1) → d.first + d.size ≡ n + total_of ds
 last_total classes n [] d h is = absurd (none-some d (sym is))
 last_total classes n (e ∷ []) d h is = let same : d ≡ e = same_Some d e is in rw same (omega (arith, h.0.1))
 last_total classes n (e ∷ f ∷ ds) d h is = omega (arith, last_total classes (n + e.size) (f ∷ ds) d h.1 (is ∙ last_step e f ds))

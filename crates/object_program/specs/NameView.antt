@@ -6,7 +6,7 @@ use Rattle.object_program.specs.Name.{is_name}
 abbrev pub name_bytes : Inside → List ℕ
 name_bytes a = take a.length a.bytes
 
--- the bytes are a name, and zeros stand behind them
+-- the bytes are a name, and zeros stand after them
 pub record IsKept (a : Inside) : Type 0 where
   pub within : a.length ≤ length a.bytes
   pub name : IsTrue (is_name (name_bytes a))

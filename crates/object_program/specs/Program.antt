@@ -1,5 +1,6 @@
 -- A program as contracts see it, and what its numbers stand for.
-use Rattle.std.specs.Prelude.{ℕ, ◌+◌, ◌-◌, ◌*◌, max, Bool, true, false, ◌&&◌, nat_le, nat_lt, if◌then◌else◌, List, [], ◌∷◌, ◌++◌, length, replicate, slice_get, Option, Some, None}
+use Rattle.std.specs.Prelude.{ℕ, ◌+◌, ◌-◌, ◌*◌, max, Bool, true, false, ◌&&◌, nat_le, nat_lt, if◌then◌else◌}
+use Rattle.std.specs.Prelude.{List, [], ◌∷◌, ◌++◌, length, replicate, slice_get, Option, Some, None}
 use Rattle.std.specs.List.{flat_map, list_any}
 use Rattle.plain_monitor.specs.Limits.{most_made}
 use Rattle.plain_monitor.specs.Made.{Numbering}
@@ -90,12 +91,12 @@ abbrev pub class_from : List ObjectDef → ℕ → ℕ
 class_from [] o = 0
 class_from (d ∷ ds) o = if has_object d o then d.class else class_from ds o
 
-abbrev pub class_of : ProgramText → ℕ → ℕ
-class_of p o = class_from p.objects o
+abbrev pub class_in_program : ProgramText → ℕ → ℕ
+class_in_program p o = class_from p.objects o
 
 -- the slots of a declared object, and of each other one
 abbrev pub slots_of : ProgramText → ℕ → ℕ
-slots_of p o = if nat_lt o (declared_total p) then slots_of_class p.classes (class_of p o) else made_slots p
+slots_of p o = if nat_lt o (declared_total p) then slots_of_class p.classes (class_in_program p o) else made_slots p
 
 -- the class of each declared object, by its number
 abbrev pub classes_from : List ObjectDef → List ℕ

@@ -136,7 +136,7 @@ fn is_name(bytes: &[u8]) -> bool
     }
 }
 
-/// Whether the byte and those behind it are a name.
+/// Whether the byte and those after it are a name.
 fn begins_name(first: u8, rest: &[u8]) -> bool
     ensures { result ≡ is_name (first ∷ rest.now) }
 {

@@ -3,7 +3,7 @@
 ghost use Rattle.std.specs.Prelude.{◌≡◌, ◌<◌, ◌≤◌, length, IfOk};
 ghost use Rattle.std.specs.List.{list_any};
 ghost use Rattle.object_program.specs.Limits.{most_objects};
-ghost use Rattle.object_program.specs.Program.{declared_total, objects_total, made_slots, is_new, has_new, slots_made, most_in_code, most_in, class_of, slots_of, place_of, has_object};
+ghost use Rattle.object_program.specs.Program.{declared_total, objects_total, made_slots, is_new, has_new, slots_made, most_in_code, most_in, class_in_program, slots_of, place_of, has_object};
 ghost use Rattle.object_program.specs.Program.{class_from, place_from};
 
 use crate::program::{ClassDef, Code, ObjectDef, Program, ThreadDef};
@@ -46,7 +46,7 @@ impl Program {
     /// The number of the class of declared object `o`.
     pub fn class_of(&self, o: u32) -> u32
         requires { o < declared_total self.now }
-        ensures { result ≡ class_of self.now o }
+        ensures { result ≡ class_in_program self.now o }
     {
         class_among(self.objects.items(), o)
     }

@@ -6,34 +6,34 @@ use Rattle.plain_machine.specs.Machine.{PlainMachine, take}
 use Rattle.plain_machine.specs.Offering.{offered}
 use Rattle.every_outcome.specs.Alone.{goes_alone}
 use Rattle.every_outcome.specs.Fuel.{refuelled, GoesAloneFull}
-use Rattle.outcome_search.specs.Settled.{entry_in, behind_alone, or_else, first_alone, go_on, settled}
+use Rattle.outcome_search.specs.Settled.{entry_in, after_alone, or_else, first_alone, go_on, settled}
 
 -- some thread's entry that goes alone leads to this machine
-pub record IsBehindAlone (m a : PlainMachine) : Type 0 where
+pub record IsAfterAlone (m a : PlainMachine) : Type 0 where
   pub thread : ℕ
   pub entry : Entry
   pub alone : goes_alone m thread entry ≡ true
   pub takes : take m thread entry ≡ Some a
 
-alone_at : (m a : PlainMachine) (t : ℕ) → behind_alone m t ≡ Some a → IsBehindAlone m a
+alone_at : (m a : PlainMachine) (t : ℕ) → after_alone m t ≡ Some a → IsAfterAlone m a
 alone_at m a t h = option_and_then_some _ (entry_in (offered m t)) a h (λ e offers takes. go e (goes_alone m t e) refl takes)
   where
-    go : (e : Entry) (b : Bool) → goes_alone m t e ≡ b → (if goes_alone m t e then take m t e else None) ≡ Some a → IsBehindAlone m a
+    go : (e : Entry) (b : Bool) → goes_alone m t e ≡ b → (if goes_alone m t e then take m t e else None) ≡ Some a → IsAfterAlone m a
     go e true own takes = record { thread = t; entry = e; alone = own; takes = rw own at takes }
     go e false own takes = absurd (none-some a (rw own at takes))
 
-alone_among : (m a : PlainMachine) (t n : ℕ) → first_alone m t n ≡ Some a → IsBehindAlone m a
+alone_among : (m a : PlainMachine) (t n : ℕ) → first_alone m t n ≡ Some a → IsAfterAlone m a
 alone_among m a t zero h = absurd (none-some a h)
-alone_among m a t (suc n) h = go (behind_alone m t) refl h (alone_among m a (t + 1) n)
+alone_among m a t (suc n) h = go (after_alone m t) refl h (alone_among m a (t + 1) n)
   where
-    go : (r : Option PlainMachine) → behind_alone m t ≡ r → or_else r (first_alone m (t + 1) n) ≡ Some a
-        → (first_alone m (t + 1) n ≡ Some a → IsBehindAlone m a) → IsBehindAlone m a
+    go : (r : Option PlainMachine) → after_alone m t ≡ r → or_else r (first_alone m (t + 1) n) ≡ Some a
+        → (first_alone m (t + 1) n ≡ Some a → IsAfterAlone m a) → IsAfterAlone m a
     go (Some b) here takes ih = alone_at m a t (rw (same_Some b a takes) at here)
     go None here takes ih = ih takes
 
--- what holds of a machine, and behind each entry that goes alone with the fuel given back, holds where it has settled
+-- what holds of a machine, and after each entry that goes alone with the fuel given back, holds where it has settled
 pub settles : (P : PlainMachine → Type 0) (fuel steps : ℕ) (m : PlainMachine)
-    → ((m a : PlainMachine) → P m → IsBehindAlone m a → P (refuelled fuel a)) → P m → P (settled fuel steps m)
+    → ((m a : PlainMachine) → P m → IsAfterAlone m a → P (refuelled fuel a)) → P m → P (settled fuel steps m)
 settles P fuel zero m each here = here
 settles P fuel (suc steps) m each here = go (first_alone m 0 (length m.threads)) refl (λ a h. settles P fuel steps (refuelled fuel a) each h)
   where

@@ -1,5 +1,6 @@
 -- A search over the words of machines that went into all of its keys is closed, and so has every end.
-use Rattle.std.proofs.Common.{◌≡◌, ◌⊎◌, inl, inr, ℕ, ◌<◌, ◌≤◌, Bool, true, false, List, length, map, slice_get, Some, option_map, refl, sym, ap, ◌∙◌, subst, arith}
+use Rattle.std.proofs.Common.{◌≡◌, ◌⊎◌, inl, inr, ℕ, ◌<◌, ◌≤◌, Bool, true, false, List, length, map}
+use Rattle.std.proofs.Common.{slice_get, Some, option_map, refl, sym, ap, ◌∙◌, subst, arith}
 use Rattle.std.proofs.lemmas.Bool.{true≢false}
 use Rattle.std.proofs.lemmas.Option.{slice_get_within}
 use Rattle.plain_monitor.specs.declared.entry.Entry.{Entry}
@@ -20,7 +21,7 @@ use Rattle.every_outcome.specs.Led.{IsOver}
 use Rattle.every_outcome.specs.NoHash.{HasNoHash}
 use Rattle.every_outcome.specs.Offers.{bare, StandsFor}
 use Rattle.every_outcome.proofs.EnoughFuel.{found_is_real}
-use Rattle.every_outcome.proofs.FullFuel.{spent_behind, over_is_known}
+use Rattle.every_outcome.proofs.FullFuel.{spent_after, over_is_known}
 use Rattle.every_outcome.proofs.NoHash.{makes_none}
 use Rattle.every_outcome.proofs.Offers.{taken_is_offered}
 use Rattle.every_outcome.proofs.Places.{get_map, get_unmap}
@@ -29,12 +30,12 @@ use Rattle.machine_words.specs.MachineWords.{words_of, machine_of}
 use Rattle.machine_words.proofs.ReadBack.{no_words_of_fuel}
 use Rattle.state_search.specs.Found.{Keys}
 use Rattle.state_search.specs.Search.{Has, IsSearch}
-use Rattle.outcome_search.specs.Settled.{entry_in, behind_next, settled}
+use Rattle.outcome_search.specs.Settled.{entry_in, after_next, settled}
 use Rattle.outcome_search.specs.NextWords.{is_any_spent, key_of, first_key, next_of, next_key}
 use Rattle.outcome_search.specs.Real.{IsLed, IsReal}
 use Rattle.outcome_search.proofs.Chains.{chain}
 use Rattle.outcome_search.proofs.Ways.{HasWay, has_spent}
-use Rattle.outcome_search.proofs.Good.{IsGood, IsGoodKey, key_read, good_first, good_behind, settled_read, all_good}
+use Rattle.outcome_search.proofs.Good.{IsGood, IsGoodKey, key_read, good_first, good_after, settled_read, all_good}
 
 -- the entry that is taken is the one that is offered, where it is no hash
 offered_entry : (made : Offer) (e : Entry) → is_hash e ≡ false → StandsFor made e → entry_in made ≡ Some (bare e)
@@ -45,8 +46,8 @@ offered_entry (offer.Blocked o u) e other h = absurd h
 offered_entry (offer.Waiting o) e other h = absurd h
 offered_entry offer.Ended e other h = absurd h
 
-behind_taken : (p : ProgramText) (fuel : ℕ) (m n : PlainMachine) (t : ℕ) (e : Entry) → IsGood p fuel m → take m t e ≡ Some n → behind_next m t ≡ Some n
-behind_taken p fuel m n t e h takes =
+after_taken : (p : ProgramText) (fuel : ℕ) (m n : PlainMachine) (t : ℕ) (e : Entry) → IsGood p fuel m → take m t e ≡ Some n → after_next m t ≡ Some n
+after_taken p fuel m n t e h takes =
     let offers = offered_entry (offered m t) e (makes_none m n t e h.no_hash takes) (taken_is_offered m n t e h.found.reached takes) in
     rw offers (bare_same m t e ∙ takes)
 
@@ -108,10 +109,10 @@ module _ (p : ProgramText) (fuel steps most : ℕ) (f : Keys) (valid : IsProgram
   next_known k key m n t e at is good takes = go (is_any_spent m) refl
     where
       go : (b : Bool) → is_any_spent m ≡ b → HasSpent n ⊎ IsCoveredFull fuel (map (machine_of p fuel) f.keys) (refuelled fuel n)
-      go true spent = inl (spent_behind m n t e (has_spent m spent) takes)
+      go true spent = inl (spent_after m n t e (has_spent m spent) takes)
       go false alive =
           let leads : next_of fuel steps t m ≡ Some (key_of fuel steps n) =
-          rw alive (ap (option_map (λ z. key_of fuel steps z)) (behind_taken p fuel m n t e good takes)) in
+          rw alive (ap (option_map (λ z. key_of fuel steps z)) (after_taken p fuel m n t e good takes)) in
           let by_key : next_key p fuel steps key t ≡ Some (key_of fuel steps n) =
           subst (λ (z : PlainMachine). next_of fuel steps t z ≡ Some (key_of fuel steps n)) (sym is) leads in
           let k2 = taken m t e n takes in
@@ -120,7 +121,7 @@ module _ (p : ProgramText) (fuel steps most : ℕ) (f : Keys) (valid : IsProgram
           let within : t < length p.threads = omega (arith, slice_get_within m.threads t k2.s k2.at, count) in
           let gone : k < f.gone = omega (arith, slice_get_within f.keys k key at, all) in
           let has = h.found.closed k key gone at t (key_of fuel steps n) within by_key in
-          inr (covered_by p fuel steps f.keys n (settled_read p fuel steps n some (good_behind p fuel m n t e some good takes)) has)
+          inr (covered_by p fuel steps f.keys n (settled_read p fuel steps n some (good_after p fuel m n t e some good takes)) has)
 
   pub closed : IsClosedFull p fuel (map (machine_of p fuel) f.keys)
   closed = record {

@@ -2,22 +2,22 @@
 use Rattle.std.proofs.Common.{◌≡◌, ℕ, suc, ◌+◌, true, false, length, Option, Some, None, is_some, refl}
 use Rattle.std.proofs.lemmas.Bool.{false≢true, true≢false}
 use Rattle.plain_machine.specs.Machine.{PlainMachine}
-use Rattle.outcome_search.specs.Settled.{behind_alone, or_else, first_alone, go_on, settled}
+use Rattle.outcome_search.specs.Settled.{after_alone, or_else, first_alone, go_on, settled}
 use Rattle.outcome_search.specs.inner.Going.{gone_on}
 
 -- where the first thread has no such entry, the next ones decide
-pub first_other : (m : PlainMachine) (t n : ℕ) → is_some (behind_alone m t) ≡ false → first_alone m t (suc n) ≡ first_alone m (t + 1) n
-first_other m t n none = go (behind_alone m t) refl none
+pub first_other : (m : PlainMachine) (t n : ℕ) → is_some (after_alone m t) ≡ false → first_alone m t (suc n) ≡ first_alone m (t + 1) n
+first_other m t n none = go (after_alone m t) refl none
   where
-    go : (r : Option PlainMachine) → behind_alone m t ≡ r → is_some r ≡ false → or_else (behind_alone m t) (first_alone m (t + 1) n) ≡ first_alone m (t + 1) n
+    go : (r : Option PlainMachine) → after_alone m t ≡ r → is_some r ≡ false → or_else (after_alone m t) (first_alone m (t + 1) n) ≡ first_alone m (t + 1) n
     go None e h = rw e refl
     go (Some a) e h = absurd (true≢false h)
 
 -- where it has one, it is the first
-pub first_here : (m : PlainMachine) (t n : ℕ) → is_some (behind_alone m t) ≡ true → first_alone m t (suc n) ≡ behind_alone m t
-first_here m t n some = go (behind_alone m t) refl some
+pub first_here : (m : PlainMachine) (t n : ℕ) → is_some (after_alone m t) ≡ true → first_alone m t (suc n) ≡ after_alone m t
+first_here m t n some = go (after_alone m t) refl some
   where
-    go : (r : Option PlainMachine) → behind_alone m t ≡ r → is_some r ≡ true → or_else (behind_alone m t) (first_alone m (t + 1) n) ≡ behind_alone m t
+    go : (r : Option PlainMachine) → after_alone m t ≡ r → is_some r ≡ true → or_else (after_alone m t) (first_alone m (t + 1) n) ≡ after_alone m t
     go None e h = absurd (false≢true h)
     go (Some a) e h = rw e refl
 

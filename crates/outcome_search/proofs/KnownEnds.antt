@@ -1,5 +1,6 @@
 -- How the machines end that a search found, and what their counts say of every run.
-use Rattle.std.proofs.Common.{◌≡◌, ◌⊎◌, inl, inr, ℕ, zero, suc, ◌+◌, ◌≤◌, Bool, true, false, not, ◌&&◌, cond, if◌then◌else◌, List, [], ◌∷◌, length, map, slice_get, Option, Some, None, refl, sym, ap, ◌∙◌, arith}
+use Rattle.std.proofs.Common.{◌≡◌, ◌⊎◌, inl, inr, ℕ, zero, suc, ◌+◌, ◌≤◌, Bool, true, false, not, ◌&&◌, cond, if◌then◌else◌}
+use Rattle.std.proofs.Common.{List, [], ◌∷◌, length, map, slice_get, Option, Some, None, refl, sym, ap, ◌∙◌, arith}
 use Rattle.std.specs.List.{list_all, list_any}
 use Rattle.std.proofs.lemmas.Bool.{false≢true}
 use Rattle.std.proofs.lemmas.Option.{none-some, same_Some}
@@ -7,7 +8,7 @@ use Rattle.plain_monitor.specs.Limits.{most_fuel}
 use Rattle.plain_monitor.specs.declared.entry.Logged.{Logged}
 use Rattle.object_program.specs.Program.{ProgramText}
 use Rattle.object_program.specs.Valid.{IsProgram}
-use Rattle.plain_machine.specs.declared.call.Mode.{Mode}
+use Rattle.plain_machine.specs.declared.monitor_call.Mode.{Mode}
 use Rattle.plain_machine.specs.Thread.{ThreadState}
 use Rattle.plain_machine.specs.Machine.{PlainMachine, is_live, all_barred, is_stuck}
 use Rattle.plain_machine.specs.Legal.{machine_after}
@@ -147,7 +148,8 @@ none_live : (ss : List ThreadState) → list_all (λ (s : ThreadState). not (is_
 none_live [] h = refl
 none_live (s ∷ ss) h = go (is_live s) refl (none_live ss)
   where
-    go : (b : Bool) → is_live s ≡ b → (list_all (λ (s : ThreadState). not (is_live s)) ss ≡ true → list_any is_live ss ≡ false) → list_any is_live (s ∷ ss) ≡ false
+    go : (b : Bool) → is_live s ≡ b → (list_all (λ (s : ThreadState). not (is_live s)) ss ≡ true → list_any is_live ss ≡ false)
+        → list_any is_live (s ∷ ss) ≡ false
     go true e ih = absurd (false≢true (rw e at h))
     go false e ih = rw e (ih (rw e at h))
 

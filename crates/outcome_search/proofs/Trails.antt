@@ -5,7 +5,7 @@ use Rattle.std.specs.Prelude.{option_and_then, Result, Ok, Err, OnOk}
 use Rattle.plain_monitor.specs.declared.entry.Entry.{Entry}
 use Rattle.plain_monitor.specs.declared.entry.Logged.{Logged}
 use Rattle.plain_machine.specs.Machine.{PlainMachine, take}
-use Rattle.plain_machine.specs.Legal.{behind_all}
+use Rattle.plain_machine.specs.Legal.{after_all}
 use Rattle.outcome_search.specs.Witness.{CountOn}
 use Rattle.outcome_search.specs.inner.Trails.{IsTrail, LeadsOn, stamped}
 
@@ -13,17 +13,17 @@ count_on : (k : ℕ) (xs : List (ℕ × Logged)) (x : ℕ × Logged) → CountOn
 count_on k [] x counts is = (omega (arith, is), tt)
 count_on k (y ∷ ys) x counts is = (counts.0, count_on (k + 1) ys x counts.1 (omega (arith, is)))
 
-one_more : (m a n : PlainMachine) (xs : List (ℕ × Logged)) (x : ℕ × Logged) → behind_all m xs ≡ Some a → take a x.0 x.1.entry ≡ Some n
-    → behind_all m (xs ++ x ∷ []) ≡ Some n
+one_more : (m a n : PlainMachine) (xs : List (ℕ × Logged)) (x : ℕ × Logged) → after_all m xs ≡ Some a → take a x.0 x.1.entry ≡ Some n
+    → after_all m (xs ++ x ∷ []) ≡ Some n
 one_more m a n [] x leads took =
     let first : take m x.0 x.1.entry ≡ Some n = subst (λ (b : PlainMachine). take b x.0 x.1.entry ≡ Some n) (sym (same_Some m a leads)) took in
-    ap (option_and_then (λ b. behind_all b [])) first
+    ap (option_and_then (λ b. after_all b [])) first
 one_more m a n (y ∷ ys) x leads took = go (take m y.0 y.1.entry) refl leads (λ b h. one_more b a n ys x h took)
   where
-    go : (r : Option PlainMachine) → take m y.0 y.1.entry ≡ r → option_and_then (λ b. behind_all b ys) r ≡ Some a
-        → ((b : PlainMachine) → behind_all b ys ≡ Some a → behind_all b (ys ++ x ∷ []) ≡ Some n) → behind_all m ((y ∷ ys) ++ x ∷ []) ≡ Some n
+    go : (r : Option PlainMachine) → take m y.0 y.1.entry ≡ r → option_and_then (λ b. after_all b ys) r ≡ Some a
+        → ((b : PlainMachine) → after_all b ys ≡ Some a → after_all b (ys ++ x ∷ []) ≡ Some n) → after_all m ((y ∷ ys) ++ x ∷ []) ≡ Some n
     go None e h more = absurd (none-some a h)
-    go (Some b) e h more = ap (option_and_then (λ c. behind_all c (ys ++ x ∷ []))) e ∙ more b h
+    go (Some b) e h more = ap (option_and_then (λ c. after_all c (ys ++ x ∷ []))) e ∙ more b h
 
 pub trail_on : (m n : PlainMachine) (xs ys : List (ℕ × Logged)) (t : ℕ) (e : Entry) → take m t e ≡ Some n
     → ys ≡ xs ++ (t, stamped xs e) ∷ [] → LeadsOn m xs n ys

@@ -9,7 +9,7 @@ use Rattle.object_program.specs.Program.{ProgramText}
 use Rattle.plain_machine.specs.Thread.{ThreadState}
 use Rattle.plain_machine.specs.Machine.{PlainMachine, new_machine, take}
 use Rattle.every_outcome.specs.Fuel.{is_spent, refuelled, HasSpent, LeadsFull}
-use Rattle.every_outcome.proofs.FullFuel.{spent_behind, spent_full}
+use Rattle.every_outcome.proofs.FullFuel.{spent_after, spent_full}
 use Rattle.outcome_search.specs.NextWords.{is_any_spent}
 use Rattle.outcome_search.specs.Real.{LeadsRefuelled, IsLed}
 
@@ -54,13 +54,13 @@ led_more fuel (y ∷ xs) m b a x leads takes = (leads.0, leads.1, led_more fuel 
 pub led_first : (p : ProgramText) (fuel : ℕ) → IsLed p fuel (refuelled fuel (new_machine p fuel))
 led_first p fuel = record { entries = []; leads = refl }
 
-pub led_behind : (p : ProgramText) (fuel : ℕ) (m n : PlainMachine) (t : ℕ) (e : Entry) → take m t e ≡ Some n → IsLed p fuel m
+pub led_after : (p : ProgramText) (fuel : ℕ) (m n : PlainMachine) (t : ℕ) (e : Entry) → take m t e ≡ Some n → IsLed p fuel m
     → IsLed p fuel (refuelled fuel n)
-led_behind p fuel m n t e takes led =
+led_after p fuel m n t e takes led =
     let x : ℕ × Logged = (t, record { stamp = 0; entry = e }) in
     record { entries = led.entries ++ x ∷ []; leads = led_more fuel led.entries (refuelled fuel (new_machine p fuel)) m n x led.leads takes }
 
--- entries lead there from the first machine, with the fuel given back behind each, and nobody is spent on the way
+-- entries lead there from the first machine, with the fuel given back after each, and nobody is spent on the way
 pub record HasWay (p : ProgramText) (fuel : ℕ) (m : PlainMachine) : Type 0 where
   pub alive : HasSpent (new_machine p fuel) → ⊥
   pub entries : List (ℕ × Logged)
@@ -74,10 +74,10 @@ first_way p fuel = go (is_any_spent (new_machine p fuel)) refl
     go true e = inl (spent_full fuel (new_machine p fuel) (has_spent (new_machine p fuel) e))
     go false e = inr (record { alive = not_spent (new_machine p fuel) e; entries = []; leads = refl })
 
-pub way_behind : (p : ProgramText) (fuel : ℕ) (m n : PlainMachine) (t : ℕ) (e : Entry) → take m t e ≡ Some n → HasSpent m ⊎ HasWay p fuel m
+pub way_after : (p : ProgramText) (fuel : ℕ) (m n : PlainMachine) (t : ℕ) (e : Entry) → take m t e ≡ Some n → HasSpent m ⊎ HasWay p fuel m
     → HasSpent (refuelled fuel n) ⊎ HasWay p fuel (refuelled fuel n)
-way_behind p fuel m n t e takes (inl spent) = inl (spent_full fuel n (spent_behind m n t e spent takes))
-way_behind p fuel m n t e takes (inr way) = go (is_any_spent n) refl
+way_after p fuel m n t e takes (inl spent) = inl (spent_full fuel n (spent_after m n t e spent takes))
+way_after p fuel m n t e takes (inr way) = go (is_any_spent n) refl
   where
     go : (b : Bool) → is_any_spent n ≡ b → HasSpent (refuelled fuel n) ⊎ HasWay p fuel (refuelled fuel n)
     go true h = inl (spent_full fuel n (has_spent n h))

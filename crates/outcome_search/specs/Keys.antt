@@ -9,7 +9,7 @@ use Rattle.every_outcome.specs.Stands.{AllStand}
 use Rattle.machine_words.specs.MachineWords.{words_of}
 use Rattle.machine_words.specs.Untouched.{IsUntouched}
 
--- a machine of the program, as entries lead to it where all threads have this much fuel again behind each
+-- a machine of the program, as entries lead to it where all threads have this much fuel again after each
 pub record IsFound (p : ProgramText) (fuel : ℕ) (m : PlainMachine) : Type 0 where
   pub program : m.program ≡ p
   pub reached : IsReached m

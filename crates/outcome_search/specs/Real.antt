@@ -3,10 +3,10 @@ use Rattle.std.specs.Prelude.{◌≡◌, ℕ, ◌+◌, ◌*◌, List, [], ◌∷
 use Rattle.plain_monitor.specs.declared.entry.Logged.{Logged}
 use Rattle.object_program.specs.Program.{ProgramText}
 use Rattle.plain_machine.specs.Machine.{PlainMachine, new_machine, take}
-use Rattle.plain_machine.specs.Legal.{behind_all}
+use Rattle.plain_machine.specs.Legal.{after_all}
 use Rattle.every_outcome.specs.Fuel.{refuelled}
 
--- these entries lead from m to n, where all threads get this much fuel again behind each
+-- these entries lead from m to n, where all threads get this much fuel again after each
 abbrev pub LeadsRefuelled : ℕ → PlainMachine → List (ℕ × Logged) → PlainMachine → Type 0
 LeadsRefuelled fuel m [] n = m ≡ n
 LeadsRefuelled fuel m (x ∷ xs) n =
@@ -21,5 +21,5 @@ pub record IsLed (p : ProgramText) (fuel : ℕ) (m : PlainMachine) : Type 0 wher
 pub record IsReal (p : ProgramText) (fuel : ℕ) (m : PlainMachine) : Type 0 where
   pub entries : List (ℕ × Logged)
   pub machine : PlainMachine
-  pub leads : behind_all (new_machine p (fuel + length entries * fuel)) entries ≡ Some machine
+  pub leads : after_all (new_machine p (fuel + length entries * fuel)) entries ≡ Some machine
   pub same : refuelled fuel machine ≡ m

@@ -6,7 +6,7 @@ ghost use Rattle.every_outcome.specs.Alone.{is_hash, goes_alone};
 ghost use Rattle.plain_monitor.specs.Monitor.{owns};
 ghost use Rattle.plain_machine.specs.Machine.{monitor_at, take};
 ghost use Rattle.plain_machine.specs.Offering.{offered};
-ghost use Rattle.outcome_search.specs.Settled.{entry_in, taken_alone, behind_alone, behind_next, first_alone, settled};
+ghost use Rattle.outcome_search.specs.Settled.{entry_in, taken_alone, after_alone, after_next, first_alone, settled};
 ghost use Rattle.outcome_search.specs.inner.Going.{gone_on};
 
 use plain_machine::{Machine, Offer};
@@ -99,8 +99,8 @@ fn make(machine: &mut Machine, t: u32, entry: &Entry, fuel: u32) -> bool
 /// Makes the entry that thread t has next, where it has one, and gives all threads this much fuel again; whether it has one.
 pub(crate) fn make_next(machine: &mut Machine, t: u32, fuel: u32) -> bool
     requires { t < length machine.old.threads }
-    ensures made { result ≡ is_some (behind_next machine.old t) }
-    ensures machine { machine.new ≡ gone_on fuel machine.old (behind_next machine.old t) }
+    ensures made { result ≡ is_some (after_next machine.old t) }
+    ensures machine { machine.new ≡ gone_on fuel machine.old (after_next machine.old t) }
     ensures threads { length machine.new.threads ≡ length machine.old.threads }
 {
     match next_entry(machine, t) {
@@ -125,8 +125,8 @@ fn make_where_alone(machine: &mut Machine, t: u32, entry: &Entry, fuel: u32) -> 
 /// Makes the next entry of thread t, where it goes alone and the machine takes it.
 fn make_alone(machine: &mut Machine, t: u32, fuel: u32) -> bool
     requires { t < length machine.old.threads }
-    ensures made { result ≡ is_some (behind_alone machine.old t) }
-    ensures machine { machine.new ≡ gone_on fuel machine.old (behind_alone machine.old t) }
+    ensures made { result ≡ is_some (after_alone machine.old t) }
+    ensures machine { machine.new ≡ gone_on fuel machine.old (after_alone machine.old t) }
     ensures threads { length machine.new.threads ≡ length machine.old.threads }
 {
     match next_entry(machine, t) {
@@ -150,7 +150,7 @@ fn make_first(machine: &mut Machine, fuel: u32) -> bool
     false
 }
 
-/// Makes entries that go alone, one after the other, at most so many, with this much fuel again for all threads behind each.
+/// Makes entries that go alone, one after the other, at most so many, with this much fuel again for all threads after each.
 pub(crate) fn settle(machine: &mut Machine, fuel: u32, steps: u32)
     ensures { machine.new ≡ settled fuel steps machine.old }
 {

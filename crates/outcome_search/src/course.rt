@@ -1,6 +1,6 @@
 //! Moves that stay those of one program.
 //!
-//! What a search promises of its moves behind it doesn't tell which program's they are, so a type stands for the search, and has it as a ghost member.
+//! What a search promises of its moves, once it is over, doesn't tell which program's they are, so a type stands for the search, and has it as a ghost member.
 
 ghost use Rattle.std.specs.Prelude.{◌≡◌};
 

@@ -23,7 +23,7 @@ use std::alloc::Global;
 use std::marker::Model;
 
 /// The machines of a program, each told by its words, and the entries that lead from each to others, where all threads have the same fuel
-/// again behind each entry, and entries that go alone are made at once, so many one after the other.
+/// again after each entry, and entries that go alone are made at once, so many one after the other.
 #[derive(Drop)]
 pub struct MachineMoves {
     alloc: Global,
@@ -91,7 +91,7 @@ pub(crate) fn is_any_spent(machine: &Machine) -> bool
     false
 }
 
-/// The key behind the next entry of thread t, if there is one. The machine is left behind it.
+/// The key after the next entry of thread t, if there is one. The machine is left as that entry makes it.
 fn step(
     alloc: Global,
     machine: &mut Machine,
@@ -149,7 +149,7 @@ impl MachineMoves {
         Ok((moves, words))
     }
 
-    /// Where a key leads to by the next entry of thread t, if it has one. Behind an error each later call fails too.
+    /// Where a key leads to by the next entry of thread t, if it has one. After an error each later call fails too.
     pub(crate) fn go(&mut self, key: &[u64], t: u32) -> Result<Option<Vec<u64>>, SearchError>
         requires key { IsKey self.old.program self.old.fuel key.now }
         requires t { t < length self.old.program.threads }
@@ -166,7 +166,7 @@ impl MachineMoves {
         Ok(to)
     }
 
-    /// How the machine of a key ends; `None` where it goes on. Behind an error each later call fails too.
+    /// How the machine of a key ends; `None` where it goes on. After an error each later call fails too.
     pub fn end(&mut self, key: &[u64]) -> Result<Option<End>, SearchError>
         requires { IsKey self.old.program self.old.fuel key.now }
         ensures end { IfOk result (λ e. e ≡ end_of (machine_of self.old.program self.old.fuel key.now)) }

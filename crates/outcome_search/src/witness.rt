@@ -75,7 +75,7 @@ fn log_entry(
     }
 }
 
-/// Logs the entry of thread t behind the others, with the next stamp. Answers true.
+/// Logs the entry of thread t after the others, with the next stamp. Answers true.
 fn push_entry(t: u32, entry: Entry, entries: &mut Vec<(u32, Logged)>) -> Result<bool, NoMemory>
     ensures { OnOk result (entries.new.items ≡ entries.old.items ++ (t, stamped entries.old.items entry) ∷ []) }
 {

@@ -9,7 +9,7 @@ use Rattle.plain_history.proofs.HeldByLog.{holds_by_log}
 use Rattle.core_world.specs.Clauses.WordForms.{IsHold}
 use Rattle.core_world.specs.Locks.{hold_count, holds_by_monitor, monitor_of}
 use Rattle.core_world.specs.Threads.AtRest.{AtRest}
-use Rattle.core_world.specs.Threads.Known.{Known}
+use Rattle.core_world.specs.Threads.ThreadView.{ThreadView}
 use Rattle.core_world.specs.Threads.Stages.{hold_words_ahead}
 use Rattle.core_world.specs.Trees.Plans.{free_place}
 use Rattle.core_world.specs.Words.Shape.{Shape}
@@ -22,23 +22,23 @@ use Rattle.own_logs.specs.HoldsByLog.{AreHolds}
 use Rattle.own_logs.proofs.HoldSums.{all_counted, none_free, all_empty}
 use Rattle.own_logs.proofs.Settled.{Settled, settled, log_settled}
 
-module _ (s : Shape) (k : Known) (z : Settled s k) where
+module _ (s : Shape) (k : ThreadView) (z : Settled s k) where
   -- in the middle of nothing it has no hold words besides those of its log
   stands : AtRest s k → (o : ℕ) → hold_count o k.holds ≡ holds_by_monitor (monitor_of z.objects o) k.thread
   stands rest o =
       let by_log = holds_by_monitor (monitor_of z.objects o) k.thread in
-      let number = subst (λ (x : Known). hold_count o x.holds ≡ by_log + hold_words_ahead x.stage o) z.knew (z.fits.holds.number k.thread o) in
+      let number = subst (λ (x : ThreadView). hold_count o x.holds ≡ by_log + hold_words_ahead x.stage o) z.knew (z.fits.holds.number k.thread o) in
       let none = ap (λ stage. hold_words_ahead stage o) rest.calm in
       omega (arith, number, none)
 
   places : length k.holds ≡ most_holds
-  places = subst (λ (x : Known). length x.holds ≡ most_holds) z.knew (z.fits.holds.places k.thread)
+  places = subst (λ (x : ThreadView). length x.holds ≡ most_holds) z.knew (z.fits.holds.places k.thread)
 
   -- each word is empty or names an object of the heap
   forms : (p : ℕ) → IsHold s (read_hold (slice_index k.holds p))
   forms p =
       let there = subst (λ word. IsHold z.world.shape (read_hold word)) (z.fits.holds.stored k.thread p) (z.fits.forms.holds k.thread p) in
-      let here = subst (λ (x : Known). IsHold z.world.shape (read_hold (slice_index x.holds p))) z.knew there in
+      let here = subst (λ (x : ThreadView). IsHold z.world.shape (read_hold (slice_index x.holds p))) z.knew there in
       subst (λ (x : Shape). IsHold x (read_hold (slice_index k.holds p))) z.shape here
 
 pub own_number : (h : HeapSeen) (p : PassSeen) (o : ℕ) → Rests h p → hold_count o p.known.holds ≡ held_by nothing_held p.known.log o

@@ -2,11 +2,11 @@
 use Rattle.std.proofs.Common.{◌≡◌, ℕ, List, length, Option, sym, ap, ◌∙◌, subst, inl, inr}
 use Rattle.std.proofs.lemmas.List.{length-map}
 use Rattle.plain_monitor.specs.declared.entry.Logged.{Logged}
-use Rattle.core_world.specs.declared.task.Op.TheVariants as op
-use Rattle.core_world.specs.declared.task.Unfinished.{Unfinished}
+use Rattle.core_world.specs.declared.heap_call.Operation.TheVariants as op
+use Rattle.core_world.specs.declared.heap_call.Unfinished.{Unfinished}
 use Rattle.core_world.specs.Clauses.Safepoints.{IsUnfinished}
 use Rattle.core_world.specs.Shots.{AreOfDumps, dumps_from}
-use Rattle.core_world.specs.Threads.Known.{Known, DumpShot}
+use Rattle.core_world.specs.Threads.ThreadView.{ThreadView, DumpShot}
 use Rattle.heap_table.specs.Resting.{Rests}
 use Rattle.heap_table.specs.Seen.{HeapSeen, PassSeen}
 use Rattle.heap_table.proofs.Resting.{at_rest}
@@ -23,4 +23,4 @@ own_shots h p rests =
     let z = settled h p rests in
     let t = p.known.thread in
     as_many t p.known.log p.known.shots p.known.unfinished (at_rest h p rests).shots
-    (subst (λ (k : Known). AreOfDumps t k.log k.shots k.unfinished) z.knew (z.fits.shots.dumps t))
+    (subst (λ (k : ThreadView). AreOfDumps t k.log k.shots k.unfinished) z.knew (z.fits.shots.dumps t))

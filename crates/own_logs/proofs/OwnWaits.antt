@@ -1,5 +1,6 @@
 -- A thread that rests waits on an object by its waiting word, as it last stored it, exactly where it does by its own log.
-use Rattle.std.proofs.Common.{◌≡◌, ◌⊎◌, ℕ, ◌^◌, ◌<◌, ◌==◌, ◌||◌, eq-eqb, eqb-true, Bool, true, false, List, Option, Some, None, refl, sym, ap, ◌∙◌, subst, inl, inr}
+use Rattle.std.proofs.Common.{◌≡◌, ◌⊎◌, ℕ, ◌^◌, ◌<◌, ◌==◌, ◌||◌, eq-eqb, eqb-true, Bool, true, false}
+use Rattle.std.proofs.Common.{List, Option, Some, None, refl, sym, ap, ◌∙◌, subst, inl, inr}
 use Rattle.std.proofs.Math.Bool.{or-true}
 use Rattle.mark_word.specs.declared.wait.WaitForm.{WaitForm}
 use Rattle.mark_word.specs.declared.wait.WaitForm.TheVariants.{Ready, Entering, Waiting, Notified, Ended}
@@ -9,9 +10,9 @@ use Rattle.plain_monitor.specs.Monitor.{is_listed}
 use Rattle.plain_monitor.specs.declared.entry.Logged.{Logged}
 use Rattle.core_world.specs.Locks.{waits_at, notified_at}
 use Rattle.core_world.specs.Words.Forms.{waits_form, waits_on, notified_form, says_notified}
-use Rattle.core_world.specs.declared.name.Name.TheVariants as name
+use Rattle.core_world.specs.declared.word_id.WordId.TheVariants as id
 use Rattle.core_world.specs.Threads.AtRest.{AtRest}
-use Rattle.core_world.specs.Threads.Known.{Known}
+use Rattle.core_world.specs.Threads.ThreadView.{ThreadView}
 use Rattle.core_world.specs.Words.Shape.{Shape}
 use Rattle.core_world.specs.World.{logs}
 use Rattle.heap_table.specs.Resting.{Rests}
@@ -78,12 +79,12 @@ or_cases true b h = inl refl
 or_cases false b h = inr h
 
 -- THE WORLD of a thread in the middle of nothing
-module _ (s : Shape) (k : Known) (z : Settled s k) (rest : AtRest s k) (o : ℕ) where
+module _ (s : Shape) (k : ThreadView) (z : Settled s k) (rest : AtRest s k) (o : ℕ) where
   abbrev word : ℕ
-  word = z.world.words (name.Waiting k.thread)
+  word = z.world.words (id.Waiting k.thread)
 
   stored : IsStored word k.wait
-  stored = subst (λ (x : Known). IsStored word x.wait) z.knew (z.fits.waits.stored k.thread)
+  stored = subst (λ (x : ThreadView). IsStored word x.wait) z.knew (z.fits.waits.stored k.thread)
 
   abbrev waits : Bool
   waits = is_listed (waits_at z.objects o) k.thread
@@ -102,7 +103,7 @@ module _ (s : Shape) (k : Known) (z : Settled s k) (rest : AtRest s k) (o : ℕ)
   says (inl w) = elim (z.fits.waits.waiting k.thread o w) [ inl h ↦ inl h | inr h ↦ inr h.0 ]
   says (inr c) = elim (z.fits.waits.notified k.thread o c) [
     | inl h ↦ inr h
-    | inr h ↦ let calm = ap (λ (x : Known). x.stage) z.knew ∙ rest.calm in let resumes = h.1 in absurd (cc (calm, resumes))
+    | inr h ↦ let calm = ap (λ (x : ThreadView). x.stage) z.knew ∙ rest.calm in let resumes = h.1 in absurd (cc (calm, resumes))
   ]
 
   stands : waits_on k.wait o ≡ (waits || called)

@@ -1,5 +1,6 @@
 -- An entry above the bounds may be appended, and keeps them.
-use Rattle.std.proofs.Common.{◌≡◌, ℕ, ◌<◌, ◌≤◌, ◌≢◌, ◌⊎◌, true, List, [], ◌∷◌, ◌++◌, length, Option, Some, None, slice_get, slice_set, slice_index, refl, ap, sym, subst, ◌∙◌, inl, inr, arith, get_or-set_other, get_or-set_same}
+use Rattle.std.proofs.Common.{◌≡◌, ℕ, ◌<◌, ◌≤◌, ◌≢◌, ◌⊎◌, true, List, [], ◌∷◌, ◌++◌, length, Option, Some, None, slice_get, slice_set}
+use Rattle.std.proofs.Common.{slice_index, refl, ap, sym, subst, ◌∙◌, inl, inr, arith, get_or-set_other, get_or-set_same}
 use Rattle.std.proofs.lemmas.Bool.Decides.{nat_tests}
 use Rattle.std.proofs.lemmas.Bool.{cases_eq}
 use Rattle.std.proofs.lemmas.Option.{same_Some}
@@ -32,14 +33,16 @@ never_tied None b h k = absurd (cc k)
 never_tied (Some i) b h k = absurd (cc (rw h at k))
 
 -- an entry above a bound of its object may be appended
-pub above_bound : (logs : List (List Logged)) (t : ℕ) (l : Logged) (o s : ℕ) → t < length logs → last_stamp (log_of logs t) < l.stamp → bound_to l.entry ≡ Some o → IsBounded logs o s → s < l.stamp
+pub above_bound : (logs : List (List Logged)) (t : ℕ) (l : Logged) (o s : ℕ) → t < length logs
+    → last_stamp (log_of logs t) < l.stamp → bound_to l.entry ≡ Some o → IsBounded logs o s → s < l.stamp
     → MayAppend logs t l
 above_bound logs t l o s h k b bounded up =
     record {
       thread = h;
       stamp = k;
-      behind = all_weaker (λ x. bound_to x.1.entry ≡ Some o → x.1.stamp ≤ s) (λ x. is_tied x.1.entry l.entry ≡ true → is_before x (t, l) ≡ true)
-          (λ x f tie. let le = f (tied_is_bound (bound_to x.1.entry) (bound_to l.entry) o b tie) in let lt : x.1.stamp < l.stamp = omega arith in grind (arith, nat_tests))
+      follows = all_weaker (λ x. bound_to x.1.entry ≡ Some o → x.1.stamp ≤ s) (λ x. is_tied x.1.entry l.entry ≡ true → is_before x (t, l) ≡ true)
+          (λ x f tie. let le = f (tied_is_bound (bound_to x.1.entry) (bound_to l.entry) o b tie) in
+          let lt : x.1.stamp < l.stamp = omega arith in grind (arith, nat_tests))
           (order logs) bounded;
     }
 
@@ -49,12 +52,14 @@ all_of P f [] = tt
 all_of P f (x ∷ xs) = (f x, all_of P f xs)
 
 -- an entry that is bound to no object may be appended
-pub unbound_may_append : (logs : List (List Logged)) (t : ℕ) (l : Logged) → t < length logs → last_stamp (log_of logs t) < l.stamp → bound_to l.entry ≡ None → MayAppend logs t l
+pub unbound_may_append : (logs : List (List Logged)) (t : ℕ) (l : Logged) → t < length logs
+    → last_stamp (log_of logs t) < l.stamp → bound_to l.entry ≡ None → MayAppend logs t l
 unbound_may_append logs t l h k b =
     record {
       thread = h;
       stamp = k;
-      behind = all_of (λ x. is_tied x.1.entry l.entry ≡ true → is_before x (t, l) ≡ true) (λ x tie. absurd (never_tied (bound_to x.1.entry) (bound_to l.entry) b tie)) (order logs);
+      follows = all_of (λ x. is_tied x.1.entry l.entry ≡ true → is_before x (t, l) ≡ true)
+          (λ x tie. absurd (never_tied (bound_to x.1.entry) (bound_to l.entry) b tie)) (order logs);
     }
 
 -- an entry above the bounds may be appended, by what it is bound to
@@ -83,7 +88,8 @@ log_of_other : (logs : List (List Logged)) (t u : ℕ) (l : Logged) → u ≢ t 
 log_of_other logs t u l d = get_or-set_other logs t u (log_of logs t ++ l ∷ []) [] d
 
 -- no thread's last stamp falls
-pub last_grows : (logs : List (List Logged)) (t u : ℕ) (l : Logged) → t < length logs → last_stamp (log_of logs t) < l.stamp → last_stamp (log_of logs u) ≤ last_stamp (log_of (appended logs t l) u)
+pub last_grows : (logs : List (List Logged)) (t u : ℕ) (l : Logged) → t < length logs
+    → last_stamp (log_of logs t) < l.stamp → last_stamp (log_of logs u) ≤ last_stamp (log_of (appended logs t l) u)
 last_grows logs t u l h s =
     elim (cases_eq u t) [
       | inl e ↦ let a = last_of_own logs t l h in rw (e, a) (omega arith)
@@ -91,13 +97,15 @@ last_grows logs t u l h s =
     ]
 
 -- no object's bound falls, where what is kept for it does not
-pub bound_grows : (logs : List (List Logged)) (kept now : List ℕ) (t : ℕ) (l : Logged) (o : ℕ) (owner : Option ℕ) → t < length logs → last_stamp (log_of logs t) < l.stamp
+pub bound_grows : (logs : List (List Logged)) (kept now : List ℕ) (t : ℕ) (l : Logged) (o : ℕ) (owner : Option ℕ)
+    → t < length logs → last_stamp (log_of logs t) < l.stamp
     → slice_index kept o ≤ slice_index now o → bound_of logs kept o owner ≤ bound_of (appended logs t l) now o owner
 bound_grows logs kept now t l o None h s k = k
 bound_grows logs kept now t l o (Some u) h s k = last_grows logs t u l h s
 
 -- a larger bound holds with one more entry, where it is a bound for that too
-bounded_with : (logs : List (List Logged)) (t : ℕ) (l : Logged) (o old new : ℕ) → AllByRecursion (RisesAbove 0) logs → t < length logs → last_stamp (log_of logs t) < l.stamp
+bounded_with : (logs : List (List Logged)) (t : ℕ) (l : Logged) (o old new : ℕ)
+    → AllByRecursion (RisesAbove 0) logs → t < length logs → last_stamp (log_of logs t) < l.stamp
     → IsBounded logs o old → old ≤ new → (bound_to l.entry ≡ Some o → l.stamp ≤ new) → IsBounded (appended logs t l) o new
 bounded_with logs t l o old new r h s bounded le own =
     let P : ℕ × Logged → Type 0 = λ x. bound_to x.1.entry ≡ Some o → x.1.stamp ≤ new in
@@ -121,7 +129,8 @@ pub record SameMonitor (before : List PlainObject) (o : ℕ) (z : PlainObject) :
   pub slots : x.slots ≡ z.slots
 
 -- an entry that names an object to which it is not bound leaves its monitor, by whether it is a hash
-hash_keeps_monitor : (before after : List PlainObject) (t : ℕ) (e : Entry) (o : ℕ) (z : PlainObject) → IsPlain e ⊎ IsHash e → named e ≡ Some o → bound_to e ≢ Some o
+hash_keeps_monitor : (before after : List PlainObject) (t : ℕ) (e : Entry) (o : ℕ) (z : PlainObject)
+    → IsPlain e ⊎ IsHash e → named e ≡ Some o → bound_to e ≢ Some o
     → take_named before t e (Some o) ≡ Some after → slice_get after o ≡ Some z → SameMonitor before o z
 hash_keeps_monitor before after t e o z (inl g) n d h at = absurd (d (g.bound ∙ n))
 hash_keeps_monitor before after t e o z (inr g) n d h at =
@@ -156,17 +165,22 @@ bounds_kept before after logs kept now t l r bounds above step rise o z at =
       | inl b ↦
           let a = taken_at before after t l.entry o (ap (take_named before t l.entry) (sym (bound_is_named l.entry o b)) ∙ step) in
           let new = rise.own o z b at in
-          let le : bound_of logs kept o a.x.monitor.owner ≤ bound_of (appended logs t l) now o z.monitor.owner = omega (arith, above.bound o a.x b a.was, new) in
-          bounded_with logs t l o (bound_of logs kept o a.x.monitor.owner) (bound_of (appended logs t l) now o z.monitor.owner) r above.thread above.stamp (bounds o a.x a.was) le (λ q. new)
+          let le : bound_of logs kept o a.x.monitor.owner ≤ bound_of (appended logs t l) now o z.monitor.owner =
+          omega (arith, above.bound o a.x b a.was, new) in
+          bounded_with logs t l o (bound_of logs kept o a.x.monitor.owner)
+          (bound_of (appended logs t l) now o z.monitor.owner) r above.thread above.stamp (bounds o a.x a.was) le (λ q. new)
       | inr d ↦
           let m = monitor_left before after t l.entry o z d step at in
           let le = bound_grows logs kept now t l o z.monitor.owner above.thread above.stamp (rise.others o d) in
-          let old : IsBounded logs o (bound_of logs kept o z.monitor.owner) = subst (λ v. IsBounded logs o (bound_of logs kept o v.owner)) m.same (bounds o m.x m.was) in
-          bounded_with logs t l o (bound_of logs kept o z.monitor.owner) (bound_of (appended logs t l) now o z.monitor.owner) r above.thread above.stamp old le (λ q. absurd (d q))
+          let old : IsBounded logs o (bound_of logs kept o z.monitor.owner) =
+          subst (λ v. IsBounded logs o (bound_of logs kept o v.owner)) m.same (bounds o m.x m.was) in
+          bounded_with logs t l o (bound_of logs kept o z.monitor.owner)
+          (bound_of (appended logs t l) now o z.monitor.owner) r above.thread above.stamp old le (λ q. absurd (d q))
     ]
 
 -- the bounds rise where an entry is bound to no object
-pub rise_unbound : (after : List PlainObject) (logs : List (List Logged)) (kept : List ℕ) (t : ℕ) (l : Logged) → bound_to l.entry ≡ None → BoundsRise after logs kept kept t l
+pub rise_unbound : (after : List PlainObject) (logs : List (List Logged)) (kept : List ℕ) (t : ℕ) (l : Logged)
+    → bound_to l.entry ≡ None → BoundsRise after logs kept kept t l
 rise_unbound after logs kept t l b = record { others = λ o d. omega arith; own = λ o z e at. absurd (cc (b, e)) }
 
 -- an entry that is bound to no object keeps the bounds
@@ -186,7 +200,8 @@ rise_by_owner after logs kept t l o y h b now owner =
       own = λ i z e at.
           let same : o ≡ i = same_Some o i (sym b ∙ e) in
           let is : y ≡ z = same_Some y z (sym now ∙ ap (slice_get after) same ∙ at) in
-          let new : bound_of (appended logs t l) kept i z.monitor.owner ≡ l.stamp = ap (λ v. bound_of (appended logs t l) kept i v.monitor.owner) (sym is) ∙ ap (bound_of (appended logs t l) kept i) owner ∙ last in
+          let new : bound_of (appended logs t l) kept i z.monitor.owner ≡ l.stamp =
+          ap (λ v. bound_of (appended logs t l) kept i v.monitor.owner) (sym is) ∙ ap (bound_of (appended logs t l) kept i) owner ∙ last in
           omega (arith, new);
     }
 
@@ -199,7 +214,8 @@ kept_by_owner before after logs kept t l o y r bounds above step b now owner =
 
 -- they rise where it leaves the object without an owner, and its stamp is then kept for the object
 pub rise_where_let_go : (after : List PlainObject) (logs : List (List Logged)) (kept : List ℕ) (t : ℕ) (l : Logged) (o : ℕ) (y : PlainObject)
-    → bound_to l.entry ≡ Some o → slice_get after o ≡ Some y → y.monitor.owner ≡ None → o < length kept → BoundsRise after logs kept (slice_set kept o l.stamp) t l
+    → bound_to l.entry ≡ Some o → slice_get after o ≡ Some y → y.monitor.owner ≡ None
+    → o < length kept → BoundsRise after logs kept (slice_set kept o l.stamp) t l
 rise_where_let_go after logs kept t l o y b now owner room =
     record {
       others = λ i d. let other = get_or-set_other kept o i l.stamp 0 (λ e. d (b ∙ ap Some (sym e))) in omega (arith, other);
@@ -217,6 +233,7 @@ rise_where_let_go after logs kept t l o y b now owner room =
 -- an entry that leaves the object without an owner keeps the bounds, where its stamp is then kept for the object
 pub kept_where_let_go : (before after : List PlainObject) (logs : List (List Logged)) (kept : List ℕ) (t : ℕ) (l : Logged) (o : ℕ) (y : PlainObject)
     → AllByRecursion (RisesAbove 0) logs → StampsBound before logs kept → IsAboveBounds before logs kept t l → take_entry before t l.entry ≡ Some after
-    → bound_to l.entry ≡ Some o → slice_get after o ≡ Some y → y.monitor.owner ≡ None → o < length kept → StampsBound after (appended logs t l) (slice_set kept o l.stamp)
+    → bound_to l.entry ≡ Some o → slice_get after o ≡ Some y → y.monitor.owner ≡ None
+    → o < length kept → StampsBound after (appended logs t l) (slice_set kept o l.stamp)
 kept_where_let_go before after logs kept t l o y r bounds above step b now owner room =
     bounds_kept before after logs kept (slice_set kept o l.stamp) t l r bounds above step (rise_where_let_go after logs kept t l o y b now owner room)

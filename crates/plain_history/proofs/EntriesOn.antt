@@ -1,4 +1,4 @@
--- The entries on an object after one more, which stands behind all of them.
+-- The entries on an object after one more, which stands after all of them.
 use Rattle.std.proofs.Common.{◌≡◌, ℕ, ◌||◌, eq-eqb, cond, Bool, true, false, List, [], ◌∷◌, ◌++◌, Some, None, refl, sym, ap, ◌∙◌}
 use Rattle.std.specs.List.{list_any, AllByRecursion}
 use Rattle.plain_monitor.specs.declared.entry.Entry.{Entry}
@@ -10,7 +10,7 @@ use Rattle.plain_monitor.specs.History.{RisesAbove, appended}
 use Rattle.plain_history.specs.Tied.{bound_to, is_same_object, is_tied}
 use Rattle.plain_history.specs.Appending.{MayAppend}
 use Rattle.plain_monitor.proofs.Ordering.{IsOrdered, ordered_is_ordered}
-use Rattle.plain_history.proofs.Inserting.{order_with, IsFree, IsBehindTied, free_behind, untied}
+use Rattle.plain_history.proofs.Inserting.{order_with, IsFree, IsAfterTied, free_after, untied}
 use Rattle.plain_monitor.proofs.Orders.{before_asym}
 use Rattle.plain_history.specs.EnterPaths.{entries_on, first_path, EndsStay, ends_bias, needs_bias}
 
@@ -78,32 +78,36 @@ first_new (entry.Trap f i ∷ es) e h = first_new es e h
 first_new (entry.Spent ∷ es) e h = first_new es e h
 first_new (entry.Done ∷ es) e h = first_new es e h
 
--- THE ORDER. An entry that stands behind all that are tied to it comes last among the entries on its object.
+-- THE ORDER. An entry that stands after all that are tied to it comes last among the entries on its object.
 free_none : (o : ℕ) (zs : List (ℕ × Logged)) → AllByRecursion (λ z. is_same_object (bound_to z.1.entry) (Some o) ≡ false) zs → entries_on o zs ≡ []
 free_none o [] h = refl
 free_none o (z ∷ zs) h = rw (h.0) (free_none o zs h.1)
 
-free_of : (o : ℕ) (x : ℕ × Logged) (zs : List (ℕ × Logged)) → bound_to x.1.entry ≡ Some o → IsFree x zs → AllByRecursion (λ z. is_same_object (bound_to z.1.entry) (Some o) ≡ false) zs
+free_of : (o : ℕ) (x : ℕ × Logged) (zs : List (ℕ × Logged)) → bound_to x.1.entry ≡ Some o
+    → IsFree x zs → AllByRecursion (λ z. is_same_object (bound_to z.1.entry) (Some o) ≡ false) zs
 free_of o x [] b h = tt
 free_of o x (z ∷ zs) b h = (ap (is_same_object (bound_to z.1.entry)) (sym b) ∙ h.0, free_of o x zs b h.1)
 
-pub inserted_last : (o : ℕ) (x : ℕ × Logged) (ys : List (ℕ × Logged)) → bound_to x.1.entry ≡ Some o → IsOrdered ys → IsBehindTied x ys
+pub inserted_last : (o : ℕ) (x : ℕ × Logged) (ys : List (ℕ × Logged)) → bound_to x.1.entry ≡ Some o → IsOrdered ys → IsAfterTied x ys
     → entries_on o (insert_ordered x ys) ≡ entries_on o ys ++ x.1.entry ∷ []
-inserted_last o x [] b up behind = let here : is_same_object (bound_to x.1.entry) (Some o) ≡ true = ap (λ c. is_same_object c (Some o)) b ∙ eq-eqb o o refl in rw here refl
-inserted_last o x (y ∷ ys) b up behind = by_test (is_before x y) refl (inserted_last o x ys b up.1 behind.1)
+inserted_last o x [] b up follows =
+    let here : is_same_object (bound_to x.1.entry) (Some o) ≡ true = ap (λ c. is_same_object c (Some o)) b ∙ eq-eqb o o refl in rw here refl
+inserted_last o x (y ∷ ys) b up follows = by_test (is_before x y) refl (inserted_last o x ys b up.1 follows.1)
   where
     here : is_same_object (bound_to x.1.entry) (Some o) ≡ true
     here = ap (λ c. is_same_object c (Some o)) b ∙ eq-eqb o o refl
 
     by_head : (c : Bool) → entries_on o (insert_ordered x ys) ≡ entries_on o ys ++ x.1.entry ∷ []
-        → cond c (y.1.entry ∷ entries_on o (insert_ordered x ys)) (entries_on o (insert_ordered x ys)) ≡ cond c (y.1.entry ∷ entries_on o ys) (entries_on o ys) ++ x.1.entry ∷ []
+        → cond c (y.1.entry ∷ entries_on o (insert_ordered x ys)) (entries_on o (insert_ordered x ys))
+        ≡ cond c (y.1.entry ∷ entries_on o ys) (entries_on o ys) ++ x.1.entry ∷ []
     by_head true h = ap (λ es. y.1.entry ∷ es) h
     by_head false h = h
 
     by_test : (c : Bool) → is_before x y ≡ c → entries_on o (insert_ordered x ys) ≡ entries_on o ys ++ x.1.entry ∷ []
         → entries_on o (insert_ordered x (y ∷ ys)) ≡ entries_on o (y ∷ ys) ++ x.1.entry ∷ []
     by_test true c ih =
-        let free : IsFree x (y ∷ ys) = (untied (is_tied y.1.entry x.1.entry) (is_before y x) behind.0 (before_asym x y c), free_behind x y ys c up.0 behind.1) in
+        let free : IsFree x (y ∷ ys) =
+        (untied (is_tied y.1.entry x.1.entry) (is_before y x) follows.0 (before_asym x y c), free_after x y ys c up.0 follows.1) in
         let none = free_none o (y ∷ ys) (free_of o x (y ∷ ys) b free) in
         ap (entries_on o) (ap (λ (d : Bool). cond d (x ∷ y ∷ ys) (y ∷ insert_ordered x ys)) c)
         ∙ ap (λ (d : Bool). cond d (x.1.entry ∷ entries_on o (y ∷ ys)) (entries_on o (y ∷ ys))) here
@@ -112,11 +116,13 @@ inserted_last o x (y ∷ ys) b up behind = by_test (is_before x y) refl (inserte
         ap (entries_on o) (ap (λ (d : Bool). cond d (x ∷ y ∷ ys) (y ∷ insert_ordered x ys)) c)
         ∙ by_head (is_same_object (bound_to y.1.entry) (Some o)) ih
 
-pub inserted_elsewhere : (o : ℕ) (x : ℕ × Logged) (ys : List (ℕ × Logged)) → is_same_object (bound_to x.1.entry) (Some o) ≡ false → entries_on o (insert_ordered x ys) ≡ entries_on o ys
+pub inserted_elsewhere : (o : ℕ) (x : ℕ × Logged) (ys : List (ℕ × Logged))
+    → is_same_object (bound_to x.1.entry) (Some o) ≡ false → entries_on o (insert_ordered x ys) ≡ entries_on o ys
 inserted_elsewhere o x [] n = rw n refl
 inserted_elsewhere o x (y ∷ ys) n = by_test (is_before x y) refl (inserted_elsewhere o x ys n)
   where
-    by_test : (c : Bool) → is_before x y ≡ c → entries_on o (insert_ordered x ys) ≡ entries_on o ys → entries_on o (insert_ordered x (y ∷ ys)) ≡ entries_on o (y ∷ ys)
+    by_test : (c : Bool) → is_before x y ≡ c → entries_on o (insert_ordered x ys) ≡ entries_on o ys
+        → entries_on o (insert_ordered x (y ∷ ys)) ≡ entries_on o (y ∷ ys)
     by_test true c ih =
         ap (entries_on o) (ap (λ (d : Bool). cond d (x ∷ y ∷ ys) (y ∷ insert_ordered x ys)) c)
         ∙ ap (λ (d : Bool). cond d (x.1.entry ∷ entries_on o (y ∷ ys)) (entries_on o (y ∷ ys))) n
@@ -128,8 +134,9 @@ inserted_elsewhere o x (y ∷ ys) n = by_test (is_before x y) refl (inserted_els
 pub appended_on : (logs : List (List Logged)) (t o : ℕ) (l : Logged) → AllByRecursion (RisesAbove 0) logs → MayAppend logs t l → bound_to l.entry ≡ Some o
     → entries_on o (order (appended logs t l)) ≡ entries_on o (order logs) ++ l.entry ∷ []
 appended_on logs t o l rises may b =
-    ap (entries_on o) (order_with logs t l rises may) ∙ inserted_last o (t, l) (order logs) b (ordered_is_ordered (with_threads 0 logs)) may.behind
+    ap (entries_on o) (order_with logs t l rises may) ∙ inserted_last o (t, l) (order logs) b (ordered_is_ordered (with_threads 0 logs)) may.follows
 
-pub appended_elsewhere : (logs : List (List Logged)) (t o : ℕ) (l : Logged) → AllByRecursion (RisesAbove 0) logs → MayAppend logs t l → is_same_object (bound_to l.entry) (Some o) ≡ false
+pub appended_elsewhere : (logs : List (List Logged)) (t o : ℕ) (l : Logged)
+    → AllByRecursion (RisesAbove 0) logs → MayAppend logs t l → is_same_object (bound_to l.entry) (Some o) ≡ false
     → entries_on o (order (appended logs t l)) ≡ entries_on o (order logs)
 appended_elsewhere logs t o l rises may n = ap (entries_on o) (order_with logs t l rises may) ∙ inserted_elsewhere o (t, l) (order logs) n

@@ -1,5 +1,6 @@
 -- How often a thread holds an object by its own log is how often it stands at the plain monitor, after every history that the objects take.
-use Rattle.std.proofs.Common.{◌≡◌, ℕ, zero, suc, ◌+◌, ◌-◌, ◌<◌, ◌==◌, eq-eqb, ne_eqb, cond, Bool, true, false, List, [], ◌∷◌, slice_get, slice_set, slice_index_or, length, Option, Some, None, refl, sym, ap, ◌∙◌, subst, arith, inl, inr}
+use Rattle.std.proofs.Common.{◌≡◌, ℕ, zero, suc, ◌+◌, ◌-◌, ◌<◌, ◌==◌, eq-eqb, ne_eqb, cond, Bool, true, false, List, [], ◌∷◌, slice_get}
+use Rattle.std.proofs.Common.{slice_set, slice_index_or, length, Option, Some, None, refl, sym, ap, ◌∙◌, subst, arith, inl, inr}
 use Rattle.std.proofs.lemmas.Bool.{cases_eq}
 use Rattle.std.proofs.lemmas.List.{get_or-set_same, get_or-set_other}
 use Rattle.std.proofs.lemmas.Option.{same_Some, get_or_from_slice_get}
@@ -47,16 +48,25 @@ down : (b : Bool) (n k : ℕ) → k ≡ n - one_if b → k ≡ cond b (n - 1) n
 down true n k e = e
 down false n k e = omega (arith, e)
 
-at_object : (x y : PlainObject) (u t : ℕ) (e : Entry) → IsSound x.monitor → take_at x u e ≡ Some y → Held u t e (holds_by_monitor x.monitor t) (holds_by_monitor y.monitor t)
-at_object x y u t (entry.Enter o p) s h = monitor_kept (λ n. Held u t (entry.Enter o p) (holds_by_monitor x.monitor t) (holds_by_monitor n t)) x y (enter x.monitor u) (λ n g. up (u == t) _ _ (enter_stands x.monitor n u t g)) h
-at_object x y u t (entry.Exit o) s h = monitor_kept (λ n. Held u t (entry.Exit o) (holds_by_monitor x.monitor t) (holds_by_monitor n t)) x y (exit x.monitor u) (λ n g. down (u == t) _ _ (exit_stands x.monitor n u t s g)) h
-at_object x y u t (entry.Wait o) s h = monitor_kept (λ n. Held u t (entry.Wait o) (holds_by_monitor x.monitor t) (holds_by_monitor n t)) x y (wait x.monitor u) (λ n g. same_held (u == t) _ _ (wait_stands x.monitor n u t s g)) h
-at_object x y u t (entry.Resume o) s h = monitor_kept (λ n. Held u t (entry.Resume o) (holds_by_monitor x.monitor t) (holds_by_monitor n t)) x y (resume x.monitor u) (λ n g. same_held (u == t) _ _ (resume_stands x.monitor n u t g)) h
-at_object x y u t (entry.Notify o w) s h = monitor_kept (λ n. Held u t (entry.Notify o w) (holds_by_monitor x.monitor t) (holds_by_monitor n t)) x y (notify x.monitor u w) (λ n g. same_held (u == t) _ _ (notify_stands x.monitor n u t w s g)) h
-at_object x y u t (entry.NotifyAll o w) s h = monitor_kept (λ n. Held u t (entry.NotifyAll o w) (holds_by_monitor x.monitor t) (holds_by_monitor n t)) x y (notify_all x.monitor u w) (λ n g. same_held (u == t) _ _ (notify_all_stands x.monitor n u t w s g)) h
+at_object : (x y : PlainObject) (u t : ℕ) (e : Entry) → IsSound x.monitor → take_at x u e ≡ Some y
+    → Held u t e (holds_by_monitor x.monitor t) (holds_by_monitor y.monitor t)
+at_object x y u t (entry.Enter o p) s h = monitor_kept (λ n. Held u t (entry.Enter o p) (holds_by_monitor x.monitor t) (holds_by_monitor n t)) x y
+    (enter x.monitor u) (λ n g. up (u == t) _ _ (enter_stands x.monitor n u t g)) h
+at_object x y u t (entry.Exit o) s h = monitor_kept (λ n. Held u t (entry.Exit o) (holds_by_monitor x.monitor t) (holds_by_monitor n t)) x y
+    (exit x.monitor u) (λ n g. down (u == t) _ _ (exit_stands x.monitor n u t s g)) h
+at_object x y u t (entry.Wait o) s h = monitor_kept (λ n. Held u t (entry.Wait o) (holds_by_monitor x.monitor t) (holds_by_monitor n t)) x y
+    (wait x.monitor u) (λ n g. same_held (u == t) _ _ (wait_stands x.monitor n u t s g)) h
+at_object x y u t (entry.Resume o) s h = monitor_kept (λ n. Held u t (entry.Resume o) (holds_by_monitor x.monitor t) (holds_by_monitor n t)) x y
+    (resume x.monitor u) (λ n g. same_held (u == t) _ _ (resume_stands x.monitor n u t g)) h
+at_object x y u t (entry.Notify o w) s h = monitor_kept (λ n. Held u t (entry.Notify o w) (holds_by_monitor x.monitor t) (holds_by_monitor n t)) x y
+    (notify x.monitor u w) (λ n g. same_held (u == t) _ _ (notify_stands x.monitor n u t w s g)) h
+at_object x y u t (entry.NotifyAll o w) s h = monitor_kept (λ n. Held u t (entry.NotifyAll o w) (holds_by_monitor x.monitor t) (holds_by_monitor n t))
+    x y (notify_all x.monitor u w) (λ n g. same_held (u == t) _ _ (notify_all_stands x.monitor n u t w s g)) h
 at_object x y u t (entry.Get o i v) s h = same_held (u == t) _ _ (only_kept (λ n. holds_by_monitor n t ≡ holds_by_monitor x.monitor t) x x y _ refl refl h)
-at_object x y u t (entry.Put o i v) s h = same_held (u == t) _ _ (only_kept (λ n. holds_by_monitor n t ≡ holds_by_monitor x.monitor t) x (record x { slots = slice_set x.slots i v }) y _ refl refl h)
-at_object x y u t (entry.Hash o v d) s h = same_held (u == t) _ _ (hash_kept (λ n. holds_by_monitor n t ≡ holds_by_monitor x.monitor t) x y (hashed x.hash v) refl h)
+at_object x y u t (entry.Put o i v) s h = same_held (u == t) _ _
+    (only_kept (λ n. holds_by_monitor n t ≡ holds_by_monitor x.monitor t) x (record x { slots = slice_set x.slots i v }) y _ refl refl h)
+at_object x y u t (entry.Hash o v d) s h =
+    same_held (u == t) _ _ (hash_kept (λ n. holds_by_monitor n t ≡ holds_by_monitor x.monitor t) x y (hashed x.hash v) refl h)
 at_object x y u t (entry.New o c) s h = same_held (u == t) _ _ (ap (λ (z : PlainObject). holds_by_monitor z.monitor t) (sym (same_Some x y h)))
 at_object x y u t (entry.Print v) s h = same_held (u == t) _ _ (ap (λ (z : PlainObject). holds_by_monitor z.monitor t) (sym (same_Some x y h)))
 at_object x y u t (entry.Dump n) s h = same_held (u == t) _ _ (ap (λ (z : PlainObject). holds_by_monitor z.monitor t) (sym (same_Some x y h)))
@@ -114,7 +124,8 @@ step_stands P Q u t e sound h i = by_name (named e) refl h
     unnamed : (named e ≡ Some i → ⊥) → stands_at P i t ≡ cond (u == t) (held_after e (λ j. stands_at P j t) i) (stands_at P i t)
     unnamed other = same_held (u == t) _ _ refl ∙ ap (λ x. cond (u == t) x (stands_at P i t)) (sym (log_else e (λ j. stands_at P j t) i other))
 
-    by_name : (a : Option ℕ) → named e ≡ a → take_named P u e a ≡ Some Q → stands_at Q i t ≡ cond (u == t) (held_after e (λ j. stands_at P j t) i) (stands_at P i t)
+    by_name : (a : Option ℕ) → named e ≡ a → take_named P u e a ≡ Some Q
+        → stands_at Q i t ≡ cond (u == t) (held_after e (λ j. stands_at P j t) i) (stands_at P i t)
     by_name None n g = ap (λ (R : List PlainObject). stands_at R i t) (sym (same_Some P Q g)) ∙ unnamed (λ s. absurd (cc (n, s)))
     by_name (Some o) n g =
         let k = taken_at P Q u e o g in
@@ -138,7 +149,8 @@ all_stand [] P Q t sound h i = ap (λ (R : List PlainObject). stands_at R i t) (
 all_stand (x ∷ xs) P Q t sound h i =
     let k = first_taken (take_entry P x.0 x.1.entry) xs Q h in
     let step = step_stands P k.0 x.0 t x.1.entry sound k.1 in
-    let fs : ◌≡◌ {A = ℕ → ℕ} (λ j. stands_at k.0 j t) (λ j. cond (x.0 == t) (held_after x.1.entry (λ j. stands_at P j t) j) (stands_at P j t)) = λ p. λ j. step j p in
+    let fs : ◌≡◌ {A = ℕ → ℕ} (λ j. stands_at k.0 j t)
+    (λ j. cond (x.0 == t) (held_after x.1.entry (λ j. stands_at P j t) j) (stands_at P j t)) = λ p. λ j. step j p in
     all_stand xs k.0 Q t (named_sound P k.0 x.0 x.1.entry (named x.1.entry) sound k.1) k.2 i
     ∙ ap (λ f. held_by f (of_thread t xs) i) fs ∙ by_test (x.0 == t)
   where
@@ -153,14 +165,18 @@ new_at (x ∷ shape) zero = (x.1, refl)
 new_at (x ∷ shape) (suc o) = new_at shape o
 
 -- at all object numbers, where one that isn't there is new
-pub holds_by_log : (shape : List (ℕ × ℕ)) (logs : List (List Logged)) (objects : List PlainObject) → LegalObjects shape logs → objects_after shape logs ≡ Some objects → (t o : ℕ)
+pub holds_by_log : (shape : List (ℕ × ℕ)) (logs : List (List Logged)) (objects : List PlainObject)
+    → LegalObjects shape logs → objects_after shape logs ≡ Some objects → (t o : ℕ)
     → holds_by_monitor (slice_index_or objects o (new_object 0)).monitor t ≡ held_by nothing_held (log_of logs t) o
 holds_by_log shape logs objects legal h t o =
-    let fs : ◌≡◌ {A = ℕ → ℕ} (λ j. stands_at (new_objects shape) j t) nothing_held = λ p. λ j. ap (λ (z : PlainObject). holds_by_monitor z.monitor t) (new_at shape j).1 p in
+    let fs : ◌≡◌ {A = ℕ → ℕ} (λ j. stands_at (new_objects shape) j t) nothing_held =
+    λ p. λ j. ap (λ (z : PlainObject). holds_by_monitor z.monitor t) (new_at shape j).1 p in
     all_stand (order logs) (new_objects shape) objects t (new_sound shape) h o
     ∙ ap (λ f. held_by f (of_thread t (order logs)) o) fs ∙ ap (λ (log : List Logged). held_by nothing_held log o) (thread_kept logs t legal.rises)
 
-pub object_holds_by_log : (shape : List (ℕ × ℕ)) (logs : List (List Logged)) (objects : List PlainObject) (t o : ℕ) (x : PlainObject) → LegalObjects shape logs → objects_after shape logs ≡ Some objects
+pub object_holds_by_log : (shape : List (ℕ × ℕ)) (logs : List (List Logged)) (objects : List PlainObject) (t o : ℕ) (x : PlainObject)
+    → LegalObjects shape logs → objects_after shape logs ≡ Some objects
     → slice_get objects o ≡ Some x → held_by nothing_held (log_of logs t) o ≡ holds_by_monitor x.monitor t
 object_holds_by_log shape logs objects t o x legal h is =
-    sym (holds_by_log shape logs objects legal h t o) ∙ ap (λ (z : PlainObject). holds_by_monitor z.monitor t) (get_or_from_slice_get objects o x (new_object 0) is)
+    sym (holds_by_log shape logs objects legal h t o)
+    ∙ ap (λ (z : PlainObject). holds_by_monitor z.monitor t) (get_or_from_slice_get objects o x (new_object 0) is)

@@ -1,10 +1,12 @@
 -- How often each thread stands at a plain monitor after a step on it: an enter is one more of its own thread, an exit one less, and every other
 -- step leaves all as they were.
-use Rattle.std.proofs.Common.{◌≡◌, ◌⊎◌, ℕ, ◌+◌, ◌-◌, ◌<◌, ◌≤◌, ◌==◌, ◌&&◌, nat_le, is_none, eq-eqb, ne_eqb, eqb-true, cond, Bool, true, false, List, [], ◌∷◌, ◌++◌, Option, Some, None, refl, sym, ap, ◌∙◌, subst, arith, inl, inr}
+use Rattle.std.proofs.Common.{◌≡◌, ◌⊎◌, ℕ, ◌+◌, ◌-◌, ◌<◌, ◌≤◌, ◌==◌, ◌&&◌, nat_le, is_none, eq-eqb, ne_eqb, eqb-true, cond, Bool}
+use Rattle.std.proofs.Common.{true, false, List, [], ◌∷◌, ◌++◌, Option, Some, None, refl, sym, ap, ◌∙◌, subst, arith, inl, inr}
 use Rattle.std.proofs.lemmas.Bool.{cases_eq}
 use Rattle.std.proofs.lemmas.Bool.Decides.{nat_tests}
 use Rattle.std.proofs.lemmas.Option.{cond_some, same_Some}
-use Rattle.plain_monitor.specs.Monitor.{PlainMonitor, only_if, is_thread, owns, count_of, without, is_outside, enter, exit, wait, resumed, resume, calls, notify, notify_all}
+use Rattle.plain_monitor.specs.Monitor.{PlainMonitor, only_if, is_thread, owns, count_of, without, is_outside}
+use Rattle.plain_monitor.specs.Monitor.{enter, exit, wait, resumed, resume, calls, notify, notify_all}
 use Rattle.plain_monitor.specs.Listed.{times_in, presence}
 use Rattle.plain_history.specs.Sound.{IsSound}
 use Rattle.plain_history.specs.HeldByLog.{or_zero, holds_by_monitor}
@@ -52,12 +54,15 @@ enter_stands m n u t h = by_owner (owns m u) refl
     by_owner : (b : Bool) → owns m u ≡ b → holds_by_monitor n t ≡ holds_by_monitor m t + one_if (u == t)
     by_owner true e =
         let o = owner_is m.owner u e in
-        let s : record m { count = m.count + 1 } ≡ n = same_Some _ _ (sym (ap (λ (b : Bool). cond b (Some (record m { count = m.count + 1 })) (only_if (is_none m.owner && is_outside m u) (record m { owner = Some u; count = 1 }))) e) ∙ h) in
+        let s : record m { count = m.count + 1 } ≡ n = same_Some _ _ (sym (ap (λ (b : Bool). cond b (Some (record m { count = m.count + 1 }))
+        (only_if (is_none m.owner && is_outside m u) (record m { owner = Some u; count = 1 }))) e) ∙ h) in
         subst (λ (k : PlainMonitor). holds_by_monitor k t ≡ holds_by_monitor m t + one_if (u == t)) s
-        (stands_by (record m { count = m.count + 1 }) (Some u) t o ∙ entered m.count 0 (kept m.waits t) (kept m.called t) (u == t) ∙ ap (λ x. x + one_if (u == t)) (sym (stands_by m (Some u) t o)))
+        (stands_by (record m { count = m.count + 1 }) (Some u) t o ∙ entered m.count 0 (kept m.waits t) (kept m.called t) (u == t)
+        ∙ ap (λ x. x + one_if (u == t)) (sym (stands_by m (Some u) t o)))
     by_owner false e =
         let r = cond_some (is_none m.owner && is_outside m u) (record m { owner = Some u; count = 1 }) n
-        (sym (ap (λ (b : Bool). cond b (Some (record m { count = m.count + 1 })) (only_if (is_none m.owner && is_outside m u) (record m { owner = Some u; count = 1 }))) e) ∙ h) in
+        (sym (ap (λ (b : Bool). cond b (Some (record m { count = m.count + 1 }))
+        (only_if (is_none m.owner && is_outside m u) (record m { owner = Some u; count = 1 }))) e) ∙ h) in
         let o = no_owner m.owner (both_true _ _ r.0).0 in
         subst (λ (k : PlainMonitor). holds_by_monitor k t ≡ holds_by_monitor m t + one_if (u == t)) r.1
         (taken (kept m.waits t) (kept m.called t) (u == t) ∙ ap (λ x. x + one_if (u == t)) (sym (stands_by m None t o)))
@@ -76,14 +81,16 @@ exit_stands m n u t s h =
     subst (λ (k : PlainMonitor). holds_by_monitor k t ≡ holds_by_monitor m t - one_if (u == t)) r.1 (by_count (nat_le m.count 1) refl r.0 (u == t) refl)
   where
     by_count : (b : Bool) → nat_le m.count 1 ≡ b → owns m u ≡ true → (c : Bool) → (u == t) ≡ c
-        → holds_by_monitor (cond (nat_le m.count 1) (record m { owner = None; count = 0 }) (record m { count = m.count - 1 })) t ≡ holds_by_monitor m t - one_if (u == t)
+        → holds_by_monitor (cond (nat_le m.count 1) (record m { owner = None; count = 0 }) (record m { count = m.count - 1 })) t
+        ≡ holds_by_monitor m t - one_if (u == t)
     by_count true b own c e =
         let k = unkept m u s own in
         let was = stands_by m (Some u) t (owner_is m.owner u own) in
         let now = ap (λ (q : Bool). holds_by_monitor (cond q (record m { owner = None; count = 0 }) (record m { count = m.count - 1 })) t) b in
         now ∙ at_last c e k was
       where
-        at_last : (c : Bool) → (u == t) ≡ c → (kept m.waits u ≡ 0) × (kept m.called u ≡ 0) → holds_by_monitor m t ≡ cond (u == t) m.count 0 + kept m.waits t + kept m.called t
+        at_last : (c : Bool) → (u == t) ≡ c → (kept m.waits u ≡ 0) × (kept m.called u ≡ 0)
+            → holds_by_monitor m t ≡ cond (u == t) m.count 0 + kept m.waits t + kept m.called t
             → 0 + kept m.waits t + kept m.called t ≡ holds_by_monitor m t - one_if (u == t)
         at_last true e k was =
             let same = eqb-true u t e in
@@ -105,10 +112,12 @@ exit_stands m n u t s h =
             let f = ap (λ (q : Bool). cond q m.count 0) e in let j = ap (λ (q : Bool). cond q (m.count - 1) 0) e in let g = ap one_if e in
             let large : 1 < m.count = grind (arith, nat_tests) in
             omega (arith, was, f, g, j, large)
-        at_more false e was = let f = ap (λ (q : Bool). cond q m.count 0) e in let j = ap (λ (q : Bool). cond q (m.count - 1) 0) e in let g = ap one_if e in omega (arith, was, f, g, j)
+        at_more false e was = let f = ap (λ (q : Bool). cond q m.count 0) e in
+            let j = ap (λ (q : Bool). cond q (m.count - 1) 0) e in let g = ap one_if e in omega (arith, was, f, g, j)
 
 -- a count that is appended to a list
-kept_end : (ps : List (ℕ × ℕ)) (p : ℕ × ℕ) (t : ℕ) → kept ps t ≡ 0 ⊎ ((p.0 == t) ≡ false) → times_in ps t ≡ 0 ⊎ ((p.0 == t) ≡ false) → kept (ps ++ p ∷ []) t ≡ kept ps t + cond (p.0 == t) p.1 0
+kept_end : (ps : List (ℕ × ℕ)) (p : ℕ × ℕ) (t : ℕ) → kept ps t ≡ 0 ⊎ ((p.0 == t) ≡ false)
+    → times_in ps t ≡ 0 ⊎ ((p.0 == t) ≡ false) → kept (ps ++ p ∷ []) t ≡ kept ps t + cond (p.0 == t) p.1 0
 kept_end [] p t h g = at (p.0 == t)
   where
     at : (b : Bool) → or_zero (cond b (Some p.1) None) ≡ 0 + cond b p.1 0
@@ -157,7 +166,8 @@ resumed_stands m n u t (Some k) e h =
     let was = stands_by m None t (no_owner m.owner r.0) in
     subst (λ (x : PlainMonitor). holds_by_monitor x t ≡ holds_by_monitor m t) r.1 (elim (cases_eq t u) [
       | inl same ↦ let a : cond (u == t) k 0 ≡ k = ap (λ (b : Bool). cond b k 0) (eq-eqb u t (sym same)) in
-          let b : kept (without m.called u) t ≡ 0 = subst (λ v. kept (without m.called u) v ≡ 0) (sym same) (never_counted (without m.called u) u (none_without m.called u)) in
+          let b : kept (without m.called u) t ≡ 0 =
+          subst (λ v. kept (without m.called u) v ≡ 0) (sym same) (never_counted (without m.called u) u (none_without m.called u)) in
           let d : kept m.called t ≡ k = subst (λ v. kept m.called v ≡ k) (sym same) (ap or_zero e) in
           omega (arith, was, a, b, d)
       | inr other ↦ let a : cond (u == t) k 0 ≡ 0 = ap (λ (b : Bool). cond b k 0) (ne_eqb u t (λ q. other (sym q))) in
@@ -168,7 +178,8 @@ resumed_stands m n u t (Some k) e h =
 pub resume_stands : (m n : PlainMonitor) (u t : ℕ) → resume m u ≡ Some n → holds_by_monitor n t ≡ holds_by_monitor m t
 resume_stands m n u t h = resumed_stands m n u t (count_of m.called u) refl h
 
-calls_stands : (m n : PlainMonitor) (t : ℕ) (ws : List (ℕ × ℕ)) (woken : Option ℕ) → m.waits ≡ ws → IsSound m → calls m ws woken ≡ Some n → holds_by_monitor n t ≡ holds_by_monitor m t
+calls_stands : (m n : PlainMonitor) (t : ℕ) (ws : List (ℕ × ℕ)) (woken : Option ℕ) → m.waits ≡ ws
+    → IsSound m → calls m ws woken ≡ Some n → holds_by_monitor n t ≡ holds_by_monitor m t
 calls_stands m n t [] None e s h = ap (λ k. holds_by_monitor k t) (sym (same_Some m n h))
 calls_stands m n t [] (Some u) e s h = absurd (cc h)
 calls_stands m n t (p ∷ ps) None e s h = absurd (cc h)
@@ -179,14 +190,16 @@ calls_stands m n t (p ∷ ps) (Some u) e s h =
     let waits = ap (λ ws. kept ws t) e in
     subst (λ (x : PlainMonitor). holds_by_monitor x t ≡ holds_by_monitor m t) r.1 (by_test (p.0 == t) refl one split waits)
   where
-    by_test : (b : Bool) → (p.0 == t) ≡ b → presence m t ≤ 1 → times_in m.waits t ≡ cond (p.0 == t) 1 0 + times_in ps t → kept m.waits t ≡ or_zero (cond (p.0 == t) (Some p.1) (count_of ps t))
+    by_test : (b : Bool) → (p.0 == t) ≡ b → presence m t ≤ 1 → times_in m.waits t ≡ cond (p.0 == t) 1 0 + times_in ps t
+        → kept m.waits t ≡ or_zero (cond (p.0 == t) (Some p.1) (count_of ps t))
         → cond (owns m t) m.count 0 + kept ps t + kept (m.called ++ p ∷ []) t ≡ cond (owns m t) m.count 0 + kept m.waits t + kept m.called t
     by_test true e one split waits =
         let g = ap one_if e in
         let none : times_in ps t ≡ 0 = omega (arith, one, split, g) in
         let uncalled : times_in m.called t ≡ 0 = omega (arith, one, split, g) in
         let more = unlisted_or m.called p t (λ x. uncalled) in
-        let a = never_counted ps t none in let b = ap (λ (c : Bool). or_zero (cond c (Some p.1) (count_of ps t))) e in let d = ap (λ (c : Bool). cond c p.1 0) e in
+        let a = never_counted ps t none in let b = ap (λ (c : Bool). or_zero (cond c (Some p.1) (count_of ps t))) e in
+        let d = ap (λ (c : Bool). cond c p.1 0) e in
         omega (arith, more, a, b, d, waits)
     by_test false e one split waits =
         let more = unlisted_or m.called p t (λ x. absurd (cc (x, e))) in

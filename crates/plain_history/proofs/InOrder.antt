@@ -1,5 +1,6 @@
 -- A cut at the end of all logs is in order, and stays so where an entry is appended; and what a cut in order says of two entries.
-use Rattle.std.proofs.Common.{◌≡◌, ℕ, zero, suc, ◌+◌, ◌<◌, ◌≤◌, true, List, [], ◌∷◌, ◌++◌, length, map, take, drop, Some, slice_get, slice_index, refl, ap, sym, subst, ◌∙◌, arith, Bool, false}
+use Rattle.std.proofs.Common.{◌≡◌, ℕ, zero, suc, ◌+◌, ◌<◌, ◌≤◌, true, List, [], ◌∷◌, ◌++◌, length, map, take, drop}
+use Rattle.std.proofs.Common.{Some, slice_get, slice_index, refl, ap, sym, subst, ◌∙◌, arith, Bool, false}
 use Rattle.std.proofs.lemmas.List.{drop_all}
 use Rattle.std.proofs.lemmas.Option.{none-some, same_Some}
 use Rattle.std.specs.List.{AllByRecursion}
@@ -67,7 +68,7 @@ all_fronts P t (n ∷ ns) (log ∷ logs) a =
     (all_front P t n log (first_log P t log logs a))
     (all_fronts P (t + 1) ns logs (other_logs P t log logs a))
 
--- what stands behind the fronts has one entry more
+-- what stands after the fronts has one entry more
 all_rest : (P : ℕ × Logged → Type 0) (t n : ℕ) (log : List Logged) (l : Logged) → P (t, l) → AllByRecursion P (map (λ m. (t, m)) (drop n log))
     → AllByRecursion P (map (λ m. (t, m)) (drop n (log ++ l ∷ [])))
 all_rest P t zero [] l h a = (h, tt)
@@ -104,7 +105,7 @@ pub in_order_with : (cut : List ℕ) (logs : List (List Logged)) (t : ℕ) (l : 
 in_order_with cut logs t l may same h =
     let Last : ℕ × Logged → Type 0 = λ x. Stands x (t, l) in
     let last : AllByRecursion Last (order (cut_logs cut logs)) =
-    all_ordered Last (with_threads 0 (cut_logs cut logs)) (all_fronts Last 0 cut logs (all_unordered Last (with_threads 0 logs) may.behind)) in
+    all_ordered Last (with_threads 0 (cut_logs cut logs)) (all_fronts Last 0 cut logs (all_unordered Last (with_threads 0 logs) may.follows)) in
     let now : List (List Logged) = logs_since cut (appended logs t l) in
     let next : (x : ℕ × Logged) → StandsBefore (logs_since cut logs) x → Last x → StandsBefore now x =
     λ x a b. all_ordered (Stands x) (with_threads 0 now)

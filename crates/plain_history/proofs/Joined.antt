@@ -1,5 +1,6 @@
 -- Where the objects take all entries, and each thread's state its own, the two take all together.
-use Rattle.std.proofs.Common.{◌≡◌, ℕ, zero, suc, ◌+◌, ◌<◌, ◌≤◌, List, [], ◌∷◌, length, map, Option, Some, None, slice_get, slice_set, option_map, option_and_then, refl, ap, sym, subst, ◌∙◌, inl, inr, arith}
+use Rattle.std.proofs.Common.{◌≡◌, ℕ, zero, suc, ◌+◌, ◌<◌, ◌≤◌, List, [], ◌∷◌, length, map, Option, Some, None, slice_get}
+use Rattle.std.proofs.Common.{slice_set, option_map, option_and_then, refl, ap, sym, subst, ◌∙◌, inl, inr, arith}
 use Rattle.std.proofs.lemmas.Bool.{cases_eq}
 use Rattle.std.proofs.lemmas.List.{length-set}
 use Rattle.std.proofs.lemmas.Option.{same_Some}
@@ -26,7 +27,8 @@ get_within (x ∷ xs) zero h = (x, refl)
 get_within (x ∷ xs) (suc i) h = get_within xs i (omega arith)
 
 -- two lists of one length that agree at each place are the same
-pub same_lists : {A : Type 0} (xs ys : List A) → length ys ≡ length xs → ((i : ℕ) (x y : A) → slice_get xs i ≡ Some x → slice_get ys i ≡ Some y → x ≡ y) → xs ≡ ys
+pub same_lists : {A : Type 0} (xs ys : List A) → length ys ≡ length xs
+    → ((i : ℕ) (x y : A) → slice_get xs i ≡ Some x → slice_get ys i ≡ Some y → x ≡ y) → xs ≡ ys
 same_lists [] [] n f = refl
 same_lists [] (y ∷ ys) n f = absurd (omega (arith, n))
 same_lists (x ∷ xs) [] n f = absurd (omega (arith, n))
@@ -44,7 +46,8 @@ log_within t n (l ∷ log) h = (h, log_within t n log h)
 pub logs_within : (t n : ℕ) (logs : List (List Logged)) → t + length logs ≤ n → AllByRecursion (λ (x : ℕ × Logged). x.0 < n) (with_threads t logs)
 logs_within t n [] h = tt
 logs_within t n (log ∷ logs) h =
-    all_append (λ x. x.0 < n) (map (λ l. (t, l)) log) (with_threads (t + 1) logs) (log_within t n log (omega (arith, h))) (logs_within (t + 1) n logs (omega (arith, h)))
+    all_append (λ x. x.0 < n) (map (λ l. (t, l)) log) (with_threads (t + 1) logs)
+    (log_within t n log (omega (arith, h))) (logs_within (t + 1) n logs (omega (arith, h)))
 
 -- a value that is changed where it is there
 map_as_then : {A B : Type 0} (f : A → B) (o : Option A) → option_and_then (λ a. Some (f a)) o ≡ option_map f o
@@ -105,7 +108,8 @@ module _ {S : Type 0} (step : S → Entry → Option S) where
       rw (a.1, s.1, b.1) (joined xs a.0 after (slice_set states x.0 b.0) finals rest a.2 (owns_rest states finals x xs s.0 b.0 s.1 b.1 each))
 
   -- each state takes an entry and then the rest of its own, where its thread's state takes the entry
-  owns_with_first : (states finals : List S) (x : ℕ × Logged) (xs : List (ℕ × Logged)) (s next : S) → slice_get states x.0 ≡ Some s → step s x.1.entry ≡ Some next
+  owns_with_first : (states finals : List S) (x : ℕ × Logged) (xs : List (ℕ × Logged)) (s next : S)
+      → slice_get states x.0 ≡ Some s → step s x.1.entry ≡ Some next
       → EachTakesItsOwn step (slice_set states x.0 next) finals xs → EachTakesItsOwn step states finals (x ∷ xs)
   owns_with_first states finals x xs s next was takes each =
       record {
@@ -113,7 +117,8 @@ module _ {S : Type 0} (step : S → Entry → Option S) where
         own = λ t now final at end. elim (cases_eq x.0 t) [
           | inl e ↦
               let n : s ≡ now = same_Some s now (sym was ∙ ap (slice_get states) e ∙ at) in
-              let there : slice_get (slice_set states x.0 next) t ≡ Some next = ap (slice_get (slice_set states x.0 next)) (sym e) ∙ get_set_same states x.0 s next was in
+              let there : slice_get (slice_set states x.0 next) t ≡ Some next =
+              ap (slice_get (slice_set states x.0 next)) (sym e) ∙ get_set_same states x.0 s next was in
               let f = each.own t next final there end in
               rw (e, same_thread t, ← n, takes) f
           | inr d ↦
@@ -122,7 +127,8 @@ module _ {S : Type 0} (step : S → Entry → Option S) where
       }
 
   -- the two that took all together each took all
-  pub parted : (xs : List (ℕ × Logged)) (objects after : List PlainObject) (states finals : List S) → take_all_joined step objects states xs ≡ Some (after, finals)
+  pub parted : (xs : List (ℕ × Logged)) (objects after : List PlainObject) (states finals : List S)
+      → take_all_joined step objects states xs ≡ Some (after, finals)
       → (take_all objects xs ≡ Some after) × EachTakesItsOwn step states finals xs
   parted [] objects after states finals h =
       let e = same_Some (objects, states) (after, finals) h in
@@ -137,13 +143,16 @@ module _ {S : Type 0} (step : S → Entry → Option S) where
       (rw b.0 rest.0, owns_with_first states finals x xs c.s c.next c.was c.takes each)
 
   -- each state takes its own of the order, where it takes its log
-  own_by_log : (logs : List (List Logged)) (states finals : List S) → AllByRecursion (RisesAbove 0) logs → EachTakesItsLog step states finals logs → EachTakesItsOwn step states finals (order logs)
+  own_by_log : (logs : List (List Logged)) (states finals : List S) → AllByRecursion (RisesAbove 0) logs
+      → EachTakesItsLog step states finals logs → EachTakesItsOwn step states finals (order logs)
   own_by_log logs states finals r each =
       record { threads = each.threads; own = λ t s final at end. rw (thread_kept logs t r) (each.own t s final at end) }
 
   -- the two take the order of the logs together
-  pub joined_logs : (shape : List (ℕ × ℕ)) (logs : List (List Logged)) (after : List PlainObject) (states finals : List S) → AllByRecursion (RisesAbove 0) logs → length logs ≤ length states
-      → objects_after shape logs ≡ Some after → EachTakesItsLog step states finals logs → take_all_joined step (new_objects shape) states (order logs) ≡ Some (after, finals)
+  pub joined_logs : (shape : List (ℕ × ℕ)) (logs : List (List Logged)) (after : List PlainObject) (states finals : List S)
+      → AllByRecursion (RisesAbove 0) logs → length logs ≤ length states
+      → objects_after shape logs ≡ Some after → EachTakesItsLog step states finals logs
+      → take_all_joined step (new_objects shape) states (order logs) ≡ Some (after, finals)
   joined_logs shape logs after states finals r n h each =
       let within = all_ordered (λ x. x.0 < length states) (with_threads 0 logs) (logs_within 0 (length states) logs (omega (arith, n))) in
       joined (order logs) (new_objects shape) after states finals within h (own_by_log logs states finals r each)

@@ -1,6 +1,8 @@
 -- What is there after an entry: more than before, by one object at most; and two entries of two threads can be taken the other way round, where
 -- the first doesn't make what the second needs.
-use Rattle.std.proofs.Common.{◌≡◌, ℕ, ◌+◌, ◌-◌, ◌*◌, ◌/◌, ◌%◌, ◌<◌, ◌≤◌, ◌≢◌, ◌==◌, ◌||◌, ◌&&◌, nat_lt, Bool, true, false, List, [], ◌∷◌, ◌++◌, length, slice_set, refl, ap, sym, ◌∙◌, subst, arith, inl, inr, Option, Some, None, length-append, length-set, option_map, get_or-set_other, get_or-set_same}
+use Rattle.std.proofs.Common.{◌≡◌, ℕ, ◌+◌, ◌-◌, ◌*◌, ◌/◌, ◌%◌, ◌<◌, ◌≤◌, ◌≢◌, ◌==◌, ◌||◌, ◌&&◌, nat_lt, Bool, true, false}
+use Rattle.std.proofs.Common.{List, [], ◌∷◌, ◌++◌, length, slice_set, refl, ap, sym, ◌∙◌, subst, arith, inl, inr, Option}
+use Rattle.std.proofs.Common.{Some, None, length-append, length-set, option_map, get_or-set_other, get_or-set_same}
 use Rattle.std.proofs.lemmas.Bool.{cases_eq}
 use Rattle.std.proofs.lemmas.Bool.Decides.{nat_tests}
 use Rattle.std.proofs.lemmas.List.{set_comm}
@@ -9,7 +11,8 @@ use Rattle.std.specs.List.{list_all, list_any}
 use Rattle.plain_monitor.specs.Limits.{most_made}
 use Rattle.plain_monitor.specs.declared.entry.Entry.{Entry}
 use Rattle.plain_monitor.specs.declared.entry.Logged.{Logged}
-use Rattle.plain_monitor.specs.Made.{Numbering, first_made, made_number, maker_of, place_of, made_by, is_there, creates, needs, may_create, take_created, take_made}
+use Rattle.plain_monitor.specs.Made.{Numbering, first_made, made_number, maker_of, place_of, made_by}
+use Rattle.plain_monitor.specs.Made.{is_there, creates, needs, may_create, take_created, take_made}
 use Rattle.plain_history.specs.Known.{is_one_of, makes_for}
 use Rattle.plain_history.proofs.Passing.{TakesTurned}
 
@@ -24,7 +27,8 @@ pub row_other : (made : List (List ℕ)) (t c u : ℕ) → u ≢ t → made_by (
 row_other made t c u d = get_or-set_other made t u (made_by made t ++ c ∷ []) [] d
 
 -- what was made is still there
-place_more : (made : List (List ℕ)) (t c u k : ℕ) → t < length made → nat_lt k (length (made_by made u)) ≡ true → nat_lt k (length (made_by (grown made t c) u)) ≡ true
+place_more : (made : List (List ℕ)) (t c u k : ℕ) → t < length made
+    → nat_lt k (length (made_by made u)) ≡ true → nat_lt k (length (made_by (grown made t c) u)) ≡ true
 place_more made t c u k h p =
     elim (cases_eq u t) [
       | inl e ↦
@@ -41,11 +45,13 @@ either_more false b c f h = f h
 
 pub there_more : (n : Numbering) (made : List (List ℕ)) (t c o : ℕ) → t < length made → is_there n made o ≡ true → is_there n (grown made t c) o ≡ true
 there_more n made t c o h p =
-    either_more (nat_lt o (first_made n)) (nat_lt (place_of n o) (length (made_by made (maker_of n o)))) (nat_lt (place_of n o) (length (made_by (grown made t c) (maker_of n o))))
+    either_more (nat_lt o (first_made n)) (nat_lt (place_of n o) (length (made_by made (maker_of n o))))
+    (nat_lt (place_of n o) (length (made_by (grown made t c) (maker_of n o))))
     (place_more made t c (maker_of n o) (place_of n o) h) p
 
 -- and only the new one more
-place_less : (made : List (List ℕ)) (t c u k : ℕ) → t < length made → (u ≡ t → k ≢ length (made_by made t)) → nat_lt k (length (made_by (grown made t c) u)) ≡ true
+place_less : (made : List (List ℕ)) (t c u k : ℕ) → t < length made
+    → (u ≡ t → k ≢ length (made_by made t)) → nat_lt k (length (made_by (grown made t c) u)) ≡ true
     → nat_lt k (length (made_by made u)) ≡ true
 place_less made t c u k h new p =
     elim (cases_eq u t) [
@@ -67,15 +73,19 @@ either_less false b c f h = f refl h
 pub number_of : (first o u k : ℕ) → first ≤ o → (o - first) / most_made ≡ u → (o - first) % most_made ≡ k → o ≡ first + most_made * u + k
 number_of first o u k h p q = omega (arith, p, q)
 
-pub there_less : (n : Numbering) (made : List (List ℕ)) (t c o : ℕ) → t < length made → o ≢ made_number n t (length (made_by made t)) → is_there n (grown made t c) o ≡ true
+pub there_less : (n : Numbering) (made : List (List ℕ)) (t c o : ℕ) → t < length made
+    → o ≢ made_number n t (length (made_by made t)) → is_there n (grown made t c) o ≡ true
     → is_there n made o ≡ true
 there_less n made t c o h other p =
-    either_less (nat_lt o (first_made n)) (nat_lt (place_of n o) (length (made_by made (maker_of n o)))) (nat_lt (place_of n o) (length (made_by (grown made t c) (maker_of n o))))
-    (λ late. place_less made t c (maker_of n o) (place_of n o) h (λ e k. other (number_of (first_made n) o t (length (made_by made t)) (grind (arith, nat_tests, late)) e k)))
+    either_less (nat_lt o (first_made n)) (nat_lt (place_of n o) (length (made_by made (maker_of n o))))
+    (nat_lt (place_of n o) (length (made_by (grown made t c) (maker_of n o))))
+    (λ late. place_less made t c (maker_of n o) (place_of n o) h
+    (λ e k. other (number_of (first_made n) o t (length (made_by made t)) (grind (arith, nat_tests, late)) e k)))
     p
 
 -- a new object has a number that wasn't there, and is there now
-pub maker_of_new : (first t k o : ℕ) → k < most_made → o ≡ first + most_made * t + k → ((o - first) / most_made ≡ t) × ((o - first) % most_made ≡ k) × (first ≤ o)
+pub maker_of_new : (first t k o : ℕ) → k < most_made → o ≡ first + most_made * t + k
+    → ((o - first) / most_made ≡ t) × ((o - first) % most_made ≡ k) × (first ≤ o)
 maker_of_new first t k o h e = (omega (arith, e), omega (arith, e), omega (arith, e))
 
 -- ENTRIES, by what they make
@@ -94,13 +104,15 @@ neither_holds false b h = (refl, h)
 and_holds : (a b : Bool) → a ≡ true → b ≡ true → (a && b) ≡ true
 and_holds a b p q = rw (p, q) refl
 
-pub all_more : (n : Numbering) (made : List (List ℕ)) (t c : ℕ) (os : List ℕ) → t < length made → all_there n made os ≡ true → all_there n (grown made t c) os ≡ true
+pub all_more : (n : Numbering) (made : List (List ℕ)) (t c : ℕ) (os : List ℕ)
+    → t < length made → all_there n made os ≡ true → all_there n (grown made t c) os ≡ true
 all_more n made t c [] h p = refl
 all_more n made t c (o ∷ os) h p =
     let b = both_hold (is_there n made o) (all_there n made os) p in
     and_holds (is_there n (grown made t c) o) (all_there n (grown made t c) os) (there_more n made t c o h b.0) (all_more n made t c os h b.1)
 
-all_less : (n : Numbering) (made : List (List ℕ)) (t c i : ℕ) (os : List ℕ) → t < length made → i ≡ made_number n t (length (made_by made t)) → list_any (λ o. i == o) os ≡ false
+all_less : (n : Numbering) (made : List (List ℕ)) (t c i : ℕ) (os : List ℕ) → t < length made
+    → i ≡ made_number n t (length (made_by made t)) → list_any (λ o. i == o) os ≡ false
     → all_there n (grown made t c) os ≡ true → all_there n made os ≡ true
 all_less n made t c i [] h e d p = refl
 all_less n made t c i (o ∷ os) h e d p =
@@ -125,8 +137,14 @@ four_hold false b c d h = absurd (cc h)
 
 pub creating : (n : Numbering) (made : List (List ℕ)) (t : ℕ) (p : ℕ × ℕ) → may_create n made t p ≡ true → MayCreate n made t p
 creating n made t p h =
-    let a = four_hold (nat_lt t (length made)) (nat_lt (length (made_by made t)) most_made) (nat_lt p.1 n.classes) (p.0 == made_number n t (length (made_by made t))) h in
-    record { thread = grind (arith, nat_tests, a.0); room = grind (arith, nat_tests, a.1); class = grind (arith, nat_tests, a.2); number = grind (arith, nat_tests, a.3) }
+    let a = four_hold (nat_lt t (length made)) (nat_lt (length (made_by made t)) most_made)
+    (nat_lt p.1 n.classes) (p.0 == made_number n t (length (made_by made t))) h in
+    record {
+      thread = grind (arith, nat_tests, a.0);
+      room = grind (arith, nat_tests, a.1);
+      class = grind (arith, nat_tests, a.2);
+      number = grind (arith, nat_tests, a.3);
+    }
 
 pub may_be_created : (n : Numbering) (made : List (List ℕ)) (t : ℕ) (p : ℕ × ℕ) → MayCreate n made t p → may_create n made t p ≡ true
 may_be_created n made t p m =
@@ -144,8 +162,10 @@ Turned n t e p u f q before after =
 grown_length : (made : List (List ℕ)) (t c : ℕ) → length (grown made t c) ≡ length made
 grown_length made t c = simp length-set
 
-pub turn : (n : Numbering) (t : ℕ) (e : Entry) (p : Option (ℕ × ℕ)) (u : ℕ) (f : Entry) (q : Option (ℕ × ℕ)) → t ≢ u → is_one_of (option_map (λ v. v.0) p) (needs f) ≡ false
-    → (before middle after : List (List ℕ)) → take_created n before t e p ≡ Some middle → take_created n middle u f q ≡ Some after → Turned n t e p u f q before after
+pub turn : (n : Numbering) (t : ℕ) (e : Entry) (p : Option (ℕ × ℕ)) (u : ℕ) (f : Entry) (q : Option (ℕ × ℕ))
+    → t ≢ u → is_one_of (option_map (λ v. v.0) p) (needs f) ≡ false
+    → (before middle after : List (List ℕ)) → take_created n before t e p ≡ Some middle
+    → take_created n middle u f q ≡ Some after → Turned n t e p u f q before after
 turn n t e None u f None d free before middle after h k =
     let a = cond_some (all_there n before (needs e)) before middle h in
     let b = cond_some (all_there n middle (needs f)) middle after k in

@@ -37,7 +37,8 @@ pub no_class : (n : Numbering) (made : List (List ℕ)) (t o c : ℕ) → n.clas
 no_class n made t o c past = not_created n made t (New o c) (o, c) (λ m. let class = m.class in omega (arith, class, past))
 
 -- an entry that names what isn't there isn't taken
-pub names_nothing : (n : Numbering) (made : List (List ℕ)) (t : ℕ) (e : Entry) (o : ℕ) → named e ≡ Some o → is_there n made o ≡ false → take_made n made t e ≡ None
+pub names_nothing : (n : Numbering) (made : List (List ℕ)) (t : ℕ) (e : Entry) (o : ℕ)
+    → named e ≡ Some o → is_there n made o ≡ false → take_made n made t e ≡ None
 names_nothing n made t e o is none = by_result (take_made n made t e) refl
   where
     by_result : (m : Option (List (List ℕ))) → take_made n made t e ≡ m → m ≡ None

@@ -1,10 +1,12 @@
 -- Entries of a thread leave what another owns, and no thread resumes at an object that has an owner.
-use Rattle.std.proofs.Common.{◌≡◌, ◌≢◌, ℕ, ◌+◌, ◌==◌, eqb-true, Bool, true, false, cond, List, [], ◌∷◌, slice_set, slice_index_or, Option, Some, None, refl, sym, ap, ◌∙◌, subst, inl, inr}
+use Rattle.std.proofs.Common.{◌≡◌, ◌≢◌, ℕ, ◌+◌, ◌==◌, eqb-true, Bool, true, false, cond, List, [], ◌∷◌, slice_set}
+use Rattle.std.proofs.Common.{slice_index_or, Option, Some, None, refl, sym, ap, ◌∙◌, subst, inl, inr}
 use Rattle.std.proofs.lemmas.Bool.{cases_eq}
 use Rattle.std.proofs.lemmas.List.{get_or-set_same, get_or-set_other}
 use Rattle.std.proofs.lemmas.Option.{cond_some, same_Some, get_or_from_slice_get}
 use Rattle.plain_monitor.specs.declared.entry.Entry.{Entry}
-use Rattle.plain_monitor.specs.declared.entry.Entry.TheVariants.{Enter, Exit, Get, Put, Wait, Resume, Notify, NotifyAll, Hash, New, Print, Dump, Trap, Spent, Done}
+use Rattle.plain_monitor.specs.declared.entry.Entry.TheVariants.{Enter, Exit, Get, Put, Wait, Resume, Notify, NotifyAll}
+use Rattle.plain_monitor.specs.declared.entry.Entry.TheVariants.{Hash, New, Print, Dump, Trap, Spent, Done}
 use Rattle.plain_monitor.specs.Monitor.{PlainMonitor, owns, count_of, enter, exit, wait, resumed, resume, calls, notify, notify_all}
 use Rattle.plain_monitor.specs.Objects.{PlainObject, new_object, take_at, take_named, take_entry, named, hashed}
 use Rattle.plain_history.proofs.Swaps.{taken_at}
@@ -94,7 +96,8 @@ module _ (before after : List PlainObject) (t : ℕ) where
           let k = taken_at before after t e i g in
           elim (cases_eq o i) [
             | inl s ↦
-                let was : k.x.monitor.owner ≡ Some u = ap (λ (x : PlainObject). x.monitor.owner) (sym (get_or_from_slice_get before i k.x (new_object 0) k.was)) ∙ ap (owner_of before) (sym s) ∙ own in
+                let was : k.x.monitor.owner ≡ Some u = ap (λ (x : PlainObject). x.monitor.owner)
+                (sym (get_or_from_slice_get before i k.x (new_object 0) k.was)) ∙ ap (owner_of before) (sym s) ∙ own in
                 ap (λ xs. owner_of xs o) k.is ∙ ap (owner_of (slice_set before i k.y)) s
                 ∙ ap (λ (x : PlainObject). x.monitor.owner) (get_or-set_same before i k.y (new_object 0) (there before i k.x k.was))
                 ∙ object_keeps k.x k.y u t e was d k.step

@@ -1,4 +1,4 @@
--- An entry that a state takes after all others, it also takes at its place in the order, where each entry behind that place lets it pass. The
+-- An entry that a state takes after all others, it also takes at its place in the order, where each entry after that place lets it pass. The
 -- states are of any kind: what the plain objects are, and which are there.
 use Rattle.std.proofs.Common.{◌≡◌, ℕ, Bool, true, false, List, [], ◌∷◌, refl, Option, Some, None, option_and_then}
 use Rattle.std.specs.List.{AllByRecursion}
@@ -10,7 +10,8 @@ use Rattle.plain_monitor.proofs.Orders.{before_asym}
 use Rattle.plain_monitor.proofs.Ordering.{IsOrdered, NoneBefore, not_before}
 
 -- a state that takes several entries takes the first, and then the others
-pub first_run : {S : Type 0} (take : S → ℕ → Entry → Option S) (first : Option S) (xs : List (ℕ × Logged)) (after : S) → option_and_then (λ s. run_all take s xs) first ≡ Some after
+pub first_run : {S : Type 0} (take : S → ℕ → Entry → Option S) (first : Option S) (xs : List (ℕ × Logged)) (after : S)
+    → option_and_then (λ s. run_all take s xs) first ≡ Some after
     → (middle : S) × (first ≡ Some middle) × (run_all take middle xs ≡ Some after)
 first_run take None xs after h = absurd (cc h)
 first_run take (Some middle) xs after h = (middle, refl, h)
@@ -41,13 +42,14 @@ module _ {S : Type 0} (take : S → ℕ → Entry → Option S) (x : ℕ × Logg
       let s = free.0 before a.0 b.0 a.1 b.1 in
       rw (s.1, s.2) b.2
 
-  -- it passes all behind its place
+  -- it passes all after its place
   pass_all : (y : ℕ × Logged) (zs : List (ℕ × Logged)) → is_before x y ≡ true → NoneBefore y zs → PassesLater zs → Passes zs
   pass_all y [] h a b = tt
   pass_all y (z ∷ zs) h a b = (b.0 (not_before x y z h a.0), pass_all y zs h a.1 b.1)
 
   -- the next lemma, by the test against the head
-  inserted_at_head : (y : ℕ × Logged) (ys : List (ℕ × Logged)) (b : Bool) → is_before x y ≡ b → (before middle after : S) → IsOrdered (y ∷ ys) → PassesLater (y ∷ ys)
+  inserted_at_head : (y : ℕ × Logged) (ys : List (ℕ × Logged)) (b : Bool) → is_before x y ≡ b
+      → (before middle after : S) → IsOrdered (y ∷ ys) → PassesLater (y ∷ ys)
       → run_all take before (y ∷ ys) ≡ Some middle → take middle x.0 x.1.entry ≡ Some after
       → ((s : S) → run_all take s ys ≡ Some middle → run_all take s (insert_ordered x ys) ≡ Some after)
       → run_all take before (insert_ordered x (y ∷ ys)) ≡ Some after
@@ -57,7 +59,7 @@ module _ {S : Type 0} (take : S → ℕ → Entry → Option S) (x : ℕ × Logg
       let a = first_run take (take before y.0 y.1.entry) ys middle h in
       rw (hb, a.1) (ih a.0 a.2)
 
-  -- an entry that a state takes after these entries, and that may pass all behind it, the state also takes at its place
+  -- an entry that a state takes after these entries, and that may pass all after it, the state also takes at its place
   pub run_inserted : (ys : List (ℕ × Logged)) (before middle after : S) → IsOrdered ys → PassesLater ys → run_all take before ys ≡ Some middle
       → take middle x.0 x.1.entry ≡ Some after → run_all take before (insert_ordered x ys) ≡ Some after
   run_inserted [] before middle after up pass h k = let same : middle ≡ before = cc h in rw (← same, k) refl

@@ -1,12 +1,15 @@
 -- What slots refer to stays known, and who owns an object knows what its slots refer to.
-use Rattle.std.proofs.Common.{◌≡◌, ℕ, zero, suc, ◌<◌, ◌≢◌, ◌⊎◌, ◌==◌, ◌||◌, Bool, true, false, cond, List, [], ◌∷◌, ◌++◌, length, replicate, slice_set, slice_get, refl, ap, sym, ◌∙◌, subst, arith, inl, inr, Option, Some, None, pos, append_assoc, get_or-set_other, get_or-set_same}
+use Rattle.std.proofs.Common.{◌≡◌, ℕ, zero, suc, ◌<◌, ◌≢◌, ◌⊎◌, ◌==◌, ◌||◌, Bool, true, false, cond, List, [], ◌∷◌}
+use Rattle.std.proofs.Common.{◌++◌, length, replicate, slice_set, slice_get, refl, ap, sym, ◌∙◌, subst, arith, inl}
+use Rattle.std.proofs.Common.{inr, Option, Some, None, pos, append_assoc, get_or-set_other, get_or-set_same}
 use Rattle.std.proofs.lemmas.Bool.Decides.{nat_tests}
 use Rattle.std.proofs.lemmas.Option.{cond_some, same_Some}
 use Rattle.std.specs.List.{AllByRecursion, list_any}
 use Rattle.plain_monitor.specs.declared.entry.Value.{Value}
 use Rattle.plain_monitor.specs.declared.entry.Value.TheVariants.{Int, Ref}
 use Rattle.plain_monitor.specs.declared.entry.Entry.{Entry}
-use Rattle.plain_monitor.specs.declared.entry.Entry.TheVariants.{Enter, Exit, Get, Put, Wait, Resume, Notify, NotifyAll, Hash, New, Print, Dump, Trap, Spent, Done}
+use Rattle.plain_monitor.specs.declared.entry.Entry.TheVariants.{Enter, Exit, Get, Put, Wait, Resume, Notify, NotifyAll}
+use Rattle.plain_monitor.specs.declared.entry.Entry.TheVariants.{Hash, New, Print, Dump, Trap, Spent, Done}
 use Rattle.plain_monitor.specs.declared.entry.Logged.{Logged}
 use Rattle.plain_monitor.specs.Monitor.{PlainMonitor}
 use Rattle.plain_monitor.specs.Objects.{PlainObject, new_objects, take_at, take_named, take_entry, with_monitor, with_hash}
@@ -88,8 +91,10 @@ of_all P (j ∷ os) o h a = by_test (j == o) refl h (λ g. of_all P os o g a.1)
     by_test false e g later = later g
 
 -- ALL SLOTS. They stay known at an entry whose objects its thread knows.
-pub slots_stay_known : (n : Numbering) (made now_made : List (List ℕ)) (before after : List PlainObject) (logs : List (List Logged)) (kept now : List ℕ) (t : ℕ) (l : Logged)
-    → AllByRecursion (RisesAbove 0) logs → IsAboveBounds before logs kept t l → take_entry before t l.entry ≡ Some after → take_made n made t l.entry ≡ Some now_made
+pub slots_stay_known : (n : Numbering) (made now_made : List (List ℕ))
+    (before after : List PlainObject) (logs : List (List Logged)) (kept now : List ℕ) (t : ℕ) (l : Logged)
+    → AllByRecursion (RisesAbove 0) logs → IsAboveBounds before logs kept t l
+    → take_entry before t l.entry ≡ Some after → take_made n made t l.entry ≡ Some now_made
     → AllByRecursion (IsKnown n made logs t) (needs l.entry) → BoundsRise after logs kept now t l → SlotsAreKnown n made before logs kept
     → SlotsAreKnown n now_made after (appended logs t l) now
 slots_stay_known n made now_made before after logs kept now t l r above step makes all rise slots p i o z at slot =
@@ -103,10 +108,12 @@ slots_stay_known n made now_made before after logs kept now t l r above step mak
           let last = above.stamp in
           elim (slot_after a.x a.y t l.entry i o a.step (ap (λ (v : PlainObject). slice_get v.slots i) is ∙ slot)) [
             | inl was ↦
-                known_stays n made now_made logs t l o (bound_of logs kept p a.x.monitor.owner) (bound_of (appended logs t l) now p z.monitor.owner) r above.thread above.stamp makes
+                known_stays n made now_made logs t l o (bound_of logs kept p a.x.monitor.owner)
+                (bound_of (appended logs t l) now p z.monitor.owner) r above.thread above.stamp makes
                 (slots p i o a.x a.was was) (omega (arith, high, low))
             | inr put ↦
-                known_stays n made now_made logs t l o (last_stamp (log_of logs t)) (bound_of (appended logs t l) now p z.monitor.owner) r above.thread above.stamp makes
+                known_stays n made now_made logs t l o (last_stamp (log_of logs t))
+                (bound_of (appended logs t l) now p z.monitor.owner) r above.thread above.stamp makes
                 (of_all (IsKnown n made logs t) (needs l.entry) o put all) (omega (arith, high, last))
           ]
       | inr d ↦
@@ -114,13 +121,16 @@ slots_stay_known n made now_made before after logs kept now t l r above step mak
           let old = slots p i o m.x m.was (ap (λ xs. slice_get xs i) m.slots ∙ slot) in
           let same = ap (λ (v : PlainMonitor). bound_of logs kept p v.owner) m.same in
           let up = bound_grows logs kept now t l p z.monitor.owner above.thread above.stamp (rise.others p d) in
-          known_stays n made now_made logs t l o (bound_of logs kept p m.x.monitor.owner) (bound_of (appended logs t l) now p z.monitor.owner) r above.thread above.stamp makes
+          known_stays n made now_made logs t l o (bound_of logs kept p m.x.monitor.owner)
+          (bound_of (appended logs t l) now p z.monitor.owner) r above.thread above.stamp makes
           old (omega (arith, same, up))
     ]
 
 -- an owner knows what the slots refer to
-pub owner_knows : (n : Numbering) (made : List (List ℕ)) (objects : List PlainObject) (logs : List (List Logged)) (kept : List ℕ) (t p i o : ℕ) (x : PlainObject)
-    → SlotsAreKnown n made objects logs kept → slice_get objects p ≡ Some x → x.monitor.owner ≡ Some t → slice_get x.slots i ≡ Some (Ref o) → IsKnown n made logs t o
+pub owner_knows : (n : Numbering) (made : List (List ℕ)) (objects : List PlainObject)
+    (logs : List (List Logged)) (kept : List ℕ) (t p i o : ℕ) (x : PlainObject)
+    → SlotsAreKnown n made objects logs kept → slice_get objects p ≡ Some x
+    → x.monitor.owner ≡ Some t → slice_get x.slots i ≡ Some (Ref o) → IsKnown n made logs t o
 owner_knows n made objects logs kept t p i o x slots at owner slot = subst (λ w. IsKnownAt n made logs o (bound_of logs kept p w)) owner (slots p i o x at slot)
 
 -- AT FIRST no slot refers to anything
@@ -129,7 +139,8 @@ no_reference zero i o h = cc h
 no_reference (suc size) zero o h = cc h
 no_reference (suc size) (suc i) o h = no_reference size i o h
 
-pub new_slots_known : (n : Numbering) (made : List (List ℕ)) (shape : List (ℕ × ℕ)) (logs : List (List Logged)) (kept : List ℕ) → SlotsAreKnown n made (new_objects shape) logs kept
+pub new_slots_known : (n : Numbering) (made : List (List ℕ)) (shape : List (ℕ × ℕ)) (logs : List (List Logged)) (kept : List ℕ)
+    → SlotsAreKnown n made (new_objects shape) logs kept
 new_slots_known n made shape logs kept p i o x at slot = absurd (none shape p x at slot)
   where
     none : (s : List (ℕ × ℕ)) (p : ℕ) (x : PlainObject) → slice_get (new_objects s) p ≡ Some x → HasSlot x i o → ⊥
@@ -145,7 +156,8 @@ append_none : (xs : List ℕ) → xs ≡ xs ++ []
 append_none [] = refl
 append_none (x ∷ xs) = ap (λ ys. x ∷ ys) (append_none xs)
 
-adds : (n : Numbering) (before after : List (List ℕ)) (u t : ℕ) (e : Entry) (p : Option (ℕ × ℕ)) → take_created n before u e p ≡ Some after → Adds before after u t p
+adds : (n : Numbering) (before after : List (List ℕ)) (u t : ℕ) (e : Entry) (p : Option (ℕ × ℕ))
+    → take_created n before u e p ≡ Some after → Adds before after u t p
 adds n before after u t e None h =
     let a = cond_some (all_there n before (needs e)) before after h in
     ap (λ m. made_by m t) (sym a.1) ∙ append_none (made_by before t) ∙ nothing (u == t)
@@ -172,7 +184,8 @@ run_adds n [] before after t h = ap (λ m. made_by m t) (sym (same_Some before a
 run_adds n (x ∷ xs) before after t h =
     let a = first_run (take_made n) (take_made n before x.0 x.1.entry) xs after h in
     let one = adds n before a.0 x.0 t x.1.entry (creates x.1.entry) a.1 in
-    run_adds n xs a.0 after t a.2 ∙ ap (λ r. r ++ news (of_thread t xs)) one ∙ append_assoc (made_by before t) _ _ ∙ ap (λ r. made_by before t ++ r) (by_test (x.0 == t))
+    run_adds n xs a.0 after t a.2 ∙ ap (λ r. r ++ news (of_thread t xs)) one
+    ∙ append_assoc (made_by before t) _ _ ∙ ap (λ r. made_by before t ++ r) (by_test (x.0 == t))
   where
     by_test : (b : Bool) → (cond b (class_made (creates x.1.entry)) [] ++ news (of_thread t xs)) ≡ news (cond b (x.1 ∷ of_thread t xs) (of_thread t xs))
     by_test true = refl
@@ -183,7 +196,9 @@ none_made zero t = refl
 none_made (suc k) zero = refl
 none_made (suc k) (suc t) = none_made k t
 
-pub made_by_log : (n : Numbering) (logs : List (List Logged)) (made : List (List ℕ)) (t : ℕ) → AllByRecursion (RisesAbove 0) logs → made_after n logs ≡ Some made
+pub made_by_log : (n : Numbering) (logs : List (List Logged)) (made : List (List ℕ)) (t : ℕ)
+    → AllByRecursion (RisesAbove 0) logs → made_after n logs ≡ Some made
     → made_by made t ≡ news (log_of logs t)
 made_by_log n logs made t r h =
-    run_adds n (order logs) (nothing_made n) made t h ∙ ap (λ row. row ++ news (of_thread t (order logs))) (none_made n.threads t) ∙ ap news (thread_kept logs t r)
+    run_adds n (order logs) (nothing_made n) made t h
+    ∙ ap (λ row. row ++ news (of_thread t (order logs))) (none_made n.threads t) ∙ ap news (thread_kept logs t r)

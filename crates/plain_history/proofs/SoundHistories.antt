@@ -3,7 +3,8 @@ use Rattle.std.proofs.Common.{◌≡◌, ℕ, zero, suc, Bool, ◌&&◌, nat_lt,
 use Rattle.std.proofs.lemmas.Option.{cond_some, same_Some}
 use Rattle.std.specs.List.{AllByRecursion}
 use Rattle.plain_monitor.specs.declared.entry.Entry.{Entry}
-use Rattle.plain_monitor.specs.declared.entry.Entry.TheVariants.{Enter, Exit, Get, Put, Wait, Resume, Notify, NotifyAll, Hash, New, Print, Dump, Trap, Spent, Done}
+use Rattle.plain_monitor.specs.declared.entry.Entry.TheVariants.{Enter, Exit, Get, Put, Wait, Resume, Notify, NotifyAll}
+use Rattle.plain_monitor.specs.declared.entry.Entry.TheVariants.{Hash, New, Print, Dump, Trap, Spent, Done}
 use Rattle.plain_monitor.specs.declared.entry.Logged.{Logged}
 use Rattle.plain_monitor.specs.Monitor.{PlainMonitor, only_if, owns, enter, exit, wait, resume, notify, notify_all}
 use Rattle.plain_monitor.specs.Objects.{PlainObject, new_objects, take_at, take_named, take_entry, named, with_monitor, with_hash, hashed, has_value}
@@ -16,7 +17,8 @@ use Rattle.plain_history.proofs.Inserting.{first_taken}
 use Rattle.plain_history.proofs.SoundSteps.{free_sound, enter_sound, exit_sound, wait_sound, resume_sound, notify_sound, notify_all_sound}
 
 -- a fact of the monitor is kept where it takes a step that keeps it
-pub monitor_kept : (F : PlainMonitor → Type 0) (x y : PlainObject) (m : Option PlainMonitor) → ((n : PlainMonitor) → m ≡ Some n → F n) → with_monitor x m ≡ Some y → F y.monitor
+pub monitor_kept : (F : PlainMonitor → Type 0) (x y : PlainObject) (m : Option PlainMonitor)
+    → ((n : PlainMonitor) → m ≡ Some n → F n) → with_monitor x m ≡ Some y → F y.monitor
 monitor_kept F x y None f h = absurd (cc h)
 monitor_kept F x y (Some n) f h = let e : record x { monitor = n } ≡ y = same_Some _ _ h in subst (λ v. F v.monitor) e (f n refl)
 

@@ -1,8 +1,10 @@
 -- Each step keeps a monitor sound.
-use Rattle.std.proofs.Common.{◌≡◌, ℕ, ◌+◌, ◌-◌, ◌<◌, ◌≤◌, Bool, true, false, cond, not, ◌&&◌, ◌==◌, nat_le, List, [], ◌∷◌, ◌++◌, length, refl, ap, sym, subst, ◌∙◌, arith, Option, Some, None}
+use Rattle.std.proofs.Common.{◌≡◌, ℕ, ◌+◌, ◌-◌, ◌<◌, ◌≤◌, Bool, true, false, cond, not, ◌&&◌, ◌==◌, nat_le, List}
+use Rattle.std.proofs.Common.{[], ◌∷◌, ◌++◌, length, refl, ap, sym, subst, ◌∙◌, arith, Option, Some, None}
 use Rattle.std.proofs.lemmas.Bool.Decides.{nat_tests}
 use Rattle.std.proofs.lemmas.Option.{cond_some, same_Some}
-use Rattle.plain_monitor.specs.Monitor.{PlainMonitor, free_monitor, is_thread, owns, count_of, is_listed, without, is_outside, enter, exit, wait, resume, calls, notify, notify_all}
+use Rattle.plain_monitor.specs.Monitor.{PlainMonitor, free_monitor, is_thread, owns, count_of, is_listed, without}
+use Rattle.plain_monitor.specs.Monitor.{is_outside, enter, exit, wait, resume, calls, notify, notify_all}
 use Rattle.plain_monitor.specs.Listed.{times_in}
 use Rattle.plain_history.specs.Sound.{HaveCounts, IsSound}
 
@@ -11,7 +13,8 @@ pub free_sound : IsSound free_monitor
 free_sound = record { held = refl; waits = tt; called = tt; once = λ t. omega arith }
 
 -- the next lemma, by the test against the head
-never_listed_at_head : (p : ℕ × ℕ) (ps : List (ℕ × ℕ)) (t : ℕ) (b : Bool) → (p.0 == t) ≡ b → is_listed (p ∷ ps) t ≡ false → (is_listed ps t ≡ false → times_in ps t ≡ 0)
+never_listed_at_head : (p : ℕ × ℕ) (ps : List (ℕ × ℕ)) (t : ℕ) (b : Bool) → (p.0 == t) ≡ b
+    → is_listed (p ∷ ps) t ≡ false → (is_listed ps t ≡ false → times_in ps t ≡ 0)
     → times_in (p ∷ ps) t ≡ 0
 never_listed_at_head p ps t true e h ih = absurd (cc (rw e at h))
 never_listed_at_head p ps t false e h ih = let k = ih (rw e at h) in rw e (omega (arith, k))
@@ -55,8 +58,8 @@ not_true true h = absurd (cc h)
 not_true false h = refl
 
 -- the monitor of these parts
-abbrev pub monitor_of : Option ℕ → ℕ → List (ℕ × ℕ) → List (ℕ × ℕ) → PlainMonitor
-monitor_of o c w k = record { owner = o; count = c; waits = w; called = k }
+abbrev pub monitor_with : Option ℕ → ℕ → List (ℕ × ℕ) → List (ℕ × ℕ) → PlainMonitor
+monitor_with o c w k = record { owner = o; count = c; waits = w; called = k }
 
 -- a thread from outside becomes the owner: each still stands once
 enters_once : (t u : ℕ) (w k : List (ℕ × ℕ)) (b : Bool) → (t == u) ≡ b → times_in w t ≡ 0 → times_in k t ≡ 0 → times_in w u + times_in k u ≤ 1
@@ -65,23 +68,30 @@ enters_once t u w k true e p q h = let same : t ≡ u = grind (arith, nat_tests,
 enters_once t u w k false e p q h = omega arith
 
 -- an enter of a free monitor keeps it sound
-enter_free : (c t : ℕ) (w k : List (ℕ × ℕ)) (n : PlainMonitor) → IsSound (monitor_of None c w k) → enter (monitor_of None c w k) t ≡ Some n → IsSound n
+enter_free : (c t : ℕ) (w k : List (ℕ × ℕ)) (n : PlainMonitor) → IsSound (monitor_with None c w k) → enter (monitor_with None c w k) t ≡ Some n → IsSound n
 enter_free c t w k n s h =
-    let r = cond_some (is_outside (monitor_of None c w k) t) (monitor_of (Some t) 1 w k) n h in
+    let r = cond_some (is_outside (monitor_with None c w k) t) (monitor_with (Some t) 1 w k) n h in
     let o = both_true (not (is_listed w t)) (not (is_listed k t)) r.0 in
     let p = never_listed w t (not_true (is_listed w t) o.0) in
     let q = never_listed k t (not_true (is_listed k t) o.1) in
-    subst IsSound r.1 (record { held = omega arith; waits = s.waits; called = s.called; once = λ u. enters_once t u w k (t == u) refl p q (let g = s.once u in omega (arith, g)) })
+    subst IsSound r.1 (record {
+      held = omega arith;
+      waits = s.waits;
+      called = s.called;
+      once = λ u. enters_once t u w k (t == u) refl p q (let g = s.once u in omega (arith, g));
+    })
 
 -- an enter of a monitor that has an owner keeps it sound
-enter_again : (u c t : ℕ) (w k : List (ℕ × ℕ)) (n : PlainMonitor) (b : Bool) → (u == t) ≡ b → IsSound (monitor_of (Some u) c w k) → enter (monitor_of (Some u) c w k) t ≡ Some n → IsSound n
+enter_again : (u c t : ℕ) (w k : List (ℕ × ℕ)) (n : PlainMonitor) (b : Bool) → (u == t) ≡ b
+    → IsSound (monitor_with (Some u) c w k) → enter (monitor_with (Some u) c w k) t ≡ Some n → IsSound n
 enter_again u c t w k n true e s h =
-    let r : monitor_of (Some u) (c + 1) w k ≡ n = same_Some _ _ (rw e at h) in
+    let r : monitor_with (Some u) (c + 1) w k ≡ n = same_Some _ _ (rw e at h) in
     subst IsSound r (record { held = omega arith; waits = s.waits; called = s.called; once = s.once })
 enter_again u c t w k n false e s h = absurd (cc (rw e at h))
 
 -- an enter keeps the monitor sound, by the owner
-enter_by_owner : (o : Option ℕ) (c t : ℕ) (w k : List (ℕ × ℕ)) (n : PlainMonitor) → IsSound (monitor_of o c w k) → enter (monitor_of o c w k) t ≡ Some n → IsSound n
+enter_by_owner : (o : Option ℕ) (c t : ℕ) (w k : List (ℕ × ℕ)) (n : PlainMonitor)
+    → IsSound (monitor_with o c w k) → enter (monitor_with o c w k) t ≡ Some n → IsSound n
 enter_by_owner None c t w k n s h = enter_free c t w k n s h
 enter_by_owner (Some u) c t w k n s h = enter_again u c t w k n (u == t) refl s h
 
@@ -95,7 +105,8 @@ owner_is None t h = absurd (cc h)
 owner_is (Some u) t h = let e : u ≡ t = grind (arith, nat_tests, h) in ap Some e
 
 -- an exit of the owner keeps the monitor sound, by the test for its last one
-exit_by_count : (c t : ℕ) (w k : List (ℕ × ℕ)) (b : Bool) → nat_le c 1 ≡ b → IsSound (monitor_of (Some t) c w k) → IsSound (cond b (monitor_of None 0 w k) (monitor_of (Some t) (c - 1) w k))
+exit_by_count : (c t : ℕ) (w k : List (ℕ × ℕ)) (b : Bool) → nat_le c 1 ≡ b → IsSound (monitor_with (Some t) c w k)
+    → IsSound (cond b (monitor_with None 0 w k) (monitor_with (Some t) (c - 1) w k))
 exit_by_count c t w k true e s = record { held = refl; waits = s.waits; called = s.called; once = λ u. let g = s.once u in omega (arith, g) }
 exit_by_count c t w k false e s =
     let more : 1 < c = grind (arith, nat_tests, e) in record { held = omega arith; waits = s.waits; called = s.called; once = s.once }
@@ -103,18 +114,18 @@ exit_by_count c t w k false e s =
 -- an exit keeps the monitor sound
 pub exit_sound : (m n : PlainMonitor) (t : ℕ) → IsSound m → exit m t ≡ Some n → IsSound n
 exit_sound m n t s h =
-    let r = cond_some (owns m t) (cond (nat_le m.count 1) (monitor_of None 0 m.waits m.called) (monitor_of m.owner (m.count - 1) m.waits m.called)) n h in
+    let r = cond_some (owns m t) (cond (nat_le m.count 1) (monitor_with None 0 m.waits m.called) (monitor_with m.owner (m.count - 1) m.waits m.called)) n h in
     let e = owner_is m.owner t r.0 in
-    let s' : IsSound (monitor_of (Some t) m.count m.waits m.called) = subst (λ o. IsSound (monitor_of o m.count m.waits m.called)) e s in
-    let is = ap (λ o. cond (nat_le m.count 1) (monitor_of None 0 m.waits m.called) (monitor_of o (m.count - 1) m.waits m.called)) (sym e) ∙ r.1 in
+    let s' : IsSound (monitor_with (Some t) m.count m.waits m.called) = subst (λ o. IsSound (monitor_with o m.count m.waits m.called)) e s in
+    let is = ap (λ o. cond (nat_le m.count 1) (monitor_with None 0 m.waits m.called) (monitor_with o (m.count - 1) m.waits m.called)) (sym e) ∙ r.1 in
     subst IsSound is (exit_by_count m.count t m.waits m.called (nat_le m.count 1) refl s')
 
 -- a wait keeps the monitor sound
 pub wait_sound : (m n : PlainMonitor) (t : ℕ) → IsSound m → wait m t ≡ Some n → IsSound n
 wait_sound m n t s h =
-    let r = cond_some (owns m t) (monitor_of None 0 (m.waits ++ (t, m.count) ∷ []) m.called) n h in
+    let r = cond_some (owns m t) (monitor_with None 0 (m.waits ++ (t, m.count) ∷ []) m.called) n h in
     let e = owner_is m.owner t r.0 in
-    let s' : IsSound (monitor_of (Some t) m.count m.waits m.called) = subst (λ o. IsSound (monitor_of o m.count m.waits m.called)) e s in
+    let s' : IsSound (monitor_with (Some t) m.count m.waits m.called) = subst (λ o. IsSound (monitor_with o m.count m.waits m.called)) e s in
     subst IsSound r.1 (record {
       held = refl;
       waits = counts_end m.waits (t, m.count) s.waits s'.held;
@@ -125,7 +136,7 @@ wait_sound m n t s h =
 -- a notify of all keeps the monitor sound
 pub notify_all_sound : (m n : PlainMonitor) (t w : ℕ) → IsSound m → notify_all m t w ≡ Some n → IsSound n
 notify_all_sound m n t w s h =
-    let r = cond_some (owns m t && (length m.waits == w)) (monitor_of m.owner m.count [] (m.called ++ m.waits)) n h in
+    let r = cond_some (owns m t && (length m.waits == w)) (monitor_with m.owner m.count [] (m.called ++ m.waits)) n h in
     subst IsSound r.1 (record {
       held = s.held;
       waits = tt;
@@ -134,12 +145,13 @@ notify_all_sound m n t w s h =
     })
 
 -- calling the oldest of those who wait keeps the monitor sound
-calls_sound : (m n : PlainMonitor) (w : List (ℕ × ℕ)) (woken : Option ℕ) → IsSound (monitor_of m.owner m.count w m.called) → calls (monitor_of m.owner m.count w m.called) w woken ≡ Some n → IsSound n
+calls_sound : (m n : PlainMonitor) (w : List (ℕ × ℕ)) (woken : Option ℕ) → IsSound (monitor_with m.owner m.count w m.called)
+    → calls (monitor_with m.owner m.count w m.called) w woken ≡ Some n → IsSound n
 calls_sound m n [] None s h = subst IsSound (same_Some _ _ h) s
 calls_sound m n [] (Some u) s h = absurd (cc h)
 calls_sound m n (p ∷ ps) None s h = absurd (cc h)
 calls_sound m n (p ∷ ps) (Some u) s h =
-    let r = cond_some (p.0 == u) (monitor_of m.owner m.count ps (m.called ++ p ∷ [])) n h in
+    let r = cond_some (p.0 == u) (monitor_with m.owner m.count ps (m.called ++ p ∷ [])) n h in
     subst IsSound r.1 (record {
       held = s.held;
       waits = s.waits.1;
@@ -178,7 +190,8 @@ fewer_without [] t u = omega arith
 fewer_without (p ∷ ps) t u = fewer_without_at_head p ps t u (p.0 == t) refl (fewer_without ps t u)
 
 -- the next lemma, by the test against the head
-counts_without_at_head : (p : ℕ × ℕ) (ps : List (ℕ × ℕ)) (t : ℕ) (b : Bool) → (p.0 == t) ≡ b → 0 < p.1 → HaveCounts (without ps t) → HaveCounts (without (p ∷ ps) t)
+counts_without_at_head : (p : ℕ × ℕ) (ps : List (ℕ × ℕ)) (t : ℕ) (b : Bool)
+    → (p.0 == t) ≡ b → 0 < p.1 → HaveCounts (without ps t) → HaveCounts (without (p ∷ ps) t)
 counts_without_at_head p ps t true e h ih = rw e ih
 counts_without_at_head p ps t false e h ih = rw e (h, ih)
 
@@ -208,17 +221,23 @@ resumes_once t u w k true e p q =
 resumes_once t u w k false e p q = omega (arith, fewer_without k t u)
 
 -- a free monitor stays sound where a thread that was called takes it
-resume_free : (c t n : ℕ) (w k : List (ℕ × ℕ)) → count_of k t ≡ Some n → IsSound (monitor_of None c w k) → IsSound (monitor_of (Some t) n w (without k t))
+resume_free : (c t n : ℕ) (w k : List (ℕ × ℕ)) → count_of k t ≡ Some n → IsSound (monitor_with None c w k) → IsSound (monitor_with (Some t) n w (without k t))
 resume_free c t n w k e s =
     let l = counted k t n s.called e in
-    record { held = l.1; waits = s.waits; called = counts_without k t s.called; once = λ u. resumes_once t u w k (t == u) refl l.0 (let g = s.once u in omega (arith, g)) }
+    record {
+      held = l.1;
+      waits = s.waits;
+      called = counts_without k t s.called;
+      once = λ u. resumes_once t u w k (t == u) refl l.0 (let g = s.once u in omega (arith, g));
+    }
 
 -- a resume keeps the monitor sound, by the owner and the count that the thread had
-resume_by_cases : (m n : PlainMonitor) (t : ℕ) (o : Option ℕ) (c : Option ℕ) → m.owner ≡ o → count_of m.called t ≡ c → IsSound m → resume m t ≡ Some n → IsSound n
+resume_by_cases : (m n : PlainMonitor) (t : ℕ) (o : Option ℕ) (c : Option ℕ)
+    → m.owner ≡ o → count_of m.called t ≡ c → IsSound m → resume m t ≡ Some n → IsSound n
 resume_by_cases m n t o None eo e s h = absurd (cc (rw e at h))
 resume_by_cases m n t None (Some c) eo e s h =
     let k = rw (e, eo) at h in
-    subst IsSound (same_Some _ _ k) (resume_free m.count t c m.waits m.called e (subst (λ v. IsSound (monitor_of v m.count m.waits m.called)) eo s))
+    subst IsSound (same_Some _ _ k) (resume_free m.count t c m.waits m.called e (subst (λ v. IsSound (monitor_with v m.count m.waits m.called)) eo s))
 resume_by_cases m n t (Some u) (Some c) eo e s h = absurd (cc (rw (e, eo) at h))
 
 -- a resume keeps the monitor sound

@@ -1,9 +1,10 @@
 -- The store of two states, part by part: which objects it has, and what a change of either state makes of it.
-use Rattle.std.proofs.Common.{◌≡◌, ◌≢◌, ℕ, zero, suc, ◌≤◌, Bool, true, false, ◌||◌, nat_lt, cond, List, [], ◌∷◌, map, length, slice_get, slice_index, slice_index_or, slice_set, Option, Some, None, is_some, option_map, refl, ap, sym, ◌∙◌, arith}
+use Rattle.std.proofs.Common.{◌≡◌, ◌≢◌, ℕ, zero, suc, ◌≤◌, Bool, true, false, ◌||◌, nat_lt, cond, List, [], ◌∷◌, map, length, slice_get}
+use Rattle.std.proofs.Common.{slice_index, slice_index_or, slice_set, Option, Some, None, is_some, option_map, refl, ap, sym, ◌∙◌, arith}
 use Rattle.std.proofs.lemmas.Bool.Decides.{nat_tests}
 use Rattle.std.specs.List.{list_all}
 use Rattle.plain_monitor.specs.Objects.{PlainObject}
-use Rattle.plain_monitor.specs.Made.{Numbering, first_made, maker_of, place_of, made_by, class_of, is_there}
+use Rattle.plain_monitor.specs.Made.{Numbering, first_made, maker_of, place_of, made_by, class_if_there, is_there}
 use Rattle.plain_history.specs.Store.{with_classes}
 
 -- CLASSES. An object with a class is in the list with it.
@@ -58,11 +59,12 @@ get_some [] k = sym (grind (arith, nat_tests))
 get_some (x ∷ xs) zero = sym (grind (arith, nat_tests))
 get_some (x ∷ xs) (suc k) = get_some xs k ∙ grind (arith, nat_tests)
 
-pub there_has_class : (n : Numbering) (made : List (List ℕ)) (o : ℕ) → is_some (class_of n made o) ≡ is_there n made o
+pub there_has_class : (n : Numbering) (made : List (List ℕ)) (o : ℕ) → is_some (class_if_there n made o) ≡ is_there n made o
 there_has_class n made o = by_test (nat_lt o (first_made n)) refl
   where
     by_test : (b : Bool) → nat_lt o (first_made n) ≡ b
-        → is_some (cond b (slice_get n.declared o) (slice_get (made_by made (maker_of n o)) (place_of n o))) ≡ (b || nat_lt (place_of n o) (length (made_by made (maker_of n o))))
+        → is_some (cond b (slice_get n.declared o) (slice_get (made_by made (maker_of n o)) (place_of n o)))
+        ≡ (b || nat_lt (place_of n o) (length (made_by made (maker_of n o))))
     by_test true e = get_some n.declared o ∙ e
     by_test false e = get_some (made_by made (maker_of n o)) (place_of n o)
 
@@ -85,7 +87,8 @@ count_is [] t = refl
 count_is (row ∷ made) zero = refl
 count_is (row ∷ made) (suc t) = count_is made t
 
-pub counts_set : (made : List (List ℕ)) (t : ℕ) (row : List ℕ) → map (λ (r : List ℕ). length r) (slice_set made t row) ≡ slice_set (map (λ (r : List ℕ). length r) made) t (length row)
+pub counts_set : (made : List (List ℕ)) (t : ℕ) (row : List ℕ)
+    → map (λ (r : List ℕ). length r) (slice_set made t row) ≡ slice_set (map (λ (r : List ℕ). length r) made) t (length row)
 counts_set [] t row = refl
 counts_set (r ∷ made) zero row = refl
 counts_set (r ∷ made) (suc t) row = ap (λ zs. length r ∷ zs) (counts_set made t row)

@@ -1,5 +1,7 @@
 -- The store of two states takes an entry exactly where both states do, and is then the store of what they are after it.
-use Rattle.std.proofs.Common.{◌≡◌, ◌≢◌, ℕ, zero, suc, ◌+◌, ◌-◌, ◌*◌, ◌/◌, ◌<◌, ◌≤◌, Bool, true, false, not, ◌&&◌, ◌||◌, ◌==◌, nat_lt, cond, List, [], ◌∷◌, ◌++◌, map, replicate, length, slice_get, slice_index, slice_set, Option, Some, None, is_some, option_map, option_and_then, refl, ap, sym, ◌∙◌, subst, arith, inl, inr, length-append, length-set, get_or-set_same}
+use Rattle.std.proofs.Common.{◌≡◌, ◌≢◌, ℕ, zero, suc, ◌+◌, ◌-◌, ◌*◌, ◌/◌, ◌<◌, ◌≤◌, Bool, true, false, not, ◌&&◌, ◌||◌, ◌==◌, nat_lt, cond, List}
+use Rattle.std.proofs.Common.{[], ◌∷◌, ◌++◌, map, replicate, length, slice_get, slice_index, slice_set, Option, Some, None, is_some, option_map}
+use Rattle.std.proofs.Common.{option_and_then, refl, ap, sym, ◌∙◌, subst, arith, inl, inr, length-append, length-set, get_or-set_same}
 use Rattle.std.proofs.lemmas.Bool.{cases_eq, cases_lt}
 use Rattle.std.proofs.lemmas.Bool.Decides.{nat_tests}
 use Rattle.std.proofs.lemmas.List.{length-map, length-replicate}
@@ -11,14 +13,17 @@ use Rattle.plain_monitor.specs.Monitor.{only_if}
 use Rattle.plain_monitor.specs.Objects.{PlainObject, new_object, new_objects, named, take_at, take_named, take_entry}
 use Rattle.plain_monitor.specs.Order.{order}
 use Rattle.plain_monitor.specs.History.{run_all, objects_after}
-use Rattle.plain_monitor.specs.Made.{Numbering, first_made, made_number, maker_of, place_of, made_by, class_of, is_there, creates, needs, one_or_none, hands_on, may_create, take_created, take_made, nothing_made, made_after}
+use Rattle.plain_monitor.specs.Made.{Numbering, first_made, made_number, maker_of, place_of, made_by, class_if_there, is_there, creates}
+use Rattle.plain_monitor.specs.Made.{needs, one_or_none, hands_on, may_create, take_created, take_made, nothing_made, made_after}
 use Rattle.plain_monitor.proofs.Lists.{get_set_other}
-use Rattle.plain_history.specs.Store.{ObjectStore, object_in, has_object, with_object, act_on, may_make, with_new, store_after, take_in_store, declared_objects, new_store, store_after_all, HasPlaces, with_classes, store_of, store_of_both}
+use Rattle.plain_history.specs.Store.{ObjectStore, object_in, has_object, with_object, act_on, may_make, with_new, store_after, take_in_store}
+use Rattle.plain_history.specs.Store.{declared_objects, new_store, store_after_all, HasPlaces, with_classes, store_of, store_of_both}
 use Rattle.plain_history.proofs.Swaps.{taken_at}
 use Rattle.plain_history.proofs.MadeSteps.{grown, row_same, row_other, number_of, all_there, both_hold, MayCreate, creating, maker_of_new}
 use Rattle.plain_history.proofs.MadeHistories.{there_stays, new_wasnt}
 use Rattle.plain_history.proofs.NotThere.{creates_unnamed, named_there}
-use Rattle.plain_history.proofs.StoreParts.{get_classes, past_classes, set_classes, class_comes, there_has_class, mapped_some, some_class, all_alike, count_is, counts_set, row_past}
+use Rattle.plain_history.proofs.StoreParts.{get_classes, past_classes, set_classes, class_comes, there_has_class}
+use Rattle.plain_history.proofs.StoreParts.{mapped_some, some_class, all_alike, count_is, counts_set, row_past}
 
 -- what holds of two states that have taken the same entries
 pub record GoTogether (n : Numbering) (shape : List (ℕ × ℕ)) (made : List (List ℕ)) (objects : List PlainObject) : Type 0 where
@@ -47,7 +52,8 @@ by_row made u k a =
 within_places : (first o threads all : ℕ) → first ≤ o → (o - first) / most_made < threads → all ≡ first + most_made * threads → o < all
 within_places first o threads all a b c = omega (arith, a, b, c)
 
-there_within : (n : Numbering) (slots : ℕ) (shape : List (ℕ × ℕ)) (made : List (List ℕ)) (o : ℕ) → HasPlaces n slots shape → length made ≡ n.threads → is_there n made o ≡ true
+there_within : (n : Numbering) (slots : ℕ) (shape : List (ℕ × ℕ)) (made : List (List ℕ)) (o : ℕ)
+    → HasPlaces n slots shape → length made ≡ n.threads → is_there n made o ≡ true
     → o < length shape
 there_within n slots shape made o places rows h = by_test (nat_lt o (first_made n)) refl h
   where
@@ -72,7 +78,7 @@ get_before_last (x ∷ xs) (suc k) c d = get_before_last xs k c (λ e. d (ap suc
 own_row : (made : List (List ℕ)) (t c : ℕ) → t < length made → made_by (grown made t c) t ≡ made_by made t ++ c ∷ []
 own_row made t c h = get_or-set_same made t (made_by made t ++ c ∷ []) [] h
 
-class_new : (n : Numbering) (made : List (List ℕ)) (t : ℕ) (p : ℕ × ℕ) → MayCreate n made t p → class_of n (grown made t p.1) p.0 ≡ Some p.1
+class_new : (n : Numbering) (made : List (List ℕ)) (t : ℕ) (p : ℕ × ℕ) → MayCreate n made t p → class_if_there n (grown made t p.1) p.0 ≡ Some p.1
 class_new n made t p m =
     let is = maker_of_new (first_made n) t (length (made_by made t)) p.0 m.room m.number in
     let late : nat_lt p.0 (first_made n) ≡ false = let a = is.2 in grind (arith, nat_tests, a) in
@@ -82,10 +88,12 @@ class_new n made t p m =
     ap (λ (r : List ℕ). slice_get r (length (made_by made t))) (own_row made t p.1 m.thread) ∙ get_last (made_by made t) p.1 in
     ap (λ b. cond b (slice_get n.declared p.0) (slice_get (made_by (grown made t p.1) (maker_of n p.0)) (place_of n p.0))) late ∙ here ∙ last
 
-class_other : (n : Numbering) (made : List (List ℕ)) (t : ℕ) (p : ℕ × ℕ) (i : ℕ) → MayCreate n made t p → i ≢ p.0 → class_of n (grown made t p.1) i ≡ class_of n made i
+class_other : (n : Numbering) (made : List (List ℕ)) (t : ℕ) (p : ℕ × ℕ) (i : ℕ)
+    → MayCreate n made t p → i ≢ p.0 → class_if_there n (grown made t p.1) i ≡ class_if_there n made i
 class_other n made t p i m d = by_test (nat_lt i (first_made n)) refl
   where
-    own : maker_of n i ≡ t → first_made n ≤ i → slice_get (made_by (grown made t p.1) (maker_of n i)) (place_of n i) ≡ slice_get (made_by made (maker_of n i)) (place_of n i)
+    own : maker_of n i ≡ t → first_made n ≤ i
+        → slice_get (made_by (grown made t p.1) (maker_of n i)) (place_of n i) ≡ slice_get (made_by made (maker_of n i)) (place_of n i)
     own e late =
         let other : place_of n i ≢ length (made_by made t) = λ k. d (number_of (first_made n) i t (length (made_by made t)) late e k ∙ sym m.number) in
         ap (λ u. slice_get (made_by (grown made t p.1) u) (place_of n i)) e
@@ -104,11 +112,11 @@ class_other n made t p i m d = by_test (nat_lt i (first_made n)) refl
 
 -- AN ENTRY that acts on an object that is there
 module _ (n : Numbering) (made : List (List ℕ)) (objects : List PlainObject) (t : ℕ) (e : Entry) where
-  acted : (o c : ℕ) (k : Option PlainObject) → class_of n made o ≡ Some c
+  acted : (o c : ℕ) (k : Option PlainObject) → class_if_there n made o ≡ Some c
       → option_map (λ y. with_object (store_of n made objects) o (c, y)) k ≡ store_of_both n (Some made) (option_map (λ y. slice_set objects o y) k)
   acted o c None h = refl
   acted o c (Some y) h =
-      ap (λ xs. Some (record { objects = xs; made = (store_of n made objects).made })) (sym (set_classes (class_of n made) objects o c y h))
+      ap (λ xs. Some (record { objects = xs; made = (store_of n made objects).made })) (sym (set_classes (class_if_there n made) objects o c y h))
 
   acts : (o : ℕ) → is_there n made o ≡ true → act_on (store_of n made objects) t e (Some o) ≡ store_of_both n (Some made) (take_named objects t e (Some o))
   acts o there = by_place (slice_get objects o) refl
@@ -119,11 +127,11 @@ module _ (n : Numbering) (made : List (List ℕ)) (objects : List PlainObject) (
       by_place : (m : Option PlainObject) → slice_get objects o ≡ m
           → option_and_then does (object_in (store_of n made objects) o)
           ≡ store_of_both n (Some made) (option_and_then (λ x. option_map (λ y. slice_set objects o y) (take_at x t e)) m)
-      by_place None h = ap (option_and_then does) (past_classes (class_of n made) objects o h)
+      by_place None h = ap (option_and_then does) (past_classes (class_if_there n made) objects o h)
       by_place (Some x) h =
-          let c = some_class (class_of n made o) (there_has_class n made o ∙ there) in
+          let c = some_class (class_if_there n made o) (there_has_class n made o ∙ there) in
           let is : object_in (store_of n made objects) o ≡ Some (c.0, x) =
-          get_classes (class_of n made) objects o x h ∙ ap (option_map {U = ℕ × PlainObject} (λ i. (i, x))) c.1 in
+          get_classes (class_if_there n made) objects o x h ∙ ap (option_map {U = ℕ × PlainObject} (λ i. (i, x))) c.1 in
           ap (option_and_then does) is ∙ acted o c.0 (take_at x t e) c.1
 
   acts_on_named : (m : Option ℕ) → all_there n made (one_or_none m ++ hands_on e) ≡ true
@@ -145,14 +153,16 @@ module _ (n : Numbering) (slots : ℕ) (shape : List (ℕ × ℕ)) (places : Has
             absurd (none-some x.0 (sym h ∙ x.1))
 
         by_place : (m : Option PlainObject) → slice_get objects o ≡ m → has_object (store_of n made objects) o ≡ is_there n made o
-        by_place None h = ap (λ k. is_some k) (past_classes (class_of n made) objects o h) ∙ past h (is_there n made o) refl
+        by_place None h = ap (λ k. is_some k) (past_classes (class_if_there n made) objects o h) ∙ past h (is_there n made o) refl
         by_place (Some x) h =
-            ap (λ k. is_some k) (get_classes (class_of n made) objects o x h)
-            ∙ mapped_some (λ c. (c, x)) (class_of n made o) ∙ there_has_class n made o
+            ap (λ k. is_some k) (get_classes (class_if_there n made) objects o x h)
+            ∙ mapped_some (λ c. (c, x)) (class_if_there n made o) ∙ there_has_class n made o
 
-    finds : (t : ℕ) (e : Entry) → store_after n slots (store_of n made objects) t e None ≡ store_of_both n (take_created n made t e None) (take_entry objects t e)
+    finds : (t : ℕ) (e : Entry) → store_after n slots (store_of n made objects) t e None
+        ≡ store_of_both n (take_created n made t e None) (take_entry objects t e)
     finds t e =
-        ap (λ b. cond b (act_on (store_of n made objects) t e (named e)) None) (all_alike (has_object (store_of n made objects)) (is_there n made) (needs e) has_is_there)
+        ap (λ b. cond b (act_on (store_of n made objects) t e (named e)) None)
+        (all_alike (has_object (store_of n made objects)) (is_there n made) (needs e) has_is_there)
         ∙ by_test (all_there n made (needs e)) refl
       where
         by_test : (b : Bool) → all_there n made (needs e) ≡ b
@@ -169,11 +179,13 @@ module _ (n : Numbering) (slots : ℕ) (shape : List (ℕ × ℕ)) (places : Has
         within_places (first_made n) p.0 n.threads (length shape) is.2 (subst (λ k. maker_of n p.0 < k) b (subst (λ k. k < length made) (sym is.0) a)) c in
         let s = get_within shape p.0 within in
         let size : s.0.1 ≡ slots = ap (λ (x : ℕ × ℕ). x.1) (sym (get_or_from_slice_get shape p.0 s.0 (0, 0) s.1)) ∙ places.made p.0 is.2 within in
-        fits.new p.0 wasnt ∙ slice_get-map (λ (x : ℕ × ℕ). new_object x.1) shape p.0 ∙ ap (option_map (λ (x : ℕ × ℕ). new_object x.1)) s.1 ∙ ap (λ k. Some (new_object k)) size
+        fits.new p.0 wasnt ∙ slice_get-map (λ (x : ℕ × ℕ). new_object x.1) shape p.0
+        ∙ ap (option_map (λ (x : ℕ × ℕ). new_object x.1)) s.1 ∙ ap (λ k. Some (new_object k)) size
 
     made_store : (t : ℕ) (p : ℕ × ℕ) → MayCreate n made t p → with_new slots (store_of n made objects) t p ≡ store_of n (grown made t p.1) objects
     made_store t p m =
-        let there = class_comes (class_of n made) (class_of n (grown made t p.1)) objects p.0 p.1 (new_object slots) (new_there t p m) (class_new n made t p m)
+        let there = class_comes (class_if_there n made) (class_if_there n (grown made t p.1)) objects p.0 p.1
+        (new_object slots) (new_there t p m) (class_new n made t p m)
         (λ i d. class_other n made t p i m d) in
         let lengths : List ℕ = map (λ (r : List ℕ). length r) made in
         let count : slice_set lengths t (slice_index lengths t + 1) ≡ map (λ (r : List ℕ). length r) (grown made t p.1) =
@@ -185,7 +197,8 @@ module _ (n : Numbering) (slots : ℕ) (shape : List (ℕ × ℕ)) (places : Has
     may_alike : (t : ℕ) (p : ℕ × ℕ) → may_make n (store_of n made objects) t p ≡ may_create n made t p
     may_alike t p =
         ap (λ k. nat_lt t k && nat_lt count most_made && nat_lt p.1 n.classes && (p.0 == made_number n t count) && not (has_object store p.0)) (sym fits.rows)
-        ∙ ap (λ k. nat_lt t (length made) && nat_lt k most_made && nat_lt p.1 n.classes && (p.0 == made_number n t k) && not (has_object store p.0)) (count_is made t)
+        ∙ ap (λ k. nat_lt t (length made) && nat_lt k most_made && nat_lt p.1 n.classes
+        && (p.0 == made_number n t k) && not (has_object store p.0)) (count_is made t)
         ∙ by_test (may_create n made t p) refl
       where
         store : ObjectStore
@@ -302,7 +315,7 @@ go_at_first n shape = record {
   new = λ o none. refl;
 }
 
-class_at_first : (n : Numbering) (i : ℕ) → class_of n (nothing_made n) i ≡ slice_get n.declared i
+class_at_first : (n : Numbering) (i : ℕ) → class_if_there n (nothing_made n) i ≡ slice_get n.declared i
 class_at_first n i = by_test (nat_lt i (first_made n)) refl
   where
     by_test : (b : Bool) → nat_lt i (first_made n) ≡ b
@@ -315,7 +328,8 @@ declared_have_classes : (declared : List ℕ) (shape : List (ℕ × ℕ)) (class
     → declared_objects declared shape ≡ with_classes class (new_objects shape)
 declared_have_classes declared [] class is = refl
 declared_have_classes [] (x ∷ shape) class is =
-    let head : option_map {U = ℕ × PlainObject} (λ c. (c, new_object x.1)) (class 0) ≡ None = ap (option_map {U = ℕ × PlainObject} (λ c. (c, new_object x.1))) (is 0) in
+    let head : option_map {U = ℕ × PlainObject} (λ c. (c, new_object x.1)) (class 0) ≡ None =
+    ap (option_map {U = ℕ × PlainObject} (λ c. (c, new_object x.1))) (is 0) in
     let tail = declared_have_classes [] shape (λ i. class (suc i)) (λ i. is (suc i)) in
     rw (head, tail) refl
 declared_have_classes (c ∷ declared) (x ∷ shape) class is =
@@ -330,7 +344,7 @@ no_counts (suc threads) = ap (λ xs. 0 ∷ xs) (no_counts threads)
 
 store_at_first : (n : Numbering) (shape : List (ℕ × ℕ)) → new_store n shape ≡ store_of n (nothing_made n) (new_objects shape)
 store_at_first n shape =
-    let there = declared_have_classes n.declared shape (class_of n (nothing_made n)) (class_at_first n) in
+    let there = declared_have_classes n.declared shape (class_if_there n (nothing_made n)) (class_at_first n) in
     let counts = no_counts n.threads in
     rw (there, counts) refl
 

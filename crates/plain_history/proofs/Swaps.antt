@@ -1,12 +1,14 @@
 -- Entries that are not tied can be taken the other way round.
-use Rattle.std.proofs.Common.{◌≡◌, ℕ, zero, suc, ◌≢◌, ◌⊎◌, ◌^◌, Bool, true, false, ◌&&◌, ◌==◌, nat_lt, nat_le, List, [], ◌∷◌, length, refl, ap, sym, ◌∙◌, arith, inl, inr, Option, Some, None, slice_get, slice_set, option_map, option_and_then}
+use Rattle.std.proofs.Common.{◌≡◌, ℕ, zero, suc, ◌≢◌, ◌⊎◌, ◌^◌, Bool, true, false, ◌&&◌, ◌==◌, nat_lt, nat_le, List, [], ◌∷◌, length, refl}
+use Rattle.std.proofs.Common.{ap, sym, ◌∙◌, arith, inl, inr, Option, Some, None, slice_get, slice_set, option_map, option_and_then}
 use Rattle.std.proofs.lemmas.Bool.Decides.{nat_tests}
 use Rattle.std.proofs.lemmas.Bool.{cases_eq}
 use Rattle.std.proofs.lemmas.List.{set_comm}
 use Rattle.std.proofs.lemmas.Option.{cond_some}
 use Rattle.plain_monitor.proofs.Lists.{get_set_same, get_set_other}
 use Rattle.plain_monitor.specs.declared.entry.Entry.{Entry}
-use Rattle.plain_monitor.specs.declared.entry.Entry.TheVariants.{Enter, Exit, Get, Put, Wait, Resume, Notify, NotifyAll, Hash, New, Print, Dump, Trap, Spent, Done}
+use Rattle.plain_monitor.specs.declared.entry.Entry.TheVariants.{Enter, Exit, Get, Put, Wait, Resume, Notify, NotifyAll}
+use Rattle.plain_monitor.specs.declared.entry.Entry.TheVariants.{Hash, New, Print, Dump, Trap, Spent, Done}
 use Rattle.plain_monitor.specs.Monitor.{PlainMonitor, only_if, owns, enter, exit, wait, resume, notify, notify_all}
 use Rattle.plain_monitor.specs.Objects.{PlainObject, take_at, take_named, take_entry, named, with_monitor, with_hash, hashed, has_value}
 use Rattle.plain_history.specs.Tied.{bound_to, is_same_object, is_tied}
@@ -45,7 +47,10 @@ plain_or_hash (Resume o) = inl (record { bound = refl; frame = λ x t h. monitor
 plain_or_hash (Notify o w) = inl (record { bound = refl; frame = λ x t h. monitor_frame x (notify x.monitor t w) h })
 plain_or_hash (NotifyAll o n) = inl (record { bound = refl; frame = λ x t h. monitor_frame x (notify_all x.monitor t n) h })
 plain_or_hash (Get o s v) = inl (record { bound = refl; frame = λ x t h. only_frame (owns x.monitor t && has_value (slice_get x.slots s) v) x h })
-plain_or_hash (Put o s v) = inl (record { bound = refl; frame = λ x t h. only_frame (owns x.monitor t && nat_lt s (length x.slots)) (record x { slots = slice_set x.slots s v }) h })
+plain_or_hash (Put o s v) = inl (record {
+  bound = refl;
+  frame = λ x t h. only_frame (owns x.monitor t && nat_lt s (length x.slots)) (record x { slots = slice_set x.slots s v }) h;
+})
 plain_or_hash (Hash o v d) = inr (record { value = v; bound = refl; acts = λ x t. refl })
 plain_or_hash (New o c) = inl (record { bound = refl; frame = λ x t h. refl })
 plain_or_hash (Print v) = inl (record { bound = refl; frame = λ x t h. refl })
@@ -68,7 +73,8 @@ hash_taken x y None e = absurd (cc e)
 hash_taken x y (Some k) e = (k, refl, cc e)
 
 -- what an entry made of an object that had its hash changed, it makes of the object
-frame_taken : (k : Option ℕ) (m : Option PlainObject) (z : PlainObject) → option_map (rehashed k) m ≡ Some z → (w : PlainObject) × (m ≡ Some w) × (rehashed k w ≡ z)
+frame_taken : (k : Option ℕ) (m : Option PlainObject) (z : PlainObject)
+    → option_map (rehashed k) m ≡ Some z → (w : PlainObject) × (m ≡ Some w) × (rehashed k w ≡ z)
 frame_taken k None z e = absurd (cc e)
 frame_taken k (Some w) z e = (w, refl, cc e)
 
@@ -97,7 +103,8 @@ abbrev pub TakesTurned : Entry → Entry → PlainObject → ℕ → ℕ → Pla
 TakesTurned e f x t u z = (w : PlainObject) × (take_at x u f ≡ Some w) × (take_at w t e ≡ Some z)
 
 -- a hash that an object takes, another with the same hash takes too
-hash_later : (e : Entry) (h : IsHash e) (x w z : PlainObject) (k : Option ℕ) (t : ℕ) → w.hash ≡ x.hash → hashed x.hash h.value ≡ Some k → rehashed k w ≡ z → take_at w t e ≡ Some z
+hash_later : (e : Entry) (h : IsHash e) (x w z : PlainObject) (k : Option ℕ) (t : ℕ)
+    → w.hash ≡ x.hash → hashed x.hash h.value ≡ Some k → rehashed k w ≡ z → take_at w t e ≡ Some z
 hash_later e h x w z k t kept is last =
     let same : hashed w.hash h.value ≡ Some k = ap (λ j. hashed j h.value) kept ∙ is in
     h.acts w t ∙ ap (with_hash w) same ∙ ap Some last
@@ -127,7 +134,8 @@ hash_hash e f h g x y z t u p q =
     (rehashed a.0 x, g.acts x u ∙ ap (with_hash x) s.0, h.acts (rehashed a.0 x) t ∙ ap (with_hash (rehashed a.0 x)) s.1 ∙ ap Some b.2)
 
 -- one object takes two entries the other way round, where one of them is bound to none
-at_swap : (e f : Entry) → IsPlain e ⊎ IsHash e → IsPlain f ⊎ IsHash f → (bound_to e ≡ None) ⊎ (bound_to f ≡ None) → (o : ℕ) → named e ≡ Some o → named f ≡ Some o
+at_swap : (e f : Entry) → IsPlain e ⊎ IsHash e → IsPlain f ⊎ IsHash f
+    → (bound_to e ≡ None) ⊎ (bound_to f ≡ None) → (o : ℕ) → named e ≡ Some o → named f ≡ Some o
     → (x y z : PlainObject) (t u : ℕ) → take_at x t e ≡ Some y → take_at y u f ≡ Some z → TakesTurned e f x t u z
 at_swap e f (inr h) (inr g) any o ne nf = hash_hash e f h g
 at_swap e f (inr h) (inl g) any o ne nf = hash_plain e f h g
@@ -144,7 +152,8 @@ pub record TakenAt (objects after : List PlainObject) (t : ℕ) (e : Entry) (o :
   pub is : after ≡ slice_set objects o y
 
 -- by the outcomes of the look-up and of the step
-taken_by_cases : (objects after : List PlainObject) (t : ℕ) (e : Entry) (o : ℕ) (x : Option PlainObject) (y : Option PlainObject) → slice_get objects o ≡ x → option_and_then (λ v. take_at v t e) x ≡ y
+taken_by_cases : (objects after : List PlainObject) (t : ℕ) (e : Entry) (o : ℕ) (x : Option PlainObject) (y : Option PlainObject)
+    → slice_get objects o ≡ x → option_and_then (λ v. take_at v t e) x ≡ y
     → take_named objects t e (Some o) ≡ Some after → TakenAt objects after t e o
 taken_by_cases objects after t e o None y hx hy h = absurd (cc (rw hx at h))
 taken_by_cases objects after t e o (Some x) None hx hy h = let k = rw (hx, hy) at h in absurd (cc k)
@@ -152,7 +161,8 @@ taken_by_cases objects after t e o (Some x) (Some y) hx hy h = let k = rw (hx, h
 
 -- an entry that names o is taken at o
 pub taken_at : (objects after : List PlainObject) (t : ℕ) (e : Entry) (o : ℕ) → take_named objects t e (Some o) ≡ Some after → TakenAt objects after t e o
-taken_at objects after t e o h = taken_by_cases objects after t e o (slice_get objects o) (option_and_then (λ v. take_at v t e) (slice_get objects o)) refl refl h
+taken_at objects after t e o h =
+    taken_by_cases objects after t e o (slice_get objects o) (option_and_then (λ v. take_at v t e) (slice_get objects o)) refl refl h
 
 -- where one object takes an entry that names it, the objects take it
 take_here : (objects : List PlainObject) (t : ℕ) (e : Entry) (o : ℕ) (x y : PlainObject) → slice_get objects o ≡ Some x → take_at x t e ≡ Some y
@@ -171,13 +181,16 @@ AllTakeTurned before after t e oe u f of = (middle : List PlainObject) × (take_
 
 -- where one object takes two entries that name it the other way round, the objects do
 turn_same : (e f : Entry) (o : ℕ) (before middle after : List PlainObject) (x y z w : PlainObject) (t u : ℕ) → slice_get before o ≡ Some x
-    → middle ≡ slice_set before o y → after ≡ slice_set middle o z → take_at x u f ≡ Some w → take_at w t e ≡ Some z → AllTakeTurned before after t e (Some o) u f (Some o)
+    → middle ≡ slice_set before o y → after ≡ slice_set middle o z → take_at x u f ≡ Some w
+    → take_at w t e ≡ Some z → AllTakeTurned before after t e (Some o) u f (Some o)
 turn_same e f o before middle after x y z w t u was first second p q =
-    let last : slice_set (slice_set before o w) o z ≡ after = set_again before o w z ∙ sym (set_again before o y z) ∙ ap (λ xs. slice_set xs o z) (sym first) ∙ sym second in
+    let last : slice_set (slice_set before o w) o z ≡ after =
+    set_again before o w z ∙ sym (set_again before o y z) ∙ ap (λ xs. slice_set xs o z) (sym first) ∙ sym second in
     (slice_set before o w, take_here before u f o x w was p, take_here (slice_set before o w) t e o w z (get_set_same before o x w was) q ∙ ap Some last)
 
 -- two entries that name one object, where one of them is bound to none
-swap_same : (e f : Entry) → (bound_to e ≡ None) ⊎ (bound_to f ≡ None) → (o : ℕ) → named e ≡ Some o → named f ≡ Some o → (before middle after : List PlainObject) (t u : ℕ)
+swap_same : (e f : Entry) → (bound_to e ≡ None) ⊎ (bound_to f ≡ None) → (o : ℕ)
+    → named e ≡ Some o → named f ≡ Some o → (before middle after : List PlainObject) (t u : ℕ)
     → take_named before t e (Some o) ≡ Some middle → take_named middle u f (Some o) ≡ Some after → AllTakeTurned before after t e (Some o) u f (Some o)
 swap_same e f any o ne nf before middle after t u p q =
     let a = taken_at before middle t e o p in
@@ -188,8 +201,10 @@ swap_same e f any o ne nf before middle after t u p q =
     turn_same e f o before middle after a.x a.y b.y w.0 t u a.was a.is b.is w.1 w.2
 
 -- where two objects take the entries that name them, the objects take them the other way round
-turn_apart : (e f : Entry) (o i : ℕ) (before middle after : List PlainObject) (x y v z : PlainObject) (t u : ℕ) → o ≢ i → slice_get before o ≡ Some x → take_at x t e ≡ Some y
-    → middle ≡ slice_set before o y → slice_get middle i ≡ Some v → take_at v u f ≡ Some z → after ≡ slice_set middle i z → AllTakeTurned before after t e (Some o) u f (Some i)
+turn_apart : (e f : Entry) (o i : ℕ) (before middle after : List PlainObject) (x y v z : PlainObject) (t u : ℕ)
+    → o ≢ i → slice_get before o ≡ Some x → take_at x t e ≡ Some y
+    → middle ≡ slice_set before o y → slice_get middle i ≡ Some v → take_at v u f ≡ Some z
+    → after ≡ slice_set middle i z → AllTakeTurned before after t e (Some o) u f (Some i)
 turn_apart e f o i before middle after x y v z t u apart was p first now q second =
     let there : slice_get before i ≡ Some v = sym (get_set_other before o i y apart) ∙ ap (λ xs. slice_get xs i) (sym first) ∙ now in
     let here : slice_get (slice_set before i z) o ≡ Some x = get_set_other before i o z (λ s. apart (sym s)) ∙ was in
@@ -205,7 +220,8 @@ swap_apart e f o i apart before middle after t u p q =
     turn_apart e f o i before middle after a.x a.y b.x b.y t u apart a.was a.step a.is b.was b.step b.is
 
 -- of two entries that name one object and are not tied, one is bound to none
-one_is_hash : (e f : Entry) → IsPlain e ⊎ IsHash e → IsPlain f ⊎ IsHash f → (o : ℕ) → named e ≡ Some o → named f ≡ Some o → is_tied e f ≡ false → (bound_to e ≡ None) ⊎ (bound_to f ≡ None)
+one_is_hash : (e f : Entry) → IsPlain e ⊎ IsHash e → IsPlain f ⊎ IsHash f → (o : ℕ) → named e ≡ Some o
+    → named f ≡ Some o → is_tied e f ≡ false → (bound_to e ≡ None) ⊎ (bound_to f ≡ None)
 one_is_hash e f (inr h) g o ne nf apart = inl h.bound
 one_is_hash e f (inl g) (inr h) o ne nf apart = inr h.bound
 one_is_hash e f (inl g) (inl h) o ne nf apart =
@@ -228,12 +244,14 @@ swap_named e f (Some o) (Some i) ne nf apart before middle after t u p q =
     ]
 
 -- what the objects make of e and then of f, they make of f and then of e, where the two are not tied
-pub take_swap : (e f : Entry) → is_tied e f ≡ false → (before middle after : List PlainObject) (t u : ℕ) → take_entry before t e ≡ Some middle → take_entry middle u f ≡ Some after
+pub take_swap : (e f : Entry) → is_tied e f ≡ false → (before middle after : List PlainObject) (t u : ℕ)
+    → take_entry before t e ≡ Some middle → take_entry middle u f ≡ Some after
     → (other : List PlainObject) × (take_entry before u f ≡ Some other) × (take_entry other t e ≡ Some after)
 take_swap e f apart before middle after t u p q = swap_named e f (named e) (named f) refl refl apart before middle after t u p q
 
 -- an entry leaves the objects that it does not name
-pub elsewhere : (before after : List PlainObject) (t : ℕ) (e : Entry) (o i : ℕ) → take_entry before t e ≡ Some after → named e ≡ Some o → o ≢ i → slice_get after i ≡ slice_get before i
+pub elsewhere : (before after : List PlainObject) (t : ℕ) (e : Entry) (o i : ℕ)
+    → take_entry before t e ≡ Some after → named e ≡ Some o → o ≢ i → slice_get after i ≡ slice_get before i
 elsewhere before after t e o i h n d =
     let a = taken_at before after t e o (ap (λ k. take_named before t e k) (sym n) ∙ h) in
     ap (λ xs. slice_get xs i) a.is ∙ get_set_other before o i a.y d

@@ -14,7 +14,8 @@ listed_has_count [] t h = absurd (cc h)
 listed_has_count (p ∷ ps) t h = count_at_head p ps t (p.0 == t) h (listed_has_count ps t)
 
 -- the next lemma, by the test against the head
-unlisted_at_head : (p : ℕ × ℕ) (ps : List (ℕ × ℕ)) (t : ℕ) (b : Bool) → (p.0 == t) ≡ b → is_listed (without ps t) t ≡ false → is_listed (without (p ∷ ps) t) t ≡ false
+unlisted_at_head : (p : ℕ × ℕ) (ps : List (ℕ × ℕ)) (t : ℕ) (b : Bool) → (p.0 == t) ≡ b
+    → is_listed (without ps t) t ≡ false → is_listed (without (p ∷ ps) t) t ≡ false
 unlisted_at_head p ps t true e ih = rw e ih
 unlisted_at_head p ps t false e ih = rw (e, e) ih
 

@@ -6,8 +6,8 @@ use Rattle.plain_monitor.specs.Order.{is_before, order}
 use Rattle.plain_monitor.specs.History.{last_stamp, log_of}
 use Rattle.plain_history.specs.Tied.{is_tied}
 
--- thread t is there, and l is above all that it has logged and stands in the order behind each entry that is tied to it
+-- thread t is there, and l is above all that it has logged and stands in the order after each entry that is tied to it
 pub record MayAppend (logs : List (List Logged)) (t : ℕ) (l : Logged) : Type 0 where
   pub thread : t < length logs
   pub stamp : last_stamp (log_of logs t) < l.stamp
-  pub behind : AllByRecursion (λ x. IsTrue (is_tied x.1.entry l.entry) → IsTrue (is_before x (t, l))) (order logs)
+  pub follows : AllByRecursion (λ x. IsTrue (is_tied x.1.entry l.entry) → IsTrue (is_before x (t, l))) (order logs)

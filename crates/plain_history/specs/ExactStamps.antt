@@ -12,7 +12,7 @@ pub record IsLastLetGoBelow (logs : List (List Logged)) (o bound stamp : ℕ) : 
   pub logged : (stamp ≡ 0) ⊎ ((t : ℕ) × HasLetGo (log_of logs t) o stamp)
   pub last : (t s : ℕ) → HasLetGo (log_of logs t) o s → s < bound → s ≤ stamp
 
--- the stamp of an entry that takes o, behind the stamp `last` of its own log: one more than the greater of that stamp and the last one below
+-- the stamp of an entry that takes o, after the stamp `last` of its own log: one more than the greater of that stamp and the last one below
 -- its own with which a thread let go of o
 pub record IsTakingStamp (logs : List (List Logged)) (o last stamp : ℕ) : Type 0 where
   pub let_go : ℕ

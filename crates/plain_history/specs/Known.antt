@@ -1,6 +1,7 @@
 -- When an entry finds what it needs, though it may land in the middle of the order: the New of each object that it needs stands before it. A
 -- thread sees that from stamps: an object is known to it where no New of the object has a stamp above the thread's last.
-use Rattle.std.specs.Prelude.{◌≡◌, ℕ, ◌<◌, ◌≤◌, ◌==◌, nat_lt, Bool, ◌||◌, true, false, List, [], ◌∷◌, ◌++◌, length, IsTrue, slice_get, Option, Some, None, option_map}
+use Rattle.std.specs.Prelude.{◌≡◌, ℕ, ◌<◌, ◌≤◌, ◌==◌, nat_lt, Bool, ◌||◌, true, false, List, [], ◌∷◌}
+use Rattle.std.specs.Prelude.{◌++◌, length, IsTrue, slice_get, Option, Some, None, option_map}
 use Rattle.std.specs.List.{AllByRecursion, list_any}
 use Rattle.plain_monitor.specs.declared.entry.Entry.{Entry}
 use Rattle.plain_monitor.specs.declared.entry.Logged.{Logged}
@@ -25,11 +26,11 @@ is_one_of (Some o) os = list_any (λ i. o == i) os
 abbrev pub makes_for : Entry → Entry → Bool
 makes_for e f = is_one_of (makes e) (needs f)
 
--- thread t is there, and l is above all that it has logged and stands in the order behind each entry that makes what it needs
+-- thread t is there, and l is above all that it has logged and stands in the order after each entry that makes what it needs
 pub record MayFollow (logs : List (List Logged)) (t : ℕ) (l : Logged) : Type 0 where
   pub thread : t < length logs
   pub stamp : last_stamp (log_of logs t) < l.stamp
-  pub behind : AllByRecursion (λ x. IsTrue (makes_for x.1.entry l.entry) → IsTrue (is_before x (t, l))) (order logs)
+  pub follows : AllByRecursion (λ x. IsTrue (makes_for x.1.entry l.entry) → IsTrue (is_before x (t, l))) (order logs)
 
 -- no New of object o has a stamp above s
 abbrev pub IsMadeBelow : List (List Logged) → ℕ → ℕ → Type 0

@@ -1,6 +1,7 @@
 -- The objects as one store, in which an object may not be there: in one definition what `Made` and `Objects` of `plain_monitor` say by two states, of which
 -- one has what is there, and the other what each entry does. Laws of histories speak of the two; this is what they mean together.
-use Rattle.std.specs.Prelude.{◌≡◌, ℕ, suc, ◌+◌, ◌*◌, ◌≤◌, ◌<◌, Bool, not, ◌&&◌, ◌==◌, nat_lt, List, [], ◌∷◌, map, length, replicate, slice_index, slice_index_or, slice_set, if◌then◌else◌, Option, Some, None, is_some, option_map, option_and_then}
+use Rattle.std.specs.Prelude.{◌≡◌, ℕ, suc, ◌+◌, ◌*◌, ◌≤◌, ◌<◌, Bool, not, ◌&&◌, ◌==◌, nat_lt, List, [], ◌∷◌, map, length, replicate, slice_index}
+use Rattle.std.specs.Prelude.{slice_index_or, slice_set, if◌then◌else◌, Option, Some, None, is_some, option_map, option_and_then}
 use Rattle.std.specs.List.{list_all}
 use Rattle.plain_monitor.specs.Limits.{most_made}
 use Rattle.plain_monitor.specs.declared.entry.Entry.{Entry}
@@ -9,7 +10,7 @@ use Rattle.plain_monitor.specs.Monitor.{only_if}
 use Rattle.plain_monitor.specs.Objects.{PlainObject, new_object, named, take_at}
 use Rattle.plain_monitor.specs.Order.{order}
 use Rattle.plain_monitor.specs.History.{run_all}
-use Rattle.plain_monitor.specs.Made.{Numbering, first_made, made_number, creates, needs, class_of}
+use Rattle.plain_monitor.specs.Made.{Numbering, first_made, made_number, creates, needs, class_if_there}
 
 pub record ObjectStore : Type 0 where
   -- of each number the object with its class, where it is there
@@ -76,7 +77,7 @@ with_classes class (x ∷ xs) = option_map (λ c. (c, x)) (class 0) ∷ with_cla
 
 abbrev pub store_of : Numbering → List (List ℕ) → List PlainObject → ObjectStore
 store_of n made objects =
-    record { objects = with_classes (class_of n made) objects; made = map (λ (row : List ℕ). length row) made }
+    record { objects = with_classes (class_if_there n made) objects; made = map (λ (row : List ℕ). length row) made }
 
 -- there is one where there are both
 abbrev pub store_of_both : Numbering → Option (List (List ℕ)) → Option (List PlainObject) → Option ObjectStore

@@ -9,12 +9,12 @@ ghost use Rattle.plain_monitor.specs.declared.entry.Entry.TheVariants.{Put, New,
 ghost use Rattle.plain_monitor.specs.declared.entry.Logged.{Logged};
 ghost use Rattle.plain_monitor.specs.Objects.{PlainObject, new_objects, take_entry, named};
 ghost use Rattle.plain_monitor.specs.History.{RisesAbove, objects_after, last_stamp, log_of, appended};
-ghost use Rattle.plain_monitor.specs.Made.{Numbering, made_number, class_of, is_there, made_by, needs, take_made, made_after};
+ghost use Rattle.plain_monitor.specs.Made.{Numbering, made_number, class_if_there, is_there, made_by, needs, take_made, made_after};
 ghost use Rattle.plain_history.specs.Stamps.{IsAboveBounds, BoundsRise};
 ghost use Rattle.plain_history.specs.Store.{HasPlaces, store_after_all, store_of_both};
 ghost use Rattle.plain_history.specs.Known.{makes, MayFollow, IsMadeBelow, IsKnownAt, IsKnown, SlotsAreKnown, news, two_threads, made_late, printed_early};
 
-/// An entry that finds what it needs after all others, and that stands behind each New of what it needs, finds it at its place
+/// An entry that finds what it needs after all others, and that stands after each New of what it needs, finds it at its place
 /// in the order too, and then there is what is there after it, as if it stood last. So stands each entry above its thread's
 /// last whose thread knows what it needs.
 pub fn an_appended_entry_finds_what_it_needs()
@@ -43,7 +43,7 @@ pub fn what_is_known_stays_known()
         → made_after n logs ≡ Some before → take_made n before t l.entry ≡ Some after → makes l.entry ≡ Some o
         → l.stamp ≤ now → IsKnownAt n after (appended logs t l) o now }
     ensures class { (n : Numbering) (before after : List (List ℕ)) (t : ℕ) (e : Entry) (o c : ℕ)
-        → take_made n before t e ≡ Some after → class_of n before o ≡ Some c → class_of n after o ≡ Some c }
+        → take_made n before t e ≡ Some after → class_if_there n before o ≡ Some c → class_if_there n after o ≡ Some c }
     ensures own_log { (n : Numbering) (logs : List (List Logged)) (made : List (List ℕ)) (t : ℕ)
         → AllByRecursion (RisesAbove 0) logs → made_after n logs ≡ Some made
         → made_by made t ≡ news (log_of logs t) }

@@ -12,7 +12,8 @@ pub thread_code : (p : ProgramText) (t : ℕ) (d : ThreadDef) → t < length p.t
 thread_code p t d lt e =
     ap (λ (x : ThreadDef). x.code) e ∙ sym (get_or-map (λ (x : ThreadDef). x.code) p.threads t d [] lt)
 
-pub thread_valid : (p : ProgramText) (t : ℕ) (d : ThreadDef) → IsProgram p → t < length p.threads → d ≡ get_or p.threads t d → IsThread (length p.classes) (length p.objects) d
+pub thread_valid : (p : ProgramText) (t : ℕ) (d : ThreadDef) → IsProgram p → t < length p.threads
+    → d ≡ get_or p.threads t d → IsThread (length p.classes) (length p.objects) d
 thread_valid p t d v lt e = rw e (All-from_recursion (IsThread (length p.classes) (length p.objects)) p.threads v.threads t d lt)
 
 pub thread_short : (p : ProgramText) (t : ℕ) (d : ThreadDef) → IsProgram p → t < length p.threads → d ≡ get_or p.threads t d → length d.code ≤ most_code

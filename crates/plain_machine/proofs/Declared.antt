@@ -1,5 +1,6 @@
 -- Declarations of objects, which stand by rising numbers of their objects.
-use Rattle.std.proofs.Common.{◌≡◌, ℕ, zero, suc, ◌+◌, ◌-◌, ◌<◌, ◌≤◌, if◌then◌else◌, leb, leb-true, List, [], ◌∷◌, length, get_or, slice_get, true, false, ℤ, nat_abs, Option, Some, refl, ap, sym, ◌∙◌, subst, arith}
+use Rattle.std.proofs.Common.{◌≡◌, ℕ, zero, suc, ◌+◌, ◌-◌, ◌<◌, ◌≤◌, if◌then◌else◌, leb, leb-true, List, [], ◌∷◌, length}
+use Rattle.std.proofs.Common.{get_or, slice_get, true, false, ℤ, nat_abs, Option, Some, refl, ap, sym, ◌∙◌, subst, arith}
 use Rattle.std.proofs.lemmas.Bool.Decides.{nat_tests}
 use Rattle.std.proofs.lemmas.List.Sorted.{IsNonDecreasingBy-from_default}
 use Rattle.std.specs.List.Sorted.{IsNonDecreasingBy, IsPartitionPoint}
@@ -13,9 +14,11 @@ use Rattle.plain_monitor.specs.declared.entry.Value.TheVariants.{Int, Ref}
 use Rattle.plain_monitor.specs.declared.entry.Fault.TheVariants.{Range}
 use Rattle.plain_machine.specs.Thread.{ThreadState, sets, faults, element, is_element}
 
-declared_within : (classes n : ℕ) (ds : List ObjectDef) (k : ℕ) (d : ObjectDef) → AreObjects classes n ds → slice_get ds k ≡ Some d → d.first + d.size ≤ n + total_of ds
+declared_within : (classes n : ℕ) (ds : List ObjectDef) (k : ℕ) (d : ObjectDef)
+    → AreObjects classes n ds → slice_get ds k ≡ Some d → d.first + d.size ≤ n + total_of ds
 declared_within classes n [] k d h e = absurd (none-some d e)
-declared_within classes n (x ∷ ds) zero d h e = let same : x ≡ d = cc in let P : ObjectDef → Type 0 = λ y. y.first + y.size ≤ n + total_of (x ∷ ds) in subst P same (omega (arith, h.0.1))
+declared_within classes n (x ∷ ds) zero d h e = let same : x ≡ d = cc in
+    let P : ObjectDef → Type 0 = λ y. y.first + y.size ≤ n + total_of (x ∷ ds) in subst P same (omega (arith, h.0.1))
 declared_within classes n (x ∷ ds) (suc k) d h e = omega (arith, declared_within classes (n + x.size) ds k d h.1 e)
 
 -- no declaration stands for an object past the limit
@@ -38,17 +41,17 @@ pub element_none : (s : ThreadState) (x : ℕ) (r : Option ObjectDef) (d : Objec
     → false ≡ is_element i d.size → element s x r v ≡ faults s Range
 element_none s x r d v i e q t = rw (e, q, ← t) refl
 
--- a declaration stands behind the objects of those before it
-begins_behind : (classes n : ℕ) (ds : List ObjectDef) (k : ℕ) (d : ObjectDef) → AreObjects classes n ds → k < length ds → n ≤ (get_or ds k d).first
-begins_behind classes n [] k d h lt = absurd (omega arith)
-begins_behind classes n (x ∷ ds) zero d h lt = omega (arith, h.0.1)
-begins_behind classes n (x ∷ ds) (suc k) d h lt = omega (arith, begins_behind classes (n + x.size) ds k d h.1 (omega arith))
+-- a declaration stands after the objects of those before it
+begins_after : (classes n : ℕ) (ds : List ObjectDef) (k : ℕ) (d : ObjectDef) → AreObjects classes n ds → k < length ds → n ≤ (get_or ds k d).first
+begins_after classes n [] k d h lt = absurd (omega arith)
+begins_after classes n (x ∷ ds) zero d h lt = omega (arith, h.0.1)
+begins_after classes n (x ∷ ds) (suc k) d h lt = omega (arith, begins_after classes (n + x.size) ds k d h.1 (omega arith))
 
 rises : (classes n : ℕ) (ds : List ObjectDef) (j k : ℕ) (d : ObjectDef) → AreObjects classes n ds → j ≤ k → k < length ds
     → (get_or ds j d).first ≤ (get_or ds k d).first
 rises classes n [] j k d h le lt = absurd (omega arith)
 rises classes n (x ∷ ds) zero zero d h le lt = omega arith
-rises classes n (x ∷ ds) zero (suc k) d h le lt = omega (arith, h.0.1, begins_behind classes (n + x.size) ds k d h.1 (omega arith))
+rises classes n (x ∷ ds) zero (suc k) d h le lt = omega (arith, h.0.1, begins_after classes (n + x.size) ds k d h.1 (omega arith))
 rises classes n (x ∷ ds) (suc j) zero d h le lt = absurd (omega arith)
 rises classes n (x ∷ ds) (suc j) (suc k) d h le lt = rises classes (n + x.size) ds j k d h.1 (omega arith) (omega arith)
 
@@ -74,15 +77,15 @@ class_none [] o d h = refl
 class_none (x ∷ ds) o d h =
     rw (stands_later x o (h 0 (omega arith))) (class_none ds o d (λ k lt. h (suc k) (omega arith)))
 
--- the class of an object by the last declaration that doesn't stand behind it
+-- the class of an object by the last declaration that doesn't stand after it
 class_last : (classes n : ℕ) (ds : List ObjectDef) (o k : ℕ) (d : ObjectDef) → AreObjects classes n ds → k < length ds → (get_or ds k d).first ≤ o
     → ((j : ℕ) → k < j → j < length ds → o < (get_or ds j d).first)
     → class_from ds o ≡ (if has_object (get_or ds k d) o then (get_or ds k d).class else 0)
 class_last classes n [] o k d h lt le more = absurd (omega arith)
 class_last classes n (x ∷ ds) o zero d h lt le more = rw (class_none ds o d (λ j l. more (suc j) (omega arith) (omega arith))) refl
 class_last classes n (x ∷ ds) o (suc k) d h lt le more =
-    let behind = begins_behind classes (n + x.size) ds k d h.1 (omega arith) in
-    rw (stands_before x o (omega (arith, h.0.1, behind)))
+    let after = begins_after classes (n + x.size) ds k d h.1 (omega arith) in
+    rw (stands_before x o (omega (arith, h.0.1, after)))
     (class_last classes (n + x.size) ds o k d h.1 (omega arith) le (λ j a b. more (suc j) (omega arith) (omega arith)))
 
 -- the class of an object by a declaration that stands for it
@@ -91,12 +94,13 @@ class_here : (classes n : ℕ) (ds : List ObjectDef) (o k : ℕ) (d : ObjectDef)
 class_here classes n [] o k d h lt has = absurd (omega arith)
 class_here classes n (x ∷ ds) o zero d h lt has = rw has refl
 class_here classes n (x ∷ ds) o (suc k) d h lt has =
-    let behind = begins_behind classes (n + x.size) ds k d h.1 (omega arith) in
-    rw (stands_before x o (omega (arith, h.0.1, behind, begins_by (get_or ds k d) o has)))
+    let after = begins_after classes (n + x.size) ds k d h.1 (omega arith) in
+    rw (stands_before x o (omega (arith, h.0.1, after, begins_by (get_or ds k d) o has)))
     (class_here classes (n + x.size) ds o k d h.1 (omega arith) has)
 
 -- the same of a declaration of a program that was read
-pub class_own : (inside p : ProgramText) (items : List ObjectDef) (o k : ℕ) (d : ObjectDef) → IsProgram p → items ≡ inside.objects → inside ≡ p → k < length items
+pub class_own : (inside p : ProgramText) (items : List ObjectDef) (o k : ℕ) (d : ObjectDef)
+    → IsProgram p → items ≡ inside.objects → inside ≡ p → k < length items
     → d ≡ get_or items k d → true ≡ has_object d o → d.class ≡ class_from p.objects o
 class_own inside p items o k d v e is lt at has =
     let same : items ≡ p.objects = e ∙ ap (λ (q : ProgramText). q.objects) is in
@@ -104,7 +108,7 @@ class_own inside p items o k d v e is lt at has =
     let found : class_from items o ≡ (get_or items k d).class = class_here (length p.classes) 0 items o k d (rw same v.objects) lt here in
     ap (λ (x : ObjectDef). x.class) at ∙ sym found ∙ ap (λ ds. class_from ds o) same
 
--- the class of an object of a program, where the first k of its declarations don't stand behind it, and the others do
+-- the class of an object of a program, where the first k of its declarations don't stand after it, and the others do
 pub class_nowhere : (p : ProgramText) (ds : List ObjectDef) (o k : ℕ) → ds ≡ p.objects → k ≡ 0
     → IsPartitionPoint (λ d. d.first ≤ o) (λ d. o < d.first) ds k → 0 ≡ class_from p.objects o
 class_nowhere p ds o k e z h = rw (← e) (sym (class_none ds o nothing (λ j lt. h.1 j nothing (omega arith) lt)))

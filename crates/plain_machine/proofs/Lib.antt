@@ -4,7 +4,7 @@ pub mod Counted
 pub mod Tallies
 pub mod Listed
 pub mod Steps
-pub mod Behind
+pub mod After
 pub mod Taking
 pub mod Codes
 pub mod Declared

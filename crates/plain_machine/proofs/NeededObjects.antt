@@ -1,5 +1,6 @@
 -- Which objects are there, where nothing was made: the declared ones.
-use Rattle.std.proofs.Common.{◌≡◌, ℕ, zero, suc, ◌+◌, ◌<◌, ◌&&◌, ◌||◌, nat_lt, Bool, true, false, List, [], ◌∷◌, ◌++◌, length, replicate, get_or, take, arith, refl, ap, sym, ◌∙◌, length-append}
+use Rattle.std.proofs.Common.{◌≡◌, ℕ, zero, suc, ◌+◌, ◌<◌, ◌&&◌, ◌||◌, nat_lt, Bool, true, false, List, [], ◌∷◌}
+use Rattle.std.proofs.Common.{◌++◌, length, replicate, get_or, take, arith, refl, ap, sym, ◌∙◌, length-append}
 use Rattle.std.specs.List.{flat_map, list_all}
 use Rattle.std.proofs.lemmas.Bool.Decides.{nat_tests}
 use Rattle.std.proofs.lemmas.List.{length-replicate, append-nil, take_more}
@@ -30,11 +31,13 @@ none_below k = grind (arith, nat_tests)
 -- and are there alone
 pub declared_is_there : (p : ProgramText) (o : ℕ) → is_there (numbering_of p) (nothing_made (numbering_of p)) o ≡ nat_lt o (declared_total p)
 declared_is_there p o =
-    ap (λ (r : List ℕ). nat_lt o (first_made (numbering_of p)) || nat_lt (place_of (numbering_of p) o) (length r)) (nothing_by (length p.threads) (maker_of (numbering_of p) o))
+    ap (λ (r : List ℕ). nat_lt o (first_made (numbering_of p)) || nat_lt (place_of (numbering_of p) o) (length r))
+    (nothing_by (length p.threads) (maker_of (numbering_of p) o))
     ∙ ap (λ b. nat_lt o (first_made (numbering_of p)) || b) (none_below (place_of (numbering_of p) o))
     ∙ either_false (nat_lt o (first_made (numbering_of p))) ∙ ap (nat_lt o) (first_is_total p.objects)
 
-pub declared_are_there : (p : ProgramText) (os : List ℕ) → list_all (is_there (numbering_of p) (nothing_made (numbering_of p))) os ≡ list_all (λ o. nat_lt o (declared_total p)) os
+pub declared_are_there : (p : ProgramText) (os : List ℕ)
+    → list_all (is_there (numbering_of p) (nothing_made (numbering_of p))) os ≡ list_all (λ o. nat_lt o (declared_total p)) os
 declared_are_there p [] = refl
 declared_are_there p (o ∷ os) = λ i. declared_is_there p o i && declared_are_there p os i
 

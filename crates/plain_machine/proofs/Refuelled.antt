@@ -1,18 +1,19 @@
 -- A machine stays sound where its threads get other fuel.
-use Rattle.std.proofs.Common.{◌≡◌, ℕ, zero, suc, ◌+◌, ◌<◌, ◌≤◌, List, [], ◌∷◌, length, map, slice_index_or, Option, Some, None, refl, sym, ap, ◌∙◌, subst, arith}
+use Rattle.std.proofs.Common.{◌≡◌, ℕ, zero, suc, ◌+◌, ◌<◌, ◌≤◌, List, [], ◌∷◌, length, map}
+use Rattle.std.proofs.Common.{slice_index_or, Option, Some, None, refl, sym, ap, ◌∙◌, subst, arith}
 use Rattle.std.proofs.lemmas.List.{length-map}
 use Rattle.std.proofs.lemmas.List.Sums.{sum_by-cons}
 use Rattle.plain_monitor.specs.Monitor.{PlainMonitor}
-use Rattle.plain_machine.specs.declared.call.Call.{Call}
-use Rattle.plain_machine.specs.declared.call.Call.TheVariants as call
-use Rattle.plain_machine.specs.declared.call.Mode.{Mode}
-use Rattle.plain_machine.specs.declared.call.Mode.TheVariants.{Calling, Waiting, Unwinding, Ended}
+use Rattle.plain_machine.specs.declared.monitor_call.MonitorCall.{MonitorCall}
+use Rattle.plain_machine.specs.declared.monitor_call.MonitorCall.TheVariants as call
+use Rattle.plain_machine.specs.declared.monitor_call.Mode.{Mode}
+use Rattle.plain_machine.specs.declared.monitor_call.Mode.TheVariants.{Calling, Waiting, Unwinding, Ended}
 use Rattle.plain_machine.specs.Thread.{ThreadState, holds_of}
 use Rattle.plain_machine.specs.Machine.{PlainMachine}
 use Rattle.plain_machine.specs.Ready.{HasRoomFor}
 use Rattle.plain_machine.specs.Sound.{IsReadyIn, monitor_in, owner_holds, while_waiting, waiting_on, IsListed, IsBeside, IsKept, AreKept, IsSound}
 
-room : (fuel : ℕ) (s : ThreadState) (c : Call) → HasRoomFor s c → HasRoomFor (record s { fuel = fuel }) c
+room : (fuel : ℕ) (s : ThreadState) (c : MonitorCall) → HasRoomFor s c → HasRoomFor (record s { fuel = fuel }) c
 room fuel s (call.Enter o) h = h
 room fuel s (call.Exit o) h = h
 room fuel s (call.Wait o) h = h

@@ -4,8 +4,8 @@ use Rattle.object_program.specs.declared.program.Code.{Code}
 use Rattle.object_program.specs.Program.{ProgramText}
 use Rattle.plain_monitor.specs.declared.entry.Ending.{Ending}
 use Rattle.plain_monitor.specs.declared.entry.Ending.TheVariants.{Spent}
-use Rattle.plain_machine.specs.declared.call.Call.{Call}
-use Rattle.plain_machine.specs.declared.call.Mode.TheVariants.{Calling, Unwinding}
+use Rattle.plain_machine.specs.declared.monitor_call.MonitorCall.{MonitorCall}
+use Rattle.plain_machine.specs.declared.monitor_call.Mode.TheVariants.{Calling, Unwinding}
 use Rattle.plain_machine.specs.Thread.{ThreadState, Goes, Calls, Stops, step_of}
 use Rattle.plain_machine.specs.Running.{run_on, instruction_at}
 
@@ -15,7 +15,7 @@ unfolding run_on
 run_goes p c zero s next h e = absurd (omega arith)
 run_goes p c (suc n) s next h e = let m : suc n - 1 ≡ n = omega arith in rw (m, e) refl
 
-pub run_calls : (p : ProgramText) (c : List Code) (n : ℕ) (s : ThreadState) (k : Call) → 0 < n
+pub run_calls : (p : ProgramText) (c : List Code) (n : ℕ) (s : ThreadState) (k : MonitorCall) → 0 < n
     → step_of p s (instruction_at c s.place) ≡ Calls k → run_on p c n s ≡ record s { fuel = n; mode = Calling k }
 unfolding run_on
 run_calls p c zero s k h e = absurd (omega arith)

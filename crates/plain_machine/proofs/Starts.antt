@@ -9,10 +9,10 @@ use Rattle.object_program.specs.declared.program.ObjectDef.{ObjectDef}
 use Rattle.object_program.specs.declared.program.ClassDef.{ClassDef}
 use Rattle.object_program.specs.Program.{shape_from, total_of, slots_of_class}
 use Rattle.plain_machine.specs.Thread.{ThreadState}
-use Rattle.plain_machine.specs.Sound.{IsBeside, IsKept, IsReady, monitor_in}
+use Rattle.plain_machine.specs.Sound.{IsBeside, IsKept, ThreadIsReady, monitor_in}
 
 -- a thread that ran from its start holds nothing
-pub kept_start : (n : ℕ) (s : ThreadState) → s.holds ≡ replicate n 0 → IsReady s → IsKept n s
+pub kept_start : (n : ℕ) (s : ThreadState) → s.holds ≡ replicate n 0 → ThreadIsReady s → IsKept n s
 kept_start n s e r = record {
   objects = ap length e ∙ length-replicate n 0;
   few = rw e (omega (arith, sum_by-replicate (λ (x : ℕ). x) n 0));
@@ -49,8 +49,9 @@ new_objects_step classes ds i d before after lt at b a =
     ∙ sym (new_objects-append classes (take i ds) (d ∷ []))
     ∙ ap (λ xs. new_objects (shape_from classes xs)) (sym more)
 
--- behind the declared objects stand those that threads may make
-pub new_objects_made : (shape : List (ℕ × ℕ)) (n c slots : ℕ) → new_objects (shape ++ replicate n (c, slots)) ≡ new_objects shape ++ replicate n (new_object slots)
+-- after the declared objects stand those that threads may make
+pub new_objects_made : (shape : List (ℕ × ℕ)) (n c slots : ℕ)
+    → new_objects (shape ++ replicate n (c, slots)) ≡ new_objects shape ++ replicate n (new_object slots)
 new_objects_made shape n c slots =
     map-append (λ (x : ℕ × ℕ). new_object x.1) shape (replicate n (c, slots))
     ∙ ap (λ xs. new_objects shape ++ xs) (map-replicate (λ (x : ℕ × ℕ). new_object x.1) n (c, slots))
@@ -67,7 +68,7 @@ length-new_objects : (classes : List ClassDef) (ds : List ObjectDef) → length 
 length-new_objects classes ds =
     length-map (shape_from classes ds) (λ (x : ℕ × ℕ). new_object x.1) ∙ length-shape classes ds
 
--- behind the last declaration
+-- after the last declaration
 pub total_at_end : (classes : List ClassDef) (ds es : List ObjectDef) (i : ℕ) (objects : List PlainObject)
     → objects ≡ new_objects (shape_from classes (take i es)) → es ≡ ds → length es ≤ i → length objects ≡ total_of ds
 total_at_end classes ds es i objects e same le =

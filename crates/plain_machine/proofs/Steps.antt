@@ -9,10 +9,13 @@ use Rattle.plain_machine.specs.Thread.{ThreadState, holds_of}
 use Rattle.plain_machine.specs.Ready.{waits_on}
 use Rattle.plain_monitor.specs.Listed.{times_in}
 use Rattle.plain_machine.specs.Sound.{thread_in, while_waiting, waiting_on, IsListed, AreListed, AreWaiting, IsBeside, unrun}
-use Rattle.plain_machine.proofs.Counted.{IsOwnedBy, owned_enter, owned_exit, owned_wait, owned_resumed, owned_notify, owned_notify_all, wait_owner, counted_same, counted_owned}
-use Rattle.plain_machine.proofs.Listed.{IsFewer, HasSomeMoved, fewer_same, length_same, lists_enter, lists_exit, lists_wait, fewer_wait, once_more, length_wait, fewer_moved, length_moved, moved_notify, moved_notify_all, lists_resumed, fewer_out, gone_out, length_out, found}
+use Rattle.plain_machine.proofs.Counted.{IsOwnedBy, owned_enter, owned_exit, owned_wait, owned_resumed, owned_notify}
+use Rattle.plain_machine.proofs.Counted.{owned_notify_all, wait_owner, counted_same, counted_owned}
+use Rattle.plain_machine.proofs.Listed.{IsFewer, HasSomeMoved, fewer_same, length_same, lists_enter, lists_exit, lists_wait}
+use Rattle.plain_machine.proofs.Listed.{fewer_wait, once_more, length_wait, fewer_moved, length_moved, moved_notify}
+use Rattle.plain_machine.proofs.Listed.{moved_notify_all, lists_resumed, fewer_out, gone_out, length_out, found}
 
--- the monitor is n behind the step, and thread t was in state r and is in state s
+-- the monitor is n after the step, and thread t was in state r and is in state s
 pub record IsStep (r s : ThreadState) (t o : ℕ) (m n : PlainMonitor) : Type 0 where
   pub owned : IsOwnedBy n t (holds_of s o)
   pub listed : IsListed s o t n
@@ -41,7 +44,8 @@ listed_same : (threads : List ThreadState) (t o : ℕ) (s : ThreadState) (m : Pl
 listed_same threads t o s m lt e h u =
     elim (cases_eq u t) [
       | inl q ↦
-          rw (q, get_or-set_same threads t s (unrun 0 0 0) lt) (listed_nowhere (thread_in threads t) s o t m m e (record { once = omega arith; due = omega arith }) (h t))
+          rw (q, get_or-set_same threads t s (unrun 0 0 0) lt)
+          (listed_nowhere (thread_in threads t) s o t m m e (record { once = omega arith; due = omega arith }) (h t))
       | inr q ↦ rw (get_or-set_other threads t u s (unrun 0 0 0) q) (h u)
     ]
 
@@ -71,7 +75,7 @@ listed_step threads t o s m n lt h k u =
       | inr q ↦ rw (get_or-set_other threads t u s (unrun 0 0 0) q) (listed_fewer (thread_in threads u) o u m n (k.others u q) (h u))
     ]
 
--- a monitor behind the thread's step
+-- a monitor after the thread's step
 pub beside_step : (threads : List ThreadState) (t o : ℕ) (s : ThreadState) (m n : PlainMonitor) → t < length threads
     → IsStep (thread_in threads t) s t o m n → IsBeside threads o m → IsBeside (set threads t s) o n
 beside_step threads t o s m n lt k h = record {
@@ -85,7 +89,7 @@ pub record IsBefore (r : ThreadState) (t o : ℕ) (m : PlainMonitor) : Type 0 wh
   pub counted : m.owner ≡ Some t → m.count ≤ holds_of r o
   pub listed : IsListed r o t m
 
--- a step of a thread that does not wait, before it or behind it, and that adds nobody to the lists
+-- a step of a thread that does not wait, before it or after it, and that adds nobody to the lists
 step_awake : (r s : ThreadState) (t o : ℕ) (m n : PlainMonitor) → waits_on r.mode o ≡ false → waits_on s.mode o ≡ false → IsBefore r t o m
     → IsOwnedBy n t (holds_of s o) → ((u : ℕ) → IsFewer m n u) → length n.waits + length n.called ≡ length m.waits + length m.called
     → IsStep r s t o m n
@@ -141,7 +145,8 @@ step_wait r s t o m n e f h b k =
       waiting = omega (arith, length_wait m n t m.count last, while_no r o 1 e, while_yes s o 1 f);
     }
 
-step_resumed : (r s : ThreadState) (t o : ℕ) (m n : PlainMonitor) (c : Option ℕ) → count_of m.called t ≡ c → waits_on r.mode o ≡ true → waits_on s.mode o ≡ false
+step_resumed : (r s : ThreadState) (t o : ℕ) (m n : PlainMonitor) (c : Option ℕ)
+    → count_of m.called t ≡ c → waits_on r.mode o ≡ true → waits_on s.mode o ≡ false
     → holds_of s o ≡ holds_of r o → IsBefore r t o m → resumed m t c ≡ Some n → IsStep r s t o m n
 step_resumed r s t o m n None q e f h b k = absurd (none-some n k)
 step_resumed r s t o m n (Some c) q e f h b k =

@@ -1,7 +1,7 @@
 -- A thread that unwinds is ready, whatever it holds, and waits on no object.
 use Rattle.std.proofs.Common.{◌≡◌, ℕ, false, refl}
-use Rattle.plain_machine.specs.declared.call.Mode.{Mode}
-use Rattle.plain_machine.specs.declared.call.Mode.TheVariants.{Calling, Waiting, Unwinding, Ended}
+use Rattle.plain_machine.specs.declared.monitor_call.Mode.{Mode}
+use Rattle.plain_machine.specs.declared.monitor_call.Mode.TheVariants.{Calling, Waiting, Unwinding, Ended}
 use Rattle.plain_machine.specs.Thread.{ThreadState}
 use Rattle.plain_machine.specs.Ready.{IsUnwinding, waits_on}
 use Rattle.plain_machine.specs.Sound.{IsReadyIn}

@@ -1,23 +1,26 @@
--- What a thread has to make next, which entries fit that, and the thread behind an entry.
-use Rattle.std.specs.Prelude.{ℕ, pos, ◌+◌, ◌-◌, Bool, true, false, ◌&&◌, ◌==◌, nat_le, if◌then◌else◌, List, [], ◌∷◌, slice_set, Option, Some, None, option_and_then}
+-- What a thread has to make next, which entries fit that, and the thread after an entry.
+use Rattle.std.specs.Prelude.{ℕ, pos, ◌+◌, ◌-◌, Bool, true, false, ◌&&◌, ◌==◌, nat_le, if◌then◌else◌}
+use Rattle.std.specs.Prelude.{List, [], ◌∷◌, slice_set, Option, Some, None, option_and_then}
 use Rattle.plain_monitor.specs.declared.entry.Value.TheVariants.{Int, Ref}
 use Rattle.plain_monitor.specs.declared.entry.Fault.{Fault}
-use Rattle.plain_monitor.specs.declared.entry.Fault.TheVariants.{IllegalMonitorState, Unguarded, NotRef, NotInt, Range, Overflow, TooDeep, TooManyDumps, TooMany}
+use Rattle.plain_monitor.specs.declared.entry.Fault.TheVariants.{IllegalMonitorState, Unguarded, NotRef, NotInt}
+use Rattle.plain_monitor.specs.declared.entry.Fault.TheVariants.{Range, Overflow, TooDeep, TooManyDumps, TooMany}
 use Rattle.plain_monitor.specs.declared.entry.Ending.{Ending}
 use Rattle.plain_monitor.specs.declared.entry.Ending.TheVariants as ending
 use Rattle.plain_monitor.specs.declared.entry.Entry.{Entry}
-use Rattle.plain_monitor.specs.declared.entry.Entry.TheVariants.{Enter, Exit, Get, Put, Wait, Resume, Notify, NotifyAll, Hash, New, Print, Dump, Trap, Spent, Done}
+use Rattle.plain_monitor.specs.declared.entry.Entry.TheVariants.{Enter, Exit, Get, Put, Wait, Resume, Notify, NotifyAll}
+use Rattle.plain_monitor.specs.declared.entry.Entry.TheVariants.{Hash, New, Print, Dump, Trap, Spent, Done}
 use Rattle.plain_monitor.specs.Monitor.{only_if}
 use Rattle.plain_monitor.specs.Objects.{same_value}
 use Rattle.object_program.specs.declared.program.Code.{Code}
 use Rattle.object_program.specs.Program.{ProgramText}
-use Rattle.plain_machine.specs.declared.call.Call.{Call}
-use Rattle.plain_machine.specs.declared.call.Call.TheVariants as call
-use Rattle.plain_machine.specs.declared.call.Mode.{Mode}
-use Rattle.plain_machine.specs.declared.call.Mode.TheVariants.{Calling, Waiting, Unwinding, Ended}
-use Rattle.plain_machine.specs.declared.call.Asked.{Asked}
-use Rattle.plain_machine.specs.declared.call.Asked.TheVariants.{Calls, Resumes, Leaves, Ends}
-use Rattle.plain_machine.specs.Thread.{ThreadState, with_local, behind, holds_of}
+use Rattle.plain_machine.specs.declared.monitor_call.MonitorCall.{MonitorCall}
+use Rattle.plain_machine.specs.declared.monitor_call.MonitorCall.TheVariants as call
+use Rattle.plain_machine.specs.declared.monitor_call.Mode.{Mode}
+use Rattle.plain_machine.specs.declared.monitor_call.Mode.TheVariants.{Calling, Waiting, Unwinding, Ended}
+use Rattle.plain_machine.specs.declared.monitor_call.NextEntry.{NextEntry}
+use Rattle.plain_machine.specs.declared.monitor_call.NextEntry.TheVariants.{Calls, Resumes, Leaves, Ends}
+use Rattle.plain_machine.specs.Thread.{ThreadState, with_local, past, holds_of}
 use Rattle.plain_machine.specs.Running.{run_on}
 
 -- the least object that is held, where the first of these has number o
@@ -26,18 +29,18 @@ held_from o [] = None
 held_from o (n ∷ ns) = if nat_le 1 n then Some o else held_from (o + 1) ns
 
 -- a thread that unwinds leaves its holds, objects by rising number, and then ends
-abbrev pub unwinds : Ending → Option ℕ → Asked
+abbrev pub unwinds : Ending → Option ℕ → NextEntry
 unwinds e None = Ends e
 unwinds e (Some o) = Leaves o
 
-abbrev pub ask_in : ThreadState → Mode → Option Asked
+abbrev pub ask_in : ThreadState → Mode → Option NextEntry
 ask_in s (Calling c) = Some (Calls c)
 ask_in s (Waiting o) = Some (Resumes o)
 ask_in s (Unwinding e) = Some (unwinds e (held_from 0 s.holds))
 ask_in s (Ended e) = None
 
 -- what the thread has to make next; nothing where it has ended
-abbrev pub ask : ThreadState → Option Asked
+abbrev pub ask : ThreadState → Option NextEntry
 ask s = ask_in s s.mode
 
 abbrev pub fault_number : Fault → ℕ
@@ -53,7 +56,7 @@ fault_number TooMany = 8
 
 -- the entry is this call; what the objects answer is open, and so is the number of a new one, which is its maker's next by the objects that are
 -- there
-abbrev pub is_call : Call → Entry → Bool
+abbrev pub is_call : MonitorCall → Entry → Bool
 is_call (call.Enter o) (Enter object path) = o == object
 is_call (call.Exit o) (Exit object) = o == object
 is_call (call.Wait o) (Wait object) = o == object
@@ -82,7 +85,7 @@ is_exit o (Exit object) = o == object
 is_exit o e = false
 
 -- the entry is what is asked
-abbrev pub fits : Asked → Entry → Bool
+abbrev pub fits : NextEntry → Entry → Bool
 fits (Calls c) e = is_call c e
 fits (Resumes o) e = is_resume o e
 fits (Leaves o) e = is_exit o e
@@ -96,7 +99,7 @@ abbrev pub holds_less : ThreadState → ℕ → ThreadState
 holds_less s o = record s { holds = slice_set s.holds o (holds_of s o - 1) }
 
 -- what the call's answer makes of the thread
-abbrev pub answered : ThreadState → Call → Entry → ThreadState
+abbrev pub answered : ThreadState → MonitorCall → Entry → ThreadState
 answered s (call.Enter o) e = holds_more s o
 answered s (call.Exit o) e = holds_less s o
 answered s (call.Get x o k) (Get object slot value) = with_local s x value
@@ -105,19 +108,19 @@ answered s (call.New x c) (New object class) = with_local (record s { made = s.m
 answered s (call.Dump n) e = record s { dumps = n }
 answered s c e = s
 
--- behind the call, which is paid for: a thread that waits stands still, each other runs on
-abbrev pub behind_call : ProgramText → List Code → ThreadState → Call → Entry → ThreadState
-behind_call p instructions s (call.Wait o) e = record (behind s) { fuel = s.fuel - 1; mode = Waiting o }
-behind_call p instructions s c e = run_on p instructions (s.fuel - 1) (behind (answered s c e))
+-- after the call, which is paid for: a thread that waits stands still, each other runs on
+abbrev pub after_call : ProgramText → List Code → ThreadState → MonitorCall → Entry → ThreadState
+after_call p instructions s (call.Wait o) e = record (past s) { fuel = s.fuel - 1; mode = Waiting o }
+after_call p instructions s c e = run_on p instructions (s.fuel - 1) (past (answered s c e))
 
--- the thread behind an entry that is what it asked
-abbrev pub behind_entry : ProgramText → List Code → ThreadState → Asked → Entry → ThreadState
-behind_entry p instructions s (Calls c) e = behind_call p instructions s c e
-behind_entry p instructions s (Resumes o) e = run_on p instructions s.fuel s
-behind_entry p instructions s (Leaves o) e = holds_less s o
-behind_entry p instructions s (Ends ending) e = record s { mode = Ended ending }
+-- the thread after an entry that is what it asked
+abbrev pub after_entry : ProgramText → List Code → ThreadState → NextEntry → Entry → ThreadState
+after_entry p instructions s (Calls c) e = after_call p instructions s c e
+after_entry p instructions s (Resumes o) e = run_on p instructions s.fuel s
+after_entry p instructions s (Leaves o) e = holds_less s o
+after_entry p instructions s (Ends ending) e = record s { mode = Ended ending }
 
--- the thread behind an entry, where it asks for it
+-- the thread after an entry, where it asks for it
 abbrev pub thread_after : ProgramText → List Code → ThreadState → Entry → Option ThreadState
 thread_after p instructions s e =
-    option_and_then (λ asked. only_if (fits asked e) (behind_entry p instructions s asked e)) (ask s)
+    option_and_then (λ asked. only_if (fits asked e) (after_entry p instructions s asked e)) (ask s)

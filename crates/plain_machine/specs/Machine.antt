@@ -1,5 +1,6 @@
 -- The plain machine: the plain objects and the threads. It takes an entry where the thread asks for it and the objects take it.
-use Rattle.std.specs.Prelude.{ℕ, ◌+◌, Bool, true, false, not, ◌&&◌, ◌||◌, List, [], ◌∷◌, map, if◌then◌else◌, slice_get, slice_set, slice_index_or, Option, Some, None, option_and_then, is_some, is_none}
+use Rattle.std.specs.Prelude.{ℕ, ◌+◌, Bool, true, false, not, ◌&&◌, ◌||◌, List, [], ◌∷◌, map, if◌then◌else◌, slice_get}
+use Rattle.std.specs.Prelude.{slice_set, slice_index_or, Option, Some, None, option_and_then, is_some, is_none}
 use Rattle.std.specs.List.{list_any}
 use Rattle.plain_monitor.specs.declared.entry.Value.{Value}
 use Rattle.plain_monitor.specs.declared.entry.Value.TheVariants.{Nil}
@@ -7,14 +8,14 @@ use Rattle.plain_monitor.specs.declared.entry.Ending.{Ending}
 use Rattle.plain_monitor.specs.declared.entry.Entry.{Entry}
 use Rattle.plain_monitor.specs.Monitor.{PlainMonitor, is_listed, is_thread}
 use Rattle.plain_monitor.specs.Objects.{PlainObject, new_object, new_objects, take_entry}
-use Rattle.plain_monitor.specs.Made.{class_of, nothing_made, take_made}
+use Rattle.plain_monitor.specs.Made.{class_if_there, nothing_made, take_made}
 use Rattle.object_program.specs.declared.program.Code.{Code}
 use Rattle.object_program.specs.Program.{ProgramText, shape_of, numbering_of}
-use Rattle.plain_machine.specs.declared.call.Call.TheVariants as call
-use Rattle.plain_machine.specs.declared.call.Mode.{Mode}
-use Rattle.plain_machine.specs.declared.call.Mode.TheVariants.{Waiting, Ended}
-use Rattle.plain_machine.specs.declared.call.Asked.{Asked}
-use Rattle.plain_machine.specs.declared.call.Asked.TheVariants.{Calls, Resumes}
+use Rattle.plain_machine.specs.declared.monitor_call.MonitorCall.TheVariants as call
+use Rattle.plain_machine.specs.declared.monitor_call.Mode.{Mode}
+use Rattle.plain_machine.specs.declared.monitor_call.Mode.TheVariants.{Waiting, Ended}
+use Rattle.plain_machine.specs.declared.monitor_call.NextEntry.{NextEntry}
+use Rattle.plain_machine.specs.declared.monitor_call.NextEntry.TheVariants.{Calls, Resumes}
 use Rattle.plain_machine.specs.Thread.{ThreadState}
 use Rattle.plain_machine.specs.Running.{first_state}
 use Rattle.plain_machine.specs.Asking.{ask, thread_after}
@@ -48,20 +49,20 @@ moved m t (Some s) (Some made) None = None
 moved m t (Some s) (Some made) (Some objects) =
     Some (record m { objects = objects; made = made; threads = slice_set m.threads t s })
 
--- what is made behind an entry of thread t, where each object is there that the entry needs
-abbrev pub made_behind : PlainMachine → ℕ → Entry → Option (List (List ℕ))
-made_behind m t e = take_made (numbering_of m.program) m.made t e
+-- what is made after an entry of thread t, where each object is there that the entry needs
+abbrev pub made_after_entry : PlainMachine → ℕ → Entry → Option (List (List ℕ))
+made_after_entry m t e = take_made (numbering_of m.program) m.made t e
 
--- the machine behind an entry of thread t, where it takes it
+-- the machine after an entry of thread t, where it takes it
 abbrev pub take : PlainMachine → ℕ → Entry → Option PlainMachine
 take m t e =
     option_and_then
-    (λ s. moved m t (thread_after m.program (code_of m.program t) s e) (made_behind m t e) (take_entry m.objects t e))
+    (λ s. moved m t (thread_after m.program (code_of m.program t) s e) (made_after_entry m t e) (take_entry m.objects t e))
     (slice_get m.threads t)
 
 -- the class of object o, where it is there
 abbrev pub class_at : PlainMachine → ℕ → Option ℕ
-class_at m o = class_of (numbering_of m.program) m.made o
+class_at m o = class_if_there (numbering_of m.program) m.made o
 
 abbrev pub object_at : PlainMachine → ℕ → PlainObject
 object_at m o = slice_index_or m.objects o (new_object 0)
@@ -85,7 +86,7 @@ abbrev pub other_owner : PlainMonitor → ℕ → Option ℕ
 other_owner m t = if is_thread m.owner t then None else m.owner
 
 -- the object whose monitor the thread asks to have, by an enter or a resume
-abbrev pub wanted : Option Asked → Option ℕ
+abbrev pub wanted : Option NextEntry → Option ℕ
 wanted (Some (Calls (call.Enter o))) = Some o
 wanted (Some (Resumes o)) = Some o
 wanted a = None

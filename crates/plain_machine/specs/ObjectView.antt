@@ -8,5 +8,5 @@ abbrev pub plain_object : Inside → PlainObject
 plain_object a = record { monitor = a.monitor.plain; slots = a.slots.items; hash = a.hash }
 
 -- there is room for 16 threads that wait or were called
-abbrev pub HasRoom : Inside → Type 0
-HasRoom a = most_threads ≤ a.monitor.spare + length a.monitor.plain.waits + length a.monitor.plain.called
+abbrev pub ObjectHasRoom : Inside → Type 0
+ObjectHasRoom a = most_threads ≤ a.monitor.spare + length a.monitor.plain.waits + length a.monitor.plain.called

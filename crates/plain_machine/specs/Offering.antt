@@ -7,10 +7,10 @@ use Rattle.plain_monitor.specs.Endings.{ending_entry}
 use Rattle.plain_monitor.specs.Monitor.{PlainMonitor, is_listed}
 use Rattle.plain_monitor.specs.Made.{made_by, made_number}
 use Rattle.object_program.specs.Program.{numbering_of}
-use Rattle.plain_machine.specs.declared.call.Call.{Call}
-use Rattle.plain_machine.specs.declared.call.Call.TheVariants as call
-use Rattle.plain_machine.specs.declared.call.Asked.{Asked}
-use Rattle.plain_machine.specs.declared.call.Asked.TheVariants.{Calls, Resumes, Leaves, Ends}
+use Rattle.plain_machine.specs.declared.monitor_call.MonitorCall.{MonitorCall}
+use Rattle.plain_machine.specs.declared.monitor_call.MonitorCall.TheVariants as call
+use Rattle.plain_machine.specs.declared.monitor_call.NextEntry.{NextEntry}
+use Rattle.plain_machine.specs.declared.monitor_call.NextEntry.TheVariants.{Calls, Resumes, Leaves, Ends}
 use Rattle.plain_machine.specs.declared.offer.Offer.{Offer}
 use Rattle.plain_machine.specs.declared.offer.Offer.TheVariants.{Next, NextHash, Blocked, Waiting, Ended}
 use Rattle.plain_machine.specs.Asking.{ask}
@@ -35,7 +35,7 @@ hash_offer o (Some value) = Next (Hash o value None)
 abbrev pub next_made : PlainMachine → ℕ → ℕ
 next_made m t = made_number (numbering_of m.program) t (length (made_by m.made t))
 
-abbrev pub call_offer : PlainMachine → ℕ → Call → Offer
+abbrev pub call_offer : PlainMachine → ℕ → MonitorCall → Offer
 call_offer m t (call.Enter o) = unless_owned o (other_owner (monitor_at m o) t) (Enter o StackFirst)
 call_offer m t (call.Exit o) = Next (Exit o)
 call_offer m t (call.Wait o) = Next (Wait o)
@@ -52,7 +52,7 @@ call_offer m t (call.Dump n) = Next (Dump n)
 abbrev pub resume_offer : PlainMonitor → ℕ → ℕ → Option ℕ → Offer
 resume_offer m t o owner = if is_listed m.waits t then Waiting o else unless_owned o owner (Resume o)
 
-abbrev pub asked_offer : PlainMachine → ℕ → Option Asked → Offer
+abbrev pub asked_offer : PlainMachine → ℕ → Option NextEntry → Offer
 asked_offer m t None = Ended
 asked_offer m t (Some (Calls c)) = call_offer m t c
 asked_offer m t (Some (Resumes o)) = resume_offer (monitor_at m o) t o (other_owner (monitor_at m o) t)

@@ -7,6 +7,6 @@ abbrev pub row : Inside → List ℕ
 row a = a.classes.items
 
 -- there is room for all that a thread may make, and it has made no more
-pub record HasRoom (a : Inside) : Type 0 where
+pub record RowHasRoom (a : Inside) : Type 0 where
   pub room : most_made ≤ vec_capacity a.classes
   pub few : vec_len a.classes ≤ most_made

@@ -6,13 +6,13 @@ use Rattle.object_program.specs.declared.program.Code.{Code}
 use Rattle.object_program.specs.declared.program.Code.TheVariants as code
 use Rattle.object_program.specs.declared.program.ThreadDef.{ThreadDef}
 use Rattle.object_program.specs.Program.{ProgramText, objects_total}
-use Rattle.plain_machine.specs.declared.call.Mode.TheVariants.{Calling, Unwinding}
+use Rattle.plain_machine.specs.declared.monitor_call.Mode.TheVariants.{Calling, Unwinding}
 use Rattle.plain_machine.specs.Thread.{ThreadState, Step, Goes, Calls, Stops, step_of}
 
 abbrev pub instruction_at : List Code → ℕ → Code
 instruction_at instructions place = slice_index_or instructions place code.End
 
--- what a step leads to, for a thread that has n units of fuel behind it; a call is paid for when it is made
+-- what a step leads to, for a thread that has n units of fuel after it; a call is paid for when it is made
 abbrev pub after_step : ThreadState → ℕ → Step → (ThreadState → ThreadState) → ThreadState
 after_step s n (Goes next) go_on = go_on next
 after_step s n (Calls c) go_on = record s { fuel = n + 1; mode = Calling c }

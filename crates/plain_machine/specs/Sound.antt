@@ -8,8 +8,8 @@ use Rattle.plain_monitor.specs.Monitor.{PlainMonitor}
 use Rattle.plain_monitor.specs.Objects.{PlainObject, new_object}
 use Rattle.object_program.specs.Program.{objects_total}
 use Rattle.object_program.specs.Valid.{IsProgram}
-use Rattle.plain_machine.specs.declared.call.Mode.{Mode}
-use Rattle.plain_machine.specs.declared.call.Mode.TheVariants.{Calling, Unwinding}
+use Rattle.plain_machine.specs.declared.monitor_call.Mode.{Mode}
+use Rattle.plain_machine.specs.declared.monitor_call.Mode.TheVariants.{Calling, Unwinding}
 use Rattle.plain_machine.specs.Thread.{ThreadState, holds_of}
 use Rattle.plain_machine.specs.Machine.{PlainMachine}
 use Rattle.plain_monitor.specs.Listed.{times_in, counts_in}
@@ -32,8 +32,8 @@ abbrev pub IsReadyIn : ThreadState → Mode → Type 0
 IsReadyIn s (Calling c) = IsReadyToCall s c
 IsReadyIn s m = Unit {0}
 
-abbrev pub IsReady : ThreadState → Type 0
-IsReady s = IsReadyIn s s.mode
+abbrev pub ThreadIsReady : ThreadState → Type 0
+ThreadIsReady s = IsReadyIn s s.mode
 
 -- the monitor of object o
 abbrev pub monitor_in : List PlainObject → ℕ → PlainMonitor
@@ -82,7 +82,7 @@ pub record IsBeside (threads : List ThreadState) (o : ℕ) (m : PlainMonitor) : 
 pub record IsKept (n : ℕ) (s : ThreadState) : Type 0 where
   pub objects : length s.holds ≡ n
   pub few : sum s.holds ≤ most_holds
-  pub ready : IsReady s
+  pub ready : ThreadIsReady s
 
 abbrev pub AreKept : ℕ → List ThreadState → Type 0
 AreKept n threads = All (IsKept n) threads

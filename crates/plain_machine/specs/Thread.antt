@@ -1,12 +1,14 @@
 -- The state of a thread, and what its instructions do to it. A thread that isn't the owner may not wait or notify, which is the
 -- IllegalMonitorStateException of the Java Language Specification 8, 17.2, nor exit, by `monitorexit` of the Java Virtual Machine
 -- Specification 8. The rest of the language is this project's own.
-use Rattle.std.specs.Prelude.{ℕ, ℤ, pos, ◌+ℤ◌, ◌-ℤ◌, ◌*ℤ◌, int_lt, int_le, nat_abs, ◌+◌, ◌-◌, Bool, ◌&&◌, nat_le, nat_lt, if◌then◌else◌, List, sum, slice_get, slice_index, slice_index_or, slice_set, Option, Some, None}
+use Rattle.std.specs.Prelude.{ℕ, ℤ, pos, ◌+ℤ◌, ◌-ℤ◌, ◌*ℤ◌, int_lt, int_le, nat_abs, ◌+◌, ◌-◌, Bool, ◌&&◌, nat_le, nat_lt}
+use Rattle.std.specs.Prelude.{if◌then◌else◌, List, sum, slice_get, slice_index, slice_index_or, slice_set, Option, Some, None}
 use Rattle.plain_monitor.specs.Limits.{most_holds, most_made}
 use Rattle.plain_monitor.specs.declared.entry.Value.{Value}
 use Rattle.plain_monitor.specs.declared.entry.Value.TheVariants.{Nil, Int, Ref}
 use Rattle.plain_monitor.specs.declared.entry.Fault.{Fault}
-use Rattle.plain_monitor.specs.declared.entry.Fault.TheVariants.{IllegalMonitorState, Unguarded, NotRef, NotInt, Range, Overflow, TooDeep, TooManyDumps, TooMany}
+use Rattle.plain_monitor.specs.declared.entry.Fault.TheVariants.{IllegalMonitorState, Unguarded, NotRef, NotInt}
+use Rattle.plain_monitor.specs.declared.entry.Fault.TheVariants.{Range, Overflow, TooDeep, TooManyDumps, TooMany}
 use Rattle.plain_monitor.specs.declared.entry.Ending.{Ending}
 use Rattle.plain_monitor.specs.declared.entry.Ending.TheVariants.{Trap, Done}
 use Rattle.plain_monitor.specs.Objects.{same_value}
@@ -15,9 +17,9 @@ use Rattle.object_program.specs.declared.program.ObjectDef.{ObjectDef}
 use Rattle.object_program.specs.declared.program.Code.{Code}
 use Rattle.object_program.specs.declared.program.Code.TheVariants as code
 use Rattle.object_program.specs.Program.{ProgramText, slots_of}
-use Rattle.plain_machine.specs.declared.call.Call.{Call}
-use Rattle.plain_machine.specs.declared.call.Call.TheVariants as call
-use Rattle.plain_machine.specs.declared.call.Mode.{Mode}
+use Rattle.plain_machine.specs.declared.monitor_call.MonitorCall.{MonitorCall}
+use Rattle.plain_machine.specs.declared.monitor_call.MonitorCall.TheVariants as call
+use Rattle.plain_machine.specs.declared.monitor_call.Mode.{Mode}
 
 pub record ThreadState : Type 0 where
   -- how many instructions stand before the one that it is at
@@ -36,7 +38,7 @@ pub record ThreadState : Type 0 where
 -- what an instruction leads to: the next instruction, a call that the thread stands before, or its end
 pub data Step : Type 0 where
   Goes : ThreadState → Step
-  Calls : Call → Step
+  Calls : MonitorCall → Step
   Stops : Ending → Step
 
 abbrev pub local : ThreadState → ℕ → Value
@@ -49,9 +51,9 @@ with_local s x v = record s { locals = slice_set s.locals x v }
 abbrev pub holds_of : ThreadState → ℕ → ℕ
 holds_of s o = slice_index s.holds o
 
--- behind the instruction
-abbrev pub behind : ThreadState → ThreadState
-behind s = record s { place = s.place + 1 }
+-- past the instruction
+abbrev pub past : ThreadState → ThreadState
+past s = record s { place = s.place + 1 }
 
 -- at the instruction with this number, from 1
 abbrev pub at : ThreadState → ℕ → ThreadState
@@ -63,7 +65,7 @@ faults s fault = Stops (Trap fault (s.place + 1))
 
 -- x becomes the value
 abbrev pub sets : ThreadState → ℕ → Value → Step
-sets s x v = Goes (behind (with_local s x v))
+sets s x v = Goes (past (with_local s x v))
 
 -- x becomes the number, where a value may be it
 abbrev pub computes : ThreadState → ℕ → ℤ → Step
@@ -88,7 +90,7 @@ abbrev pub enters : ThreadState → ℕ → Step
 enters s o = if nat_lt (sum s.holds) most_holds then Calls (call.Enter o) else faults s TooDeep
 
 -- what reads or writes slot k of an object
-abbrev pub on_slot : ProgramText → ThreadState → ℕ → ℕ → Call → Step
+abbrev pub on_slot : ProgramText → ThreadState → ℕ → ℕ → MonitorCall → Step
 on_slot p s o k c = if nat_lt k (slots_of p o) then owner_only s o Unguarded (Calls c) else faults s Range
 
 abbrev pub first_of : Option ObjectDef → ℕ
@@ -108,7 +110,7 @@ element s x d (Int i) = if is_element i (size_of d) then sets s x (Ref (first_of
 element s x d v = faults s NotInt
 
 abbrev pub jumps_where : Bool → ThreadState → ℕ → Step
-jumps_where holds s l = Goes (if holds then at s l else behind s)
+jumps_where holds s l = Goes (if holds then at s l else past s)
 
 abbrev pub jumps_below : ThreadState → Value → Value → ℕ → Step
 jumps_below s (Int y) (Int z) l = jumps_where (int_lt y z) s l

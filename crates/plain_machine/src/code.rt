@@ -65,7 +65,7 @@ fn class_found(program: &Program, o: u32) -> u32
     class_by(&definitions[begun - 1], o)
 }
 
-/// How many of the declarations don't stand behind object o.
+/// How many of the declarations don't stand after object o.
 fn begun_by(definitions: &[ObjectDef], o: u32) -> usize
     requires { IsNonDecreasingBy (λ d. d.first) definitions.now }
     ensures bound { result ≤ length definitions.now }

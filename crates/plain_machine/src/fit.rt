@@ -2,19 +2,19 @@
 
 ghost use Rattle.std.specs.Prelude.{◌≡◌, ℕ, true, false, Some, IfNone, IfSome};
 ghost use Rattle.plain_monitor.specs.Objects.{same_value};
-ghost use Rattle.plain_machine.specs.declared.call.Call.TheVariants as call;
+ghost use Rattle.plain_machine.specs.declared.monitor_call.MonitorCall.TheVariants as call;
 ghost use Rattle.plain_monitor.specs.declared.entry.Ending.TheVariants as ending;
 ghost use Rattle.plain_machine.specs.Asking.{ask, fits, is_call, is_exit, is_resume, is_ending, fault_number};
-ghost use Rattle.plain_machine.specs.Sound.{IsReady};
+ghost use Rattle.plain_machine.specs.Sound.{ThreadIsReady};
 ghost use Rattle.plain_machine.specs.Ready.{IsReadyToAsk};
 
-use crate::call::{Asked, Call};
+use crate::monitor_call::{MonitorCall, NextEntry};
 use crate::thread::Thread;
 use plain_monitor::{Ending, Entry, Fault, Value};
 
 /// What the thread asks, where the entry is that; None where it asks for something else, or for nothing.
-pub fn asked_for(thread: &Thread, entry: &Entry) -> Option<Asked>
-    requires { IsReady thread.now }
+pub fn asked_for(thread: &Thread, entry: &Entry) -> Option<NextEntry>
+    requires { ThreadIsReady thread.now }
     ensures asked { IfSome result (λ asked. ask thread.now ≡ Some asked) }
     ensures fits { IfSome result (λ asked. fits asked entry.now ≡ true) }
     ensures ready { IfSome result (λ asked. IsReadyToAsk thread.now asked) }
@@ -28,37 +28,37 @@ pub fn asked_for(thread: &Thread, entry: &Entry) -> Option<Asked>
 }
 
 /// Whether the entry is what is asked.
-fn fits(asked: Asked, entry: &Entry) -> bool
+fn fits(asked: NextEntry, entry: &Entry) -> bool
     ensures { result ≡ fits asked entry.now }
 {
     match asked {
-        Asked::Calls { call } => is_call(call, entry),
-        Asked::Resumes { object } => is_resume(object, entry),
-        Asked::Leaves { object } => is_exit(object, entry),
-        Asked::Ends { ending } => is_ending(ending, entry),
+        NextEntry::Calls { call } => is_call(call, entry),
+        NextEntry::Resumes { object } => is_resume(object, entry),
+        NextEntry::Leaves { object } => is_exit(object, entry),
+        NextEntry::Ends { ending } => is_ending(ending, entry),
     }
 }
 
 /// Whether the entry is this call.
-fn is_call(call: Call, entry: &Entry) -> bool
+fn is_call(call: MonitorCall, entry: &Entry) -> bool
     ensures { result ≡ is_call call entry.now }
 {
     match call {
-        Call::Enter { object } => is_enter(object, entry),
-        Call::Exit { object } => is_exit(object, entry),
-        Call::Wait { object } => is_wait(object, entry),
-        Call::Notify { object } => is_notify(object, entry),
-        Call::NotifyAll { object } => is_notify_all(object, entry),
-        Call::Get { object, slot, .. } => is_get(object, slot, entry),
-        Call::Put {
+        MonitorCall::Enter { object } => is_enter(object, entry),
+        MonitorCall::Exit { object } => is_exit(object, entry),
+        MonitorCall::Wait { object } => is_wait(object, entry),
+        MonitorCall::Notify { object } => is_notify(object, entry),
+        MonitorCall::NotifyAll { object } => is_notify_all(object, entry),
+        MonitorCall::Get { object, slot, .. } => is_get(object, slot, entry),
+        MonitorCall::Put {
             object,
             slot,
             value,
         } => is_put(object, slot, value, entry),
-        Call::Hash { object, .. } => is_hash(object, entry),
-        Call::New { class, .. } => is_new(class, entry),
-        Call::Print { value } => is_print(value, entry),
-        Call::Dump { number } => is_dump(number, entry),
+        MonitorCall::Hash { object, .. } => is_hash(object, entry),
+        MonitorCall::New { class, .. } => is_new(class, entry),
+        MonitorCall::Print { value } => is_print(value, entry),
+        MonitorCall::Dump { number } => is_dump(number, entry),
     }
 }
 

@@ -21,7 +21,7 @@ pub fn jump<T: Actor>(thread: &T, l: u32) -> Next
     }
 }
 
-/// Goes on there where the test holds, and else behind the instruction.
+/// Goes on there where the test holds, and else past the instruction.
 fn jump_where<T: Actor>(thread: &T, holds: bool, l: u32) -> Next
     requires { (T.state thread.now).place < most_code }
     ensures next { jumps_where holds (T.state thread.now) l ≡ meant (T.state thread.now) result }

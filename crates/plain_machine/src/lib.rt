@@ -7,12 +7,12 @@
 mod actor;
 mod advance;
 mod build;
-mod call;
 mod code;
 mod compute;
 mod fit;
 mod jump;
 mod machine;
+mod monitor_call;
 mod object;
 mod objects;
 mod offer;
@@ -23,9 +23,9 @@ mod step;
 mod thread;
 
 pub use actor::Actor;
-pub use call::{Asked, Call, Mode};
 pub use code::code_of;
 pub use machine::{Machine, Parts};
+pub use monitor_call::{Mode, MonitorCall, NextEntry};
 pub use object::Object;
 pub use offer::Offer;
 pub use register::Register;

@@ -2,7 +2,7 @@
 
 ghost use Rattle.std.specs.Prelude.{◌≡◌, ◌<◌, if◌then◌else◌, length, OnOk, OnErr, IfOk, Some, None};
 ghost use Rattle.plain_machine.specs.Machine.{new_machine, take, class_at, object_at, monitor_at, slot_at, ending_of, ending_in, other_owner, wanted, is_blocked, is_waiting, is_barred, is_live, all_barred, is_stuck};
-ghost use Rattle.plain_machine.specs.declared.call.Call.TheVariants as call;
+ghost use Rattle.plain_machine.specs.declared.monitor_call.MonitorCall.TheVariants as call;
 ghost use Rattle.plain_machine.specs.Offering.{offered, call_offer, resume_offer, unless_owned, hash_offer, oldest};
 ghost use Rattle.plain_monitor.specs.Monitor.{is_thread, is_listed};
 ghost use Rattle.std.specs.List.{list_any};
@@ -11,9 +11,9 @@ mod parts;
 
 use crate::advance::advance;
 use crate::build::{new_objects, new_threads};
-use crate::call::{Asked, Call, Mode};
 use crate::code::code_of;
 use crate::fit::asked_for;
+use crate::monitor_call::{Mode, MonitorCall, NextEntry};
 use crate::object::Object;
 use crate::objects;
 use crate::offer::Offer;
@@ -74,32 +74,32 @@ impl Machine {
         ensures { result ≡ offered self.now t }
     {
         match self.threads[t as usize].asked() {
-            Some(Asked::Calls { call }) => self.offer_call(t, call),
-            Some(Asked::Resumes { object }) => self.offer_resume(t, object),
-            Some(Asked::Leaves { object }) => Offer::Next(Entry::Exit { object }),
-            Some(Asked::Ends { ending }) => Offer::Next(ending_entry(ending)),
+            Some(NextEntry::Calls { call }) => self.offer_call(t, call),
+            Some(NextEntry::Resumes { object }) => self.offer_resume(t, object),
+            Some(NextEntry::Leaves { object }) => Offer::Next(Entry::Exit { object }),
+            Some(NextEntry::Ends { ending }) => Offer::Next(ending_entry(ending)),
             None => Offer::Ended,
         }
     }
 
     /// What a thread that stands before the call is offered.
-    fn offer_call(&self, t: u32, call: Call) -> Offer
+    fn offer_call(&self, t: u32, call: MonitorCall) -> Offer
         requires { t < length self.now.threads }
         ensures { result ≡ call_offer self.now t call }
     {
         match call {
-            Call::Enter { object } => self.offer_enter(t, object),
-            Call::Exit { object } => Offer::Next(Entry::Exit { object }),
-            Call::Wait { object } => Offer::Next(Entry::Wait { object }),
-            Call::Notify { object } => {
+            MonitorCall::Enter { object } => self.offer_enter(t, object),
+            MonitorCall::Exit { object } => Offer::Next(Entry::Exit { object }),
+            MonitorCall::Wait { object } => Offer::Next(Entry::Wait { object }),
+            MonitorCall::Notify { object } => {
                 let woken = self.oldest(object);
                 Offer::Next(Entry::Notify { object, woken })
             }
-            Call::NotifyAll { object } => {
+            MonitorCall::NotifyAll { object } => {
                 let woken = self.waiting(object);
                 Offer::Next(Entry::NotifyAll { object, woken })
             }
-            Call::Get { object, slot, .. } => {
+            MonitorCall::Get { object, slot, .. } => {
                 let value = self.value_of(object, slot);
                 Offer::Next(Entry::Get {
                     object,
@@ -107,7 +107,7 @@ impl Machine {
                     value,
                 })
             }
-            Call::Put {
+            MonitorCall::Put {
                 object,
                 slot,
                 value,
@@ -116,13 +116,13 @@ impl Machine {
                 slot,
                 value,
             }),
-            Call::Hash { object, .. } => hash_offer(object, self.hash_of(object)),
-            Call::New { class, .. } => {
+            MonitorCall::Hash { object, .. } => hash_offer(object, self.hash_of(object)),
+            MonitorCall::New { class, .. } => {
                 let object = self.register.next_of(t);
                 Offer::Next(Entry::New { object, class })
             }
-            Call::Print { value } => Offer::Next(Entry::Print { value }),
-            Call::Dump { number } => Offer::Next(Entry::Dump { number }),
+            MonitorCall::Print { value } => Offer::Next(Entry::Print { value }),
+            MonitorCall::Dump { number } => Offer::Next(Entry::Dump { number }),
         }
     }
 
@@ -386,16 +386,16 @@ fn is_live(thread: &Thread) -> bool
 }
 
 /// The object whose monitor a thread that asks this wants.
-fn wanted(asked: Option<Asked>) -> Option<u32>
+fn wanted(asked: Option<NextEntry>) -> Option<u32>
     ensures { result ≡ wanted asked }
 {
     match asked {
         Some(
-            Asked::Calls {
-                call: Call::Enter { object },
+            NextEntry::Calls {
+                call: MonitorCall::Enter { object },
             },
         ) => Some(object),
-        Some(Asked::Resumes { object }) => Some(object),
+        Some(NextEntry::Resumes { object }) => Some(object),
         _ => None,
     }
 }

@@ -31,11 +31,11 @@ impl Model for Object {
 
     ghost Value = { PlainObject };
 
-    ghost use Rattle.plain_machine.specs.ObjectView.{plain_object, HasRoom};
+    ghost use Rattle.plain_machine.specs.ObjectView.{plain_object, ObjectHasRoom};
 
     ghost view = { plain_object };
 
-    ghost invariant = { HasRoom };
+    ghost invariant = { ObjectHasRoom };
 }
 
 impl Object {

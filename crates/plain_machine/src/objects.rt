@@ -43,7 +43,7 @@ pub fn take(objects: &mut [Object], t: u32, entry: &Entry) -> Result<(), Refused
     }
 }
 
-/// The objects behind an enter of thread t.
+/// The objects after an enter of thread t.
 fn take_enter(objects: &mut [Object], t: u32, object: u32) -> Result<(), Refused>
     requires { IsTakable objects.old t (entry.Enter object StackFirst) }
     ensures ok { OnOk result (take_entry objects.old t (entry.Enter object StackFirst) ≡ Some objects.new) }
@@ -57,7 +57,7 @@ fn take_enter(objects: &mut [Object], t: u32, object: u32) -> Result<(), Refused
     objects[at].enter(t)
 }
 
-/// The objects behind an exit of thread t.
+/// The objects after an exit of thread t.
 fn take_exit(objects: &mut [Object], t: u32, object: u32) -> Result<(), Refused>
     ensures ok { OnOk result (take_entry objects.old t (entry.Exit object) ≡ Some objects.new) }
     ensures refused { OnErr result (take_entry objects.old t (entry.Exit object) ≡ None) }
@@ -70,7 +70,7 @@ fn take_exit(objects: &mut [Object], t: u32, object: u32) -> Result<(), Refused>
     objects[at].exit(t)
 }
 
-/// The objects behind a wait of thread t.
+/// The objects after a wait of thread t.
 fn take_wait(objects: &mut [Object], t: u32, object: u32) -> Result<(), Refused>
     requires { IsTakable objects.old t (entry.Wait object) }
     ensures ok { OnOk result (take_entry objects.old t (entry.Wait object) ≡ Some objects.new) }
@@ -84,7 +84,7 @@ fn take_wait(objects: &mut [Object], t: u32, object: u32) -> Result<(), Refused>
     objects[at].wait(t)
 }
 
-/// The objects behind a resume of thread t.
+/// The objects after a resume of thread t.
 fn take_resume(objects: &mut [Object], t: u32, object: u32) -> Result<(), Refused>
     requires { IsTakable objects.old t (entry.Resume object) }
     ensures ok { OnOk result (take_entry objects.old t (entry.Resume object) ≡ Some objects.new) }
@@ -98,7 +98,7 @@ fn take_resume(objects: &mut [Object], t: u32, object: u32) -> Result<(), Refuse
     objects[at].resume(t)
 }
 
-/// The objects behind a notify of thread t.
+/// The objects after a notify of thread t.
 fn take_notify(
     objects: &mut [Object],
     t: u32,
@@ -116,7 +116,7 @@ fn take_notify(
     objects[at].notify(t, woken)
 }
 
-/// The objects behind a notify of all by thread t.
+/// The objects after a notify of all by thread t.
 fn take_notify_all(objects: &mut [Object], t: u32, object: u32, woken: u32) -> Result<(), Refused>
     ensures ok { OnOk result (take_entry objects.old t (entry.NotifyAll object woken) ≡ Some objects.new) }
     ensures refused { OnErr result (take_entry objects.old t (entry.NotifyAll object woken) ≡ None) }
@@ -141,7 +141,7 @@ fn take_get(objects: &[Object], t: u32, object: u32, slot: u32, value: Value) ->
     Ok(())
 }
 
-/// The objects behind a write of thread t.
+/// The objects after a write of thread t.
 fn take_put(
     objects: &mut [Object],
     t: u32,
@@ -160,7 +160,7 @@ fn take_put(
     objects[at].put(t, slot, value)
 }
 
-/// The objects behind a hash entry, whatever was drawn.
+/// The objects after a hash entry, whatever was drawn.
 fn take_hash(objects: &mut [Object], t: u32, object: u32, value: u32) -> Result<(), Refused>
     ensures ok { OnOk result (take_entry objects.old t (entry.Hash object value None) ≡ Some objects.new) }
     ensures refused { OnErr result (take_entry objects.old t (entry.Hash object value None) ≡ None) }

@@ -6,12 +6,12 @@ ghost use Rattle.plain_machine.specs.Thread.{ThreadState, on_object, enters, own
 ghost use Rattle.plain_machine.specs.Next.{meant, IsReadyNext};
 ghost use Rattle.plain_machine.specs.Ready.{HasRoomFor};
 ghost use Rattle.plain_machine.specs.inner.OwnerCalls.{owner_call};
-ghost use Rattle.plain_machine.specs.declared.call.Call.TheVariants as call;
+ghost use Rattle.plain_machine.specs.declared.monitor_call.MonitorCall.TheVariants as call;
 ghost use Rattle.plain_monitor.specs.declared.entry.Fault.TheVariants as fault;
 
 use crate::actor::Actor;
-use crate::call::Call;
 use crate::code::slots_of;
+use crate::monitor_call::MonitorCall;
 use crate::step::{Next, fault};
 use object_program::Program;
 use plain_monitor::limits::{HOLDS, MADE};
@@ -31,12 +31,12 @@ pub fn enter<T: Actor>(thread: &T, value: Value) -> Next
         return fault(thread, Fault::TooDeep);
     }
     Next::Calls {
-        call: Call::Enter { object },
+        call: MonitorCall::Enter { object },
     }
 }
 
 /// What only the owner may do: a thread that has no hold on the object faults.
-fn owner_only<T: Actor>(thread: &T, object: u32, otherwise: Fault, call: Call) -> Next
+fn owner_only<T: Actor>(thread: &T, object: u32, otherwise: Fault, call: MonitorCall) -> Next
     requires place { (T.state thread.now).place < most_code }
     requires room { HasRoomFor (T.state thread.now) call }
     ensures next { owner_only (T.state thread.now) object otherwise (Calls call) ≡ meant (T.state thread.now) result }
@@ -59,15 +59,15 @@ pub enum OwnerCall {
 
 impl OwnerCall {
     /// The call on this object.
-    fn on(self, object: u32) -> Call
+    fn on(self, object: u32) -> MonitorCall
         ensures call { result ≡ owner_call self object }
         ensures room { (s : ThreadState) → HasRoomFor s result }
     {
         match self {
-            OwnerCall::Exit => Call::Exit { object },
-            OwnerCall::Wait => Call::Wait { object },
-            OwnerCall::Notify => Call::Notify { object },
-            OwnerCall::NotifyAll => Call::NotifyAll { object },
+            OwnerCall::Exit => MonitorCall::Exit { object },
+            OwnerCall::Wait => MonitorCall::Wait { object },
+            OwnerCall::Notify => MonitorCall::Notify { object },
+            OwnerCall::NotifyAll => MonitorCall::NotifyAll { object },
         }
     }
 }
@@ -89,7 +89,7 @@ pub fn of_owner<T: Actor>(thread: &T, value: Value, wish: OwnerCall) -> Next
 }
 
 /// What reads or writes slot k of an object.
-fn on_slot<T: Actor>(program: &Program, thread: &T, object: u32, k: u32, call: Call) -> Next
+fn on_slot<T: Actor>(program: &Program, thread: &T, object: u32, k: u32, call: MonitorCall) -> Next
     requires place { (T.state thread.now).place < most_code }
     requires room { HasRoomFor (T.state thread.now) call }
     ensures next { on_slot program.now (T.state thread.now) object k call ≡ meant (T.state thread.now) result }
@@ -112,7 +112,7 @@ pub fn get<T: Actor>(program: &Program, thread: &T, x: u32, value: Value, k: u32
     let Value::Ref(object) = value else {
         return fault(thread, Fault::NotRef);
     };
-    let call = Call::Get {
+    let call = MonitorCall::Get {
         local: x,
         object,
         slot: k,
@@ -131,7 +131,7 @@ pub fn put<T: Actor>(program: &Program, thread: &T, value: Value, k: u32, writte
     let Value::Ref(object) = value else {
         return fault(thread, Fault::NotRef);
     };
-    let call = Call::Put {
+    let call = MonitorCall::Put {
         object,
         slot: k,
         value: written,
@@ -148,7 +148,7 @@ pub fn hash<T: Actor>(thread: &T, x: u32, value: Value) -> Next
 {
     match value {
         Value::Ref(object) => Next::Calls {
-            call: Call::Hash { local: x, object },
+            call: MonitorCall::Hash { local: x, object },
         },
         _ => fault(thread, Fault::NotRef),
     }
@@ -164,7 +164,7 @@ pub fn create<T: Actor>(thread: &T, x: u32, c: u32) -> Next
         return fault(thread, Fault::TooMany);
     }
     Next::Calls {
-        call: Call::New { local: x, class: c },
+        call: MonitorCall::New { local: x, class: c },
     }
 }
 
@@ -175,7 +175,7 @@ pub fn print<T: Actor>(thread: &T, value: Value) -> Next
     ensures ready { IsReadyNext (T.state thread.now) result }
 {
     Next::Calls {
-        call: Call::Print { value },
+        call: MonitorCall::Print { value },
     }
 }
 
@@ -189,7 +189,7 @@ pub fn dump<T: Actor>(thread: &T) -> Next
         return fault(thread, Fault::TooManyDumps);
     }
     Next::Calls {
-        call: Call::Dump {
+        call: MonitorCall::Dump {
             number: thread.dumps() + 1,
         },
     }

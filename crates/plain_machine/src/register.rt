@@ -4,7 +4,7 @@ ghost use Rattle.std.specs.Prelude.{◌≡◌, ◌<◌, ◌≤◌, ◌++◌, ◌
 ghost use Rattle.std.specs.List.{list_all};
 ghost use Rattle.plain_monitor.specs.Limits.{most_threads, most_made};
 ghost use Rattle.plain_monitor.specs.Objects.{named};
-ghost use Rattle.plain_monitor.specs.Made.{made_by, made_number, class_of, is_there, needs, one_or_none, refers, hands_on, may_create, take_made, nothing_made};
+ghost use Rattle.plain_monitor.specs.Made.{made_by, made_number, class_if_there, is_there, needs, one_or_none, refers, hands_on, may_create, take_made, nothing_made};
 ghost use Rattle.object_program.specs.Program.{classes_from, numbering_of};
 
 mod parts;
@@ -26,11 +26,11 @@ impl Model for Row {
 
     ghost Value = { List ℕ };
 
-    ghost use Rattle.plain_machine.specs.RowView.{row, HasRoom};
+    ghost use Rattle.plain_machine.specs.RowView.{row, RowHasRoom};
 
     ghost view = { row };
 
-    ghost invariant = { HasRoom };
+    ghost invariant = { RowHasRoom };
 }
 
 impl Row {
@@ -110,7 +110,7 @@ impl Register {
 
     /// The class of object o, where it is there.
     pub fn class_of(&self, o: u32) -> Option<u32>
-        ensures { result ≡ class_of self.now.numbering self.now.made o }
+        ensures { result ≡ class_if_there self.now.numbering self.now.made o }
     {
         let first = self.declared.len() as u32;
         if o < first {
@@ -186,7 +186,7 @@ impl Register {
         }
     }
 
-    /// What is there behind an entry of thread t, which finds what it needs.
+    /// What is there after an entry of thread t, which finds what it needs.
     pub fn note(&mut self, t: u32, entry: &Entry)
         requires { is_some (take_made self.old.numbering self.old.made t entry.now) ≡ true }
         ensures made { take_made self.old.numbering self.old.made t entry.now ≡ Some self.new.made }

@@ -4,9 +4,9 @@ ghost use Rattle.std.specs.Prelude.{◌≡◌, ◌≤◌, ℕ, false, length};
 ghost use Rattle.object_program.specs.Limits.{most_code};
 ghost use Rattle.plain_machine.specs.Running.{run_on};
 ghost use Rattle.plain_machine.specs.Ready.{waits_on};
-ghost use Rattle.plain_machine.specs.Sound.{IsReady};
+ghost use Rattle.plain_machine.specs.Sound.{ThreadIsReady};
 
-use crate::call::Mode;
+use crate::monitor_call::Mode;
 use crate::step::{Next, look};
 use crate::thread::Thread;
 use object_program::{Code, Program};
@@ -18,7 +18,7 @@ pub fn run(program: &Program, code: &[Code], thread: &mut Thread, fuel: u32)
     requires { length code.now ≤ most_code }
     ensures runs { thread.new ≡ run_on program.now code.now fuel thread.old }
     ensures holds { thread.new.holds ≡ thread.old.holds }
-    ensures ready { IsReady thread.new }
+    ensures ready { ThreadIsReady thread.new }
     ensures waits { (o : ℕ) → waits_on thread.new.mode o ≡ false }
 {
     let mut left = fuel;

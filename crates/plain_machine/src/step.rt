@@ -7,28 +7,28 @@ ghost use Rattle.plain_machine.specs.Running.{instruction_at};
 ghost use Rattle.plain_machine.specs.Next.{meant, IsReadyNext};
 
 use crate::actor::Actor;
-use crate::call::Call;
 use crate::compute::{add, element, first_object, mul, sub};
 use crate::jump::{jump, jump_below, jump_equal};
+use crate::monitor_call::MonitorCall;
 use crate::perform::{OwnerCall, create, dump, enter, get, hash, of_owner, print, put};
 use object_program::{Code, Program};
 use plain_monitor::{Ending, Fault, Value};
 
 /// What an instruction leads to. Locals have numbers from 0. A place is how many instructions stand before it, and
-/// may be behind the last one, where the thread is done.
+/// may be past the last one, where the thread is done.
 #[derive(Clone, Copy)]
 pub enum Next {
-    /// The local becomes the value, and the thread goes on behind the instruction.
+    /// The local becomes the value, and the thread goes on past the instruction.
     Sets { local: u32, value: Value },
     /// The thread goes on at this place.
     Jumps { place: u32 },
     /// The thread stands before the call.
-    Calls { call: Call },
+    Calls { call: MonitorCall },
     /// The thread leaves all its holds, and then ends so.
     Stops { ending: Ending },
 }
 
-/// What the instruction that the thread is at leads to, where `code` has the thread's instructions. Behind the last
+/// What the instruction that the thread is at leads to, where `code` has the thread's instructions. After the last
 /// one a thread is done. The thread is only read: whoever keeps it makes of it what the answer says.
 ///
 /// The answer stands for the step that the language gives. Where it sets a local or calls, the thread is at an

@@ -3,15 +3,15 @@
 ghost use Rattle.std.specs.Prelude.{◌≡◌, ◌+◌, ◌<◌, ◌^◌, IfOk, IfSome, sum, length};
 ghost use Rattle.object_program.specs.Limits.{most_code};
 ghost use Rattle.plain_monitor.specs.Limits.{most_holds, most_made};
-ghost use Rattle.plain_machine.specs.Thread.{ThreadState, local, with_local, behind, holds_of};
+ghost use Rattle.plain_machine.specs.Thread.{ThreadState, local, with_local, past, holds_of};
 ghost use Rattle.plain_machine.specs.Asking.{holds_more, holds_less, ask, held_from, unwinds};
-ghost use Rattle.plain_machine.specs.Sound.{IsReady, unrun};
+ghost use Rattle.plain_machine.specs.Sound.{ThreadIsReady, unrun};
 ghost use Rattle.plain_machine.specs.Ready.{IsReadyToAsk, IsUnwinding};
 
 mod parts;
 
 use crate::actor::Actor;
-use crate::call::{Asked, Mode};
+use crate::monitor_call::{Mode, NextEntry};
 use plain_monitor::{Ending, NoMemory, Value};
 use std::alloc::Global;
 use std::marker::Model;
@@ -90,15 +90,15 @@ impl Thread {
         self.locals[x] = value;
     }
 
-    /// The thread stands behind the instruction.
+    /// The thread stands past the instruction.
     pub fn step(&mut self)
         requires { self.old.place < most_code }
-        ensures { self.new ≡ behind self.old }
+        ensures { self.new ≡ past self.old }
     {
         self.place += 1;
     }
 
-    /// The thread stands behind this many instructions.
+    /// The thread stands past this many instructions.
     pub fn go_to(&mut self, place: u32)
         ensures { self.new ≡ record self.old { place = place } }
     {
@@ -158,13 +158,13 @@ impl Thread {
     }
 
     /// What the thread has to make next.
-    pub fn asked(&self) -> Option<Asked>
+    pub fn asked(&self) -> Option<NextEntry>
         ensures asked { result ≡ ask self.now }
-        ensures ready { IsReady self.now → IfSome result (λ asked. IsReadyToAsk self.now asked) }
+        ensures ready { ThreadIsReady self.now → IfSome result (λ asked. IsReadyToAsk self.now asked) }
     {
         match self.mode {
-            Mode::Calling { call } => Some(Asked::Calls { call }),
-            Mode::Waiting { object } => Some(Asked::Resumes { object }),
+            Mode::Calling { call } => Some(NextEntry::Calls { call }),
+            Mode::Waiting { object } => Some(NextEntry::Resumes { object }),
             Mode::Unwinding { ending } => Some(unwinding(&self.holds, ending)),
             Mode::Ended { .. } => None,
         }
@@ -206,14 +206,14 @@ impl Actor for Thread {
 }
 
 /// What a thread with these holds has to make next, where it ends so.
-fn unwinding(holds: &[u32], ending: Ending) -> Asked
+fn unwinding(holds: &[u32], ending: Ending) -> NextEntry
     requires { length holds.now < 2 ^ 32 }
     ensures asked { result ≡ unwinds ending (held_from 0 holds.now) }
     ensures ready { (s : ThreadState) → IsUnwinding s.mode → IsReadyToAsk s result }
 {
     match first_held(holds) {
-        Some(object) => Asked::Leaves { object },
-        None => Asked::Ends { ending },
+        Some(object) => NextEntry::Leaves { object },
+        None => NextEntry::Ends { ending },
     }
 }
 

@@ -71,7 +71,8 @@ map_end t [] l ys = refl
 map_end t (m ∷ log) l ys = ap (λ zs. (t, m) ∷ zs) (map_end t log l ys)
 
 -- the order of the logs with one more entry is the order with it put in, where the first log is that of thread t
-order_appended_from : (t : ℕ) (logs : List (List Logged)) (k : ℕ) (l : Logged) → AllByRecursion (RisesAbove 0) logs → k < length logs → last_stamp (log_of logs k) < l.stamp
+order_appended_from : (t : ℕ) (logs : List (List Logged)) (k : ℕ) (l : Logged)
+    → AllByRecursion (RisesAbove 0) logs → k < length logs → last_stamp (log_of logs k) < l.stamp
     → ordered (with_threads t (appended logs k l)) ≡ insert_ordered (t + k, l) (ordered (with_threads t logs))
 order_appended_from t [] k l r h s = absurd (omega arith)
 order_appended_from t (log ∷ logs) zero l r h s =
@@ -86,12 +87,14 @@ order_appended_from t (log ∷ logs) (suc k) l r h s =
     (order_appended_from (t + 1) logs k l r.1 (omega arith) s ∙ ap (λ u. insert_ordered (u, l) (ordered (with_threads (t + 1) logs))) e)
 
 -- the order of the logs with one more entry of a thread, above its last, is the order with it put in
-pub order_appended : (logs : List (List Logged)) (t : ℕ) (l : Logged) → AllByRecursion (RisesAbove 0) logs → t < length logs → last_stamp (log_of logs t) < l.stamp
+pub order_appended : (logs : List (List Logged)) (t : ℕ) (l : Logged)
+    → AllByRecursion (RisesAbove 0) logs → t < length logs → last_stamp (log_of logs t) < l.stamp
     → order (appended logs t l) ≡ insert_ordered (t, l) (order logs)
 order_appended logs t l r h s = order_appended_from 0 logs t l r h s ∙ ap (λ u. insert_ordered (u, l) (order logs)) (zero-add t)
 
 -- the stamps of the logs still rise with one more entry of a thread, above its last
-pub rises_appended : (logs : List (List Logged)) (t : ℕ) (l : Logged) → AllByRecursion (RisesAbove 0) logs → t < length logs → last_stamp (log_of logs t) < l.stamp
+pub rises_appended : (logs : List (List Logged)) (t : ℕ) (l : Logged)
+    → AllByRecursion (RisesAbove 0) logs → t < length logs → last_stamp (log_of logs t) < l.stamp
     → AllByRecursion (RisesAbove 0) (appended logs t l)
 rises_appended logs t l r h s =
     all_set (RisesAbove 0) logs t (log_of logs t ++ l ∷ []) (rises_more 0 (log_of logs t) l (all_within (RisesAbove 0) logs t h r) s) r

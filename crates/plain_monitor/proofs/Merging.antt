@@ -25,7 +25,8 @@ IsLeastHead x u ([] ∷ logs) = IsLeastHead x (u + 1) logs
 IsLeastHead x u ((m ∷ log) ∷ logs) = ((u ≢ x.0) → is_before x (u, m) ≡ true) × IsLeastHead x (u + 1) logs
 
 -- what stands before an entry stands before all that rises above it
-before_rising : (x : ℕ × Logged) (u : ℕ) (m : Logged) (log : List Logged) → is_before x (u, m) ≡ true → RisesAbove m.stamp log → IsFirst x (map (λ k. (u, k)) log)
+before_rising : (x : ℕ × Logged) (u : ℕ) (m : Logged) (log : List Logged)
+    → is_before x (u, m) ≡ true → RisesAbove m.stamp log → IsFirst x (map (λ k. (u, k)) log)
 before_rising x u m [] h r = tt
 before_rising x u m (k ∷ log) h r =
     let up = r.0 in let b : is_before x (u, k) ≡ true = grind (arith, nat_tests) in (b, before_rising x u k log b r.1)
@@ -37,15 +38,18 @@ before_own t l (k ∷ log) r =
     let up = r.0 in let b : is_before (t, l) (t, k) ≡ true = grind (arith, nat_tests) in (b, before_rising (t, l) t k log b r.1)
 
 -- the least head stands before all of the logs of later threads
-before_later_logs : (x : ℕ × Logged) (u : ℕ) (logs : List (List Logged)) → x.0 < u → IsLeastHead x u logs → AllByRecursion (RisesAbove 0) logs → IsFirst x (with_threads u logs)
+before_later_logs : (x : ℕ × Logged) (u : ℕ) (logs : List (List Logged)) → x.0 < u
+    → IsLeastHead x u logs → AllByRecursion (RisesAbove 0) logs → IsFirst x (with_threads u logs)
 before_later_logs x u [] h a r = tt
 before_later_logs x u ([] ∷ logs) h a r = before_later_logs x (u + 1) logs (omega arith) a r.1
 before_later_logs x u ((m ∷ log) ∷ logs) h a r =
     let b = a.0 (λ e. omega arith) in
-    all_append (λ y. is_before x y ≡ true) (map (λ k. (u, k)) (m ∷ log)) (with_threads (u + 1) logs) (b, before_rising x u m log b r.0.1) (before_later_logs x (u + 1) logs (omega arith) a.1 r.1)
+    all_append (λ y. is_before x y ≡ true) (map (λ k. (u, k)) (m ∷ log)) (with_threads (u + 1) logs)
+    (b, before_rising x u m log b r.0.1) (before_later_logs x (u + 1) logs (omega arith) a.1 r.1)
 
 -- the least head stands before all of the first log, where that is another thread's
-before_other_log : (x : ℕ × Logged) (u : ℕ) (log : List Logged) (logs : List (List Logged)) → (u ≢ x.0) → AllByRecursion (RisesAbove 0) (log ∷ logs) → IsLeastHead x u (log ∷ logs)
+before_other_log : (x : ℕ × Logged) (u : ℕ) (log : List Logged) (logs : List (List Logged))
+    → (u ≢ x.0) → AllByRecursion (RisesAbove 0) (log ∷ logs) → IsLeastHead x u (log ∷ logs)
     → IsFirst x (map (λ k. (u, k)) log) × IsLeastHead x (u + 1) logs
 before_other_log x u [] logs d r a = (tt, a)
 before_other_log x u (m ∷ log) logs d r a = let b = a.0 d in ((b, before_rising x u m log b r.0.1), a.1)
@@ -56,16 +60,19 @@ record IsNext (u k : ℕ) (logs : List (List Logged)) (x : ℕ × Logged) (rest 
   pub is : ordered (with_threads u logs) ≡ insert_ordered x (ordered (with_threads u (slice_set logs k rest)))
 
 -- the head of the first log is next, where it is the least
-first_log_next : (t : ℕ) (l : Logged) (rest : List Logged) (logs : List (List Logged)) → AllByRecursion (RisesAbove 0) ((l ∷ rest) ∷ logs) → IsLeastHead (t, l) t ((l ∷ rest) ∷ logs)
+first_log_next : (t : ℕ) (l : Logged) (rest : List Logged) (logs : List (List Logged))
+    → AllByRecursion (RisesAbove 0) ((l ∷ rest) ∷ logs) → IsLeastHead (t, l) t ((l ∷ rest) ∷ logs)
     → IsNext t 0 ((l ∷ rest) ∷ logs) (t, l) rest
 first_log_next t l rest logs r a =
     record {
-      first = all_append (λ y. is_before (t, l) y ≡ true) (map (λ k. (t, k)) rest) (with_threads (t + 1) logs) (before_own t l rest r.0.1) (before_later_logs (t, l) (t + 1) logs (omega arith) a.1 r.1);
+      first = all_append (λ y. is_before (t, l) y ≡ true) (map (λ k. (t, k)) rest) (with_threads (t + 1) logs)
+          (before_own t l rest r.0.1) (before_later_logs (t, l) (t + 1) logs (omega arith) a.1 r.1);
       is = refl;
     }
 
 -- the head of log k is next, where it is the least
-log_next : (t u k : ℕ) (logs : List (List Logged)) (l : Logged) (rest : List Logged) → t ≡ u + k → log_of logs k ≡ l ∷ rest → AllByRecursion (RisesAbove 0) logs → IsLeastHead (t, l) u logs
+log_next : (t u k : ℕ) (logs : List (List Logged)) (l : Logged) (rest : List Logged) → t ≡ u + k
+    → log_of logs k ≡ l ∷ rest → AllByRecursion (RisesAbove 0) logs → IsLeastHead (t, l) u logs
     → IsNext u k logs (t, l) rest
 log_next t u k [] l rest s e r a = absurd (cc e)
 log_next t u zero (log ∷ logs) l rest s e r a =
@@ -77,7 +84,8 @@ log_next t u (suc k) (log ∷ logs) l rest s e r a =
     let ih = log_next t (u + 1) k logs l rest (omega arith) e r.1 b.1 in
     record {
       first = all_append (λ y. is_before (t, l) y ≡ true) (map (λ m. (u, m)) log) (with_threads (u + 1) (slice_set logs k rest)) b.0 ih.first;
-      is = ordered_append (t, l) (map (λ m. (u, m)) log) (with_threads (u + 1) (slice_set logs k rest)) (with_threads (u + 1) logs) (first_differs (t, l) (map (λ m. (u, m)) log) b.0) ih.is;
+      is = ordered_append (t, l) (map (λ m. (u, m)) log) (with_threads (u + 1) (slice_set logs k rest))
+          (with_threads (u + 1) logs) (first_differs (t, l) (map (λ m. (u, m)) log) b.0) ih.is;
     }
 
 -- an entry that stands before the head of each other thread's log is the least head

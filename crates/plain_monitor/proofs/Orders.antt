@@ -35,7 +35,8 @@ commute_at_head a b y ys false false r s hp hq hr hs d ih = simp (hp, hq) (ap (�
 inserts_commute : (a b : ℕ × Logged) (xs : List (ℕ × Logged)) → Differs a b → insert_ordered a (insert_ordered b xs) ≡ insert_ordered b (insert_ordered a xs)
 inserts_commute a b [] (inl h) = let k = before_asym a b h in simp (h, k)
 inserts_commute a b [] (inr h) = let k = before_asym b a h in simp (h, k)
-inserts_commute a b (y ∷ ys) d = commute_at_head a b y ys (is_before a y) (is_before b y) (is_before a b) (is_before b a) refl refl refl refl d (inserts_commute a b ys d)
+inserts_commute a b (y ∷ ys) d =
+    commute_at_head a b y ys (is_before a y) (is_before b y) (is_before a b) (is_before b a) refl refl refl refl d (inserts_commute a b ys d)
 
 -- the entry differs from each of these
 abbrev pub DiffersFromAll : ℕ × Logged → List (ℕ × Logged) → Type 0

@@ -38,12 +38,14 @@ fronted_at_head t l y ys false true h k a ih =
 fronted_at_head t l y ys false false h k a ih = rw (h, k) (ih (rw k at a))
 
 -- the thread's own entry goes before its others, where its stamp is below theirs
-fronted : (t : ℕ) (l : Logged) (ys : List (ℕ × Logged)) → AllByRecursion (λ m. l.stamp < m.stamp) (of_thread t ys) → of_thread t (insert_ordered (t, l) ys) ≡ l ∷ of_thread t ys
+fronted : (t : ℕ) (l : Logged) (ys : List (ℕ × Logged)) → AllByRecursion (λ m. l.stamp < m.stamp) (of_thread t ys)
+    → of_thread t (insert_ordered (t, l) ys) ≡ l ∷ of_thread t ys
 fronted t l [] a = rw (same_thread t) refl
 fronted t l (y ∷ ys) a = fronted_at_head t l y ys (is_before (t, l) y) (y.0 == t) refl refl a (fronted t l ys)
 
 -- another thread's log adds nothing
-log_skipped : (t u : ℕ) (log : List Logged) (rest : List (ℕ × Logged)) → u ≢ t → of_thread t (ordered (map (λ m. (u, m)) log ++ rest)) ≡ of_thread t (ordered rest)
+log_skipped : (t u : ℕ) (log : List Logged) (rest : List (ℕ × Logged)) → u ≢ t
+    → of_thread t (ordered (map (λ m. (u, m)) log ++ rest)) ≡ of_thread t (ordered rest)
 log_skipped t u [] rest d = refl
 log_skipped t u (m ∷ log) rest d = skipped t (u, m) (ordered (map (λ k. (u, k)) log ++ rest)) d ∙ log_skipped t u log rest d
 
@@ -53,7 +55,8 @@ all_above n s [] h r = tt
 all_above n s (m ∷ log) h r = let k = r.0 in (omega arith, all_above n m.stamp log (omega arith) r.1)
 
 -- the thread's own log is kept, where nothing else is the thread's
-log_kept : (t n : ℕ) (log : List Logged) (rest : List (ℕ × Logged)) → RisesAbove n log → of_thread t (ordered rest) ≡ [] → of_thread t (ordered (map (λ m. (t, m)) log ++ rest)) ≡ log
+log_kept : (t n : ℕ) (log : List Logged) (rest : List (ℕ × Logged)) → RisesAbove n log
+    → of_thread t (ordered rest) ≡ [] → of_thread t (ordered (map (λ m. (t, m)) log ++ rest)) ≡ log
 log_kept t n [] rest r e = e
 log_kept t n (m ∷ log) rest r e =
     let ih = log_kept t m.stamp log rest r.1 e in

@@ -1,6 +1,7 @@
 -- Which objects are there, and of which class: those that the program declares, and those that threads have made. The objects of `Objects` have
 -- a place for each number; an entry is taken by both, so that these say what an entry needs to be there, and those what it does.
-use Rattle.std.specs.Prelude.{ℕ, ◌+◌, ◌-◌, ◌*◌, ◌/◌, ◌%◌, Bool, ◌&&◌, ◌||◌, ◌==◌, nat_lt, List, [], ◌∷◌, ◌++◌, length, replicate, slice_index_or, slice_get, slice_set, if◌then◌else◌, Option, Some, None, IsSome}
+use Rattle.std.specs.Prelude.{ℕ, ◌+◌, ◌-◌, ◌*◌, ◌/◌, ◌%◌, Bool, ◌&&◌, ◌||◌, ◌==◌, nat_lt, List, [], ◌∷◌, ◌++◌, length}
+use Rattle.std.specs.Prelude.{replicate, slice_index_or, slice_get, slice_set, if◌then◌else◌, Option, Some, None, IsSome}
 use Rattle.std.specs.List.{list_all}
 use Rattle.plain_monitor.specs.Limits.{most_made}
 use Rattle.plain_monitor.specs.declared.entry.Value.{Value}
@@ -41,8 +42,8 @@ abbrev pub made_by : List (List ℕ) → ℕ → List ℕ
 made_by made t = slice_index_or made t []
 
 -- the class of an object that is there
-abbrev pub class_of : Numbering → List (List ℕ) → ℕ → Option ℕ
-class_of n made o =
+abbrev pub class_if_there : Numbering → List (List ℕ) → ℕ → Option ℕ
+class_if_there n made o =
     if nat_lt o (first_made n) then slice_get n.declared o
     else slice_get (made_by made (maker_of n o)) (place_of n o)
 

@@ -27,11 +27,11 @@ impl Model for Monitor {
 
     ghost Value = { Seen };
 
-    ghost use Rattle.plain_monitor.specs.View.{seen, HasRoom};
+    ghost use Rattle.plain_monitor.specs.View.{seen, MonitorHasRoom};
 
     ghost view = { seen };
 
-    ghost invariant = { HasRoom };
+    ghost invariant = { MonitorHasRoom };
 }
 
 impl Monitor {

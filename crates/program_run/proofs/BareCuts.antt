@@ -1,7 +1,7 @@
 -- Cuts of logs whose paths of enters are taken away.
 use Rattle.std.proofs.Common.{◌≡◌, ℕ, zero, suc, true, List, [], ◌∷◌, map, take, drop, refl, sym, ap, ◌∙◌, subst}
 use Rattle.std.specs.List.{AllByRecursion}
-use Rattle.lone_logs.specs.LoneRun.{with_no_path, with_no_paths, without_path}
+use Rattle.single_thread_law.specs.LoneRun.{with_no_path, with_no_paths, without_path}
 use Rattle.plain_history.specs.Cuts.{cut_logs, logs_since, IsCutInOrder}
 use Rattle.plain_history.specs.Tied.{bound_to, is_same_object, is_tied}
 use Rattle.plain_monitor.specs.declared.entry.Entry.{Entry}

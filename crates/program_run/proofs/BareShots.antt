@@ -4,7 +4,7 @@ use Rattle.std.specs.List.{AllByRecursion}
 use Rattle.std.proofs.lemmas.List.{length-map}
 use Rattle.core_world.specs.Shots.{dumps_from, placed}
 use Rattle.lock_journal.specs.declared.record.Shot.{Shot}
-use Rattle.lone_logs.specs.LoneRun.{with_no_path, with_no_paths, without_path}
+use Rattle.single_thread_law.specs.LoneRun.{with_no_path, with_no_paths, without_path}
 use Rattle.object_program.specs.Program.{ProgramText}
 use Rattle.plain_history.specs.Cuts.{cut_logs}
 use Rattle.plain_machine.specs.Legal.{machine_after}

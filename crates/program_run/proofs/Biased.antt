@@ -14,11 +14,11 @@ use Rattle.lock_policy.specs.declared.policy.Verdict.{Verdict}
 use Rattle.lock_policy.specs.declared.policy.Verdict.TheVariants.{Single, BulkRebias, BulkRevoke}
 use Rattle.core_law.specs.BiasLaw.{summed}
 use Rattle.core_law.specs.CountsAndVerdicts.{CountFits, sum_below, verdicts_on}
-use Rattle.core_world.specs.declared.name.Name.TheVariants.{Prototype, Revocations}
+use Rattle.core_world.specs.declared.word_id.WordId.TheVariants.{Prototype, Revocations}
 use Rattle.core_world.specs.Clauses.Classes.{bulk_rebiases, bulk_revokes}
 use Rattle.core_world.specs.Threads.Counts as known
 use Rattle.core_world.specs.Threads.Counts.{CountedVerdict, counts_of}
-use Rattle.core_world.specs.Threads.Known.{Known}
+use Rattle.core_world.specs.Threads.ThreadView.{ThreadView}
 use Rattle.core_world.specs.Words.Shape.{Shape}
 use Rattle.core_law.specs.Logic.{Heap}
 use Rattle.heap_table.specs.BiasesAtEnd.{counted_by}
@@ -27,9 +27,9 @@ use Rattle.heap_table.specs.Layout.{place_of}
 use Rattle.heap_table.specs.Seen.{ClosedSeen}
 use Rattle.heap_table.specs.Tallies.{capped, capped_counts, counts_shown}
 use Rattle.lock_journal.specs.declared.record.ClassLine.{ClassLine}
-use Rattle.run_ends.specs.OfARun.{IsEnd}
-use Rattle.run_ends.specs.Prototypes as ends
-use Rattle.run_rounds.specs.Outcome.{HasBiases as LeftBiases, verdicts_beyond, was_halted}
+use Rattle.closed_heap_laws.specs.OfARun.{IsEnd}
+use Rattle.closed_heap_laws.specs.Prototypes as ends
+use Rattle.run_rounds.specs.Outcome.{HeapObeysBiasLaw as LeftBiases, verdicts_beyond, was_halted}
 use Rattle.run_rounds.specs.Timed.{IsTimed}
 use Rattle.program_run.proofs.Few.{most_entries}
 use Rattle.program_run.specs.Biases.{IsEven, IsIdle, IsLine, prototype_by}
@@ -41,11 +41,11 @@ use Rattle.program_run.proofs.Verdicts.{shown_by, shown_few}
 
 -- the laws that are asked of a heap's end
 abbrev pub Biased : Type 0
-Biased = (heap : Heap) (words : List ℕ) (ks : List Known) (c : ℕ) → IsEnd heap words ks → c < heap.shape.classes → heap.biasing ≡ true
+Biased = (heap : Heap) (words : List ℕ) (ks : List ThreadView) (c : ℕ) → IsEnd heap words ks → c < heap.shape.classes → heap.biasing ≡ true
     → slice_index words (place_of heap.shape (Prototype c)) ≡ ends.prototype_by heap.shape.threads (counted_by ks) c
 
 abbrev pub Plain : Type 0
-Plain = (heap : Heap) (words : List ℕ) (ks : List Known) (c : ℕ) → IsEnd heap words ks → c < heap.shape.classes → heap.biasing ≡ false
+Plain = (heap : Heap) (words : List ℕ) (ks : List ThreadView) (c : ℕ) → IsEnd heap words ks → c < heap.shape.classes → heap.biasing ≡ false
     → slice_index words (place_of heap.shape (Prototype c)) ≡ 1
 
 -- the bulk verdicts of the threads are sums
@@ -212,7 +212,7 @@ module _ {tick : ℕ} (heap : Heap) (c : ClosedSeen) (left : LeftBiases heap tic
   pub counted_all : length c.counts ≡ heap.shape.threads
   counted_all =
       ap length left.counts
-      ∙ length-map left.knowns (λ (k : Known). counts_shown 0 heap.shape.classes k.counts)
+      ∙ length-map left.knowns (λ (k : ThreadView). counts_shown 0 heap.shape.classes k.counts)
       ∙ left.end.all
 
   -- what a thread shows to have counted is no more than it counted

@@ -9,7 +9,7 @@ use Rattle.plain_monitor.specs.Order.{order}
 use Rattle.core_law.specs.Logic.{Heap}
 use Rattle.core_law.specs.TakenBiases.{times_taken, OwnsAreTaken}
 use Rattle.heap_table.specs.Seen.{ClosedSeen}
-use Rattle.run_rounds.specs.Outcome.{HasBiases as LeftBiases}
+use Rattle.run_rounds.specs.Outcome.{HeapObeysBiasLaw as LeftBiases}
 use Rattle.program_run.proofs.Few.{most_entries}
 use Rattle.program_run.specs.Lines.{line_of}
 use Rattle.program_run.proofs.Biased.{rebias_is}

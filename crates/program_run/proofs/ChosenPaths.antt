@@ -1,16 +1,17 @@
 -- Paths for the enters of logs that have none: the first enter of each object takes its bias, where there are biases, and all others go by
 -- stack locks.
-use Rattle.std.proofs.Common.{◌≡◌, ℕ, zero, suc, ◌+◌, ◌<◌, ◌≤◌, ◌==◌, ◌&&◌, ◌||◌, not, Bool, true, false, cond, if◌then◌else◌, List, [], ◌∷◌, ◌++◌, length, map, Option, Some, None, refl, sym, ap, ◌∙◌, subst, arith, eqb-true, eq-eqb}
+use Rattle.std.proofs.Common.{◌≡◌, ℕ, zero, suc, ◌+◌, ◌<◌, ◌≤◌, ◌==◌, ◌&&◌, ◌||◌, not, Bool, true, false, cond, if◌then◌else◌, List}
+use Rattle.std.proofs.Common.{[], ◌∷◌, ◌++◌, length, map, Option, Some, None, refl, sym, ap, ◌∙◌, subst, arith, eqb-true, eq-eqb}
 use Rattle.std.specs.List.{AllByRecursion, list_any}
 use Rattle.std.proofs.lemmas.Bool.{and_parts, false≢true}
 use Rattle.std.proofs.lemmas.Option.{same_Some}
 use Rattle.lock_journal.specs.declared.record.Shot.{Shot}
-use Rattle.lone_logs.specs.LoneRun.{with_no_paths, without_path}
+use Rattle.single_thread_law.specs.LoneRun.{with_no_paths, without_path}
 use Rattle.plain_history.specs.EnterPaths.{EndsStay, PathFits, PathsFit, entries_on, first_path, is_by_bias, is_first, is_own, needs_bias}
 use Rattle.plain_history.specs.HeldByLog.{held_after, nothing_held}
 use Rattle.plain_history.specs.Tied.{bound_to, is_same_object}
 use Rattle.object_program.specs.Program.{ProgramText, shape_of}
-use Rattle.plain_machine.specs.Legal.{IsLegal, behind_all, machine_after}
+use Rattle.plain_machine.specs.Legal.{IsLegal, after_all, machine_after}
 use Rattle.plain_machine.specs.Machine.{PlainMachine, new_machine}
 use Rattle.plain_monitor.specs.declared.entry.Entry.{Entry}
 use Rattle.plain_monitor.specs.declared.entry.Entry.TheVariants as entry
@@ -25,7 +26,8 @@ use Rattle.core_law.specs.TakenBiases.{OwnsAreTaken, takes_bias, times_taken}
 use Rattle.core_world.specs.Threads.Stages.{one_if}
 use Rattle.program_run.specs.declared.settings.Settings.{Settings}
 use Rattle.program_run.specs.PlainRun.{IsMadeBy, IsPlainRun}
-use Rattle.program_run.proofs.FirstEnters.{AreApart, IsStep, IsUnentered, first_bare, first_enter, is_enter_of, new_unentered, order_apart, own_least, rises_at, step_on, unbound_enters_not}
+use Rattle.program_run.proofs.FirstEnters.{AreApart, IsStep, IsUnentered, first_bare, first_enter, is_enter_of}
+use Rattle.program_run.proofs.FirstEnters.{new_unentered, order_apart, own_least, rises_at, step_on, unbound_enters_not}
 use Rattle.program_run.proofs.MadeRuns.{HasPaths, made_with}
 use Rattle.program_run.proofs.NoPaths.{after_bare, bare, legal_from, order_bare}
 
@@ -284,7 +286,7 @@ module _ (biased : Bool) (firsts : ℕ → Option (ℕ × ℕ)) where
   none_stay [] h = tt
   none_stay (e ∷ es) h = let rest = later_none (needs_bias e) (list_any needs_bias es) h in ((λ ends. rest), none_stay es rest)
 
-  pub stay : (o : ℕ) (xs : List (ℕ × Logged)) (m final : PlainMachine) → behind_all m xs ≡ Some final → IsUnentered o m.objects
+  pub stay : (o : ℕ) (xs : List (ℕ × Logged)) (m final : PlainMachine) → after_all m xs ≡ Some final → IsUnentered o m.objects
       → AllByRecursion IsRight xs → AreApart xs → first_enter o xs ≡ firsts o → EndsStay (entries_on o xs)
   stay o [] m final h free right apart first = tt
   stay o (x ∷ xs) m final h free right apart first =
@@ -306,7 +308,7 @@ module _ (biased : Bool) (firsts : ℕ → Option (ℕ × ℕ)) where
           rest (n.1.free is) next
 
   -- the bias is taken once at most
-  pub taken_once : (o : ℕ) (xs : List (ℕ × Logged)) (m final : PlainMachine) → behind_all m xs ≡ Some final → IsUnentered o m.objects
+  pub taken_once : (o : ℕ) (xs : List (ℕ × Logged)) (m final : PlainMachine) → after_all m xs ≡ Some final → IsUnentered o m.objects
       → AllByRecursion IsRight xs → AreApart xs → first_enter o xs ≡ firsts o → times_taken o (entries_on o xs) ≤ 1
   taken_once o [] m final h free right apart first = omega arith
   taken_once o (x ∷ xs) m final h free right apart first =

@@ -3,13 +3,13 @@ use Rattle.std.proofs.Common.{◌≡◌, ℕ, ◌-◌, ◌<◌, nat_lt, Bool, tr
 use Rattle.std.specs.Prelude.{is_some}
 use Rattle.std.proofs.lemmas.Bool.Decides.{nat_tests}
 use Rattle.std.proofs.lemmas.Option.{same_Some}
-use Rattle.plain_monitor.specs.Made.{class_of, made_after}
+use Rattle.plain_monitor.specs.Made.{class_if_there, made_after}
 use Rattle.plain_history.proofs.StoreParts.{there_has_class}
-use Rattle.core_world.specs.declared.name.Name.TheVariants.{Class}
-use Rattle.core_world.specs.Threads.Known.{Known}
+use Rattle.core_world.specs.declared.word_id.WordId.TheVariants.{Class}
+use Rattle.core_world.specs.Threads.ThreadView.{ThreadView}
 use Rattle.core_world.specs.Threads.References.{numbering}
 use Rattle.core_world.specs.Words.Names.{class_by}
-use Rattle.core_world.specs.Words.Shape.{class_of as shape_class}
+use Rattle.core_world.specs.Words.Shape.{class_in_shape as shape_class}
 use Rattle.core_law.specs.BiasLaw.{is_logged}
 use Rattle.core_law.specs.Logic.{Heap}
 use Rattle.core_law.specs.MadeLaw.{there_after}
@@ -17,11 +17,11 @@ use Rattle.core_made.proofs.NewsLogged.{logged_are_there}
 use Rattle.core_made.proofs.Readings.{class_told}
 use Rattle.core_made.specs.Steps.{is_there_in}
 use Rattle.heap_table.specs.BiasesAtEnd.{word_in}
-use Rattle.run_ends.specs.OfARun.{IsEnd, logs_in}
-use Rattle.run_ends.proofs.LastWorlds.{Settled, settled}
+use Rattle.closed_heap_laws.specs.OfARun.{IsEnd, logs_in}
+use Rattle.closed_heap_laws.proofs.LastWorlds.{Settled, settled}
 
-module _ (heap : Heap) (words : List ℕ) (ks : List Known) (e : IsEnd heap words ks) (made : List (List ℕ))
-    (after : made_after (numbering heap.shape) (logs_in ks) ≡ Some made) (o c : ℕ) (class : class_of (numbering heap.shape) made o ≡ Some c) where
+module _ (heap : Heap) (words : List ℕ) (ks : List ThreadView) (e : IsEnd heap words ks) (made : List (List ℕ))
+    (after : made_after (numbering heap.shape) (logs_in ks) ≡ Some made) (o c : ℕ) (class : class_if_there (numbering heap.shape) made o ≡ Some c) where
   s : Settled heap words ks
   s = settled heap words ks e
 
@@ -30,8 +30,8 @@ module _ (heap : Heap) (words : List ℕ) (ks : List Known) (e : IsEnd heap word
       same_Some s.made.made made
       (sym s.made.in_time ∙ (λ i. made_after (numbering (s.is_of i).shape) (s.logs_are i)) ∙ after)
 
-  class_here : class_of (numbering s.world.shape) s.made.made o ≡ Some c
-  class_here = (λ i. class_of (numbering (s.is_of i).shape) (same_made i) o) ∙ class
+  class_here : class_if_there (numbering s.world.shape) s.made.made o ≡ Some c
+  class_here = (λ i. class_if_there (numbering (s.is_of i).shape) (same_made i) o) ∙ class
 
   -- an object that isn't declared has a class word
   words_say : o < length heap.shape.objects → (b : Bool) → nat_lt o heap.shape.declared ≡ b

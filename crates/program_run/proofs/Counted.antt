@@ -6,7 +6,7 @@ use Rattle.plain_monitor.specs.Limits.{most_threads}
 use Rattle.core_law.specs.CountsAndVerdicts.{sum_below}
 use Rattle.core_world.specs.Threads.Counts as known
 use Rattle.core_world.specs.Threads.Counts.{counts_of}
-use Rattle.core_world.specs.Threads.Known.{Known}
+use Rattle.core_world.specs.Threads.ThreadView.{ThreadView}
 use Rattle.heap_table.specs.BiasesAtEnd.{counted_by}
 use Rattle.heap_table.specs.declared.counts.ClassCounts.{ClassCounts}
 use Rattle.heap_table.specs.Tallies.{capped, capped_counts, counts_shown}
@@ -48,12 +48,13 @@ capped_few n h = omega (arith, h)
 
 module _ (number : ClassCounts → ℕ) (f : known.ClassCounts → ℕ) (classes k : ℕ) (within : k < classes) where
   -- the total of what is shown is the sum of what was counted, where no number is so great that it is shown as less
-  pub total_is : (ks : List Known) → ((t : ℕ) → t < length ks → number (capped_counts (counts_of (counted_by ks t) k)) ≡ f (counts_of (counted_by ks t) k))
-      → total_on number (map (λ (x : Known). counts_shown 0 classes x.counts) ks) k ≡ sum_below (length ks) (λ t. f (counts_of (counted_by ks t) k))
+  pub total_is : (ks : List ThreadView) → ((t : ℕ) → t < length ks → number (capped_counts (counts_of (counted_by ks t) k)) ≡ f (counts_of (counted_by ks t) k))
+      → total_on number (map (λ (x : ThreadView). counts_shown 0 classes x.counts) ks) k ≡ sum_below (length ks) (λ t. f (counts_of (counted_by ks t) k))
   total_is [] same = refl
   total_is (x ∷ ks) same =
       let others = total_is ks (λ t h. same (suc t) (omega (arith, h))) in
       let here = ap number (counts_at 0 classes k k x.counts no_counts within (omega arith)) ∙ same 0 (omega arith) in
-      let first = sum_by-cons (λ own. number (counts_on own k)) (counts_shown 0 classes x.counts) (map (λ (y : Known). counts_shown 0 classes y.counts) ks) in
+      let first = sum_by-cons (λ own. number (counts_on own k)) (counts_shown 0 classes x.counts)
+      (map (λ (y : ThreadView). counts_shown 0 classes y.counts) ks) in
       let front = sum_front (length ks) (λ t. f (counts_of (counted_by (x ∷ ks) t) k)) in
       omega (arith, first, others, here, front)

@@ -14,8 +14,8 @@ use Rattle.object_program.specs.Valid.{IsProgram}
 use Rattle.plain_machine.specs.Legal.{IsLegal, machine_after}
 use Rattle.plain_machine.specs.Machine.{PlainMachine}
 use Rattle.core_world.specs.Shots as core
-use Rattle.core_world.specs.Threads.Known.{DumpShot}
-use Rattle.run_ends.specs.OfARun.{HasShots, shots_at}
+use Rattle.core_world.specs.Threads.ThreadView.{DumpShot}
+use Rattle.closed_heap_laws.specs.OfARun.{HasShots, shots_at}
 use Rattle.run_rounds.proofs.Lists.{all_each}
 use Rattle.thread_logs.specs.Followed.{HasFollowed, HaveFollowed}
 use Rattle.lock_journal.specs.declared.record.Cell.{Cell}

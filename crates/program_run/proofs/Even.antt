@@ -8,7 +8,7 @@ use Rattle.lock_policy.specs.declared.policy.Verdict.TheVariants.{Single, BulkRe
 use Rattle.lock_policy.specs.Policy.{is_reset, rebias_threshold, revoke_threshold, decay_time}
 use Rattle.core_world.specs.Threads.Counts as known
 use Rattle.core_world.specs.Threads.Counts.{CountedVerdict, counts_of}
-use Rattle.core_world.specs.Threads.Known.{Known}
+use Rattle.core_world.specs.Threads.ThreadView.{ThreadView}
 use Rattle.heap_table.specs.BiasesAtEnd.{counted_by}
 use Rattle.run_rounds.specs.Timed.{IsTimed, IsCountedOnTime}
 
@@ -19,7 +19,8 @@ not_true false refuted = refl
 -- 25 seconds have not gone by at the first moment
 never_reset : (count last now : ℕ) → now ≤ 1 → is_reset count last now ≡ false
 never_reset count last now early = not_true (is_reset count last now) (λ is.
-    let gone = and_parts (nat_le rebias_threshold count && nat_lt count revoke_threshold && not (last == 0) && nat_le last now) (nat_le decay_time (now - last)) is in
+    let gone = and_parts (nat_le rebias_threshold count && nat_lt count revoke_threshold && not (last == 0) && nat_le last now)
+    (nat_le decay_time (now - last)) is in
     let long : decay_time ≤ now - last = leb-true decay_time (now - last) gone.1 in
     omega (arith, long, early))
 
@@ -44,7 +45,7 @@ none_reset (v ∷ vs) k all = by_class (k == v.class) (none_reset vs k all.1)
     by_class true none = by_verdict v.verdict v.reset (no_reset v.reset all.0) none
     by_class false none = none
 
-pub counted_timed : (ks : List Known) (t : ℕ) → AllByRecursion (IsTimed 0) ks
+pub counted_timed : (ks : List ThreadView) (t : ℕ) → AllByRecursion (IsTimed 0) ks
     → AllByRecursion (λ (v : CountedVerdict). IsCountedOnTime 0 v.reset) (counted_by ks t)
 counted_timed [] t all = tt
 counted_timed (k ∷ ks) zero all = all.0.counts

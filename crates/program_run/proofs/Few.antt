@@ -11,12 +11,12 @@ use Rattle.plain_monitor.proofs.Threads.{thread_kept}
 use Rattle.plain_history.proofs.Joined.{first_some}
 use Rattle.object_program.specs.Program.{ProgramText}
 use Rattle.object_program.specs.Valid.{IsProgram}
-use Rattle.plain_machine.specs.Legal.{IsLegal, behind_all, machine_after}
+use Rattle.plain_machine.specs.Legal.{IsLegal, after_all, machine_after}
 use Rattle.plain_machine.specs.Machine.{PlainMachine, new_machine, take}
 use Rattle.machine_laws.specs.Reached.{IsReached}
 use Rattle.plain_machine.specs.Thread.{ThreadState}
 use Rattle.machine_laws.specs.Work.{work_in, work_left, work_of}
-use Rattle.thread_logs.specs.Followed.{Follows, HaveValues}
+use Rattle.thread_logs.specs.Followed.{FollowsCode, HaveValues}
 use Rattle.program_run.proofs.Cut.{the_some}
 
 -- the laws that are asked of machines and of threads
@@ -30,19 +30,19 @@ abbrev pub UseUp : Type 0
 UseUp = (m n : PlainMachine) (t : ℕ) (e : Entry) → IsReached m → take m t e ≡ Some n → work_left n < work_left m
 
 abbrev pub Begins : Type 0
-Begins = (p : ProgramText) (fuel t : ℕ) (s : ThreadState) → slice_get (new_machine p fuel).threads t ≡ Some s → Follows p fuel t [] s
+Begins = (p : ProgramText) (fuel t : ℕ) (s : ThreadState) → slice_get (new_machine p fuel).threads t ≡ Some s → FollowsCode p fuel t [] s
 
 abbrev pub Works : Type 0
-Works = (p : ProgramText) (fuel t : ℕ) (log : List Logged) (s : ThreadState) → IsProgram p → HaveValues p log → Follows p fuel t log s
+Works = (p : ProgramText) (fuel t : ℕ) (log : List Logged) (s : ThreadState) → IsProgram p → HaveValues p log → FollowsCode p fuel t log s
     → length log + work_of s ≤ 2 * fuel + 1
 
 module _ (stay : Stay) (use_up : UseUp) where
-  as_many : (m : PlainMachine) (xs : List (ℕ × Logged)) (n : PlainMachine) → IsReached m → behind_all m xs ≡ Some n → length xs + work_left n ≤ work_left m
+  as_many : (m : PlainMachine) (xs : List (ℕ × Logged)) (n : PlainMachine) → IsReached m → after_all m xs ≡ Some n → length xs + work_left n ≤ work_left m
   as_many m [] n r e =
       let same : work_left m ≡ work_left n = ap work_left (same_Some m n e) in
       omega (arith, same)
   as_many m (x ∷ xs) n r e =
-      let next = first_some (λ z. behind_all z xs) (take m x.0 x.1.entry) n e in
+      let next = first_some (λ z. after_all z xs) (take m x.0 x.1.entry) n e in
       let others = as_many next.0 xs n (stay m next.0 x.0 x.1.entry r next.1) next.2 in
       let less = use_up m next.0 x.0 x.1.entry r next.1 in
       omega (arith, others, less)
@@ -51,7 +51,8 @@ module _ (stay : Stay) (use_up : UseUp) where
 abbrev pub most_entries : ℕ
 most_entries = most_threads * (2 * most_fuel + 1)
 
-work_few : (ss : List ThreadState) → ((t : ℕ) (s : ThreadState) → slice_get ss t ≡ Some s → work_of s ≤ 2 * most_fuel + 1) → work_in ss ≤ length ss * (2 * most_fuel + 1)
+work_few : (ss : List ThreadState) → ((t : ℕ) (s : ThreadState) → slice_get ss t ≡ Some s → work_of s ≤ 2 * most_fuel + 1)
+    → work_in ss ≤ length ss * (2 * most_fuel + 1)
 work_few [] each = omega arith
 work_few (s ∷ ss) each =
     let here = each 0 s refl in

@@ -1,19 +1,20 @@
 -- The first enter of each object in the order of all logs: nothing that is bound to the object stands before it.
-use Rattle.std.proofs.Common.{◌≡◌, ℕ, zero, suc, ◌<◌, ◌≤◌, ◌==◌, ◌&&◌, Bool, true, false, if◌then◌else◌, List, [], ◌∷◌, map, Option, Some, None, option_and_then, refl, sym, ap, ◌∙◌, subst, inl, inr, arith, eqb-true, eq-eqb, length}
+use Rattle.std.proofs.Common.{◌≡◌, ℕ, zero, suc, ◌<◌, ◌≤◌, ◌==◌, ◌&&◌, Bool, true, false, if◌then◌else◌, List, [], ◌∷◌, map, Option}
+use Rattle.std.proofs.Common.{Some, None, option_and_then, refl, sym, ap, ◌∙◌, subst, inl, inr, arith, eqb-true, eq-eqb, length}
 use Rattle.std.specs.Prelude.{nat_lt, slice_get, slice_set}
 use Rattle.std.specs.List.{AllByRecursion}
 use Rattle.std.proofs.lemmas.Bool.{cases_eq, false≢true}
 use Rattle.std.proofs.lemmas.Bool.Decides.{nat_tests}
 use Rattle.std.proofs.lemmas.Option.{same_Some}
-use Rattle.lone_logs.specs.LoneRun.{with_no_path, without_path}
+use Rattle.single_thread_law.specs.LoneRun.{with_no_path, without_path}
 use Rattle.plain_history.specs.Tied.{bound_to, is_same_object}
 use Rattle.plain_monitor.proofs.Ordering.{IsOrdered, ordered_is_ordered}
 use Rattle.plain_history.proofs.Joined.{first_some}
 use Rattle.plain_history.proofs.SoundHistories.{hash_kept}
 use Rattle.plain_history.proofs.Swaps.{plain_or_hash, taken_at}
-use Rattle.plain_machine.specs.Legal.{behind_all}
+use Rattle.plain_machine.specs.Legal.{after_all}
 use Rattle.plain_machine.specs.Asking.{thread_after}
-use Rattle.plain_machine.specs.Machine.{PlainMachine, code_of, made_behind, moved, take}
+use Rattle.plain_machine.specs.Machine.{PlainMachine, code_of, made_after_entry, moved, take}
 use Rattle.plain_machine.specs.Thread.{ThreadState}
 use Rattle.plain_monitor.specs.declared.entry.Entry.{Entry}
 use Rattle.plain_monitor.specs.declared.entry.Entry.TheVariants as entry
@@ -205,7 +206,8 @@ unbound_enters_not o (entry.Enter k path) s = s
 unbound_enters_not o e s = refl
 
 -- what a machine takes, its objects take
-objects_moved : (m n : PlainMachine) (t : ℕ) (s : Option ThreadState) (made : Option (List (List ℕ))) (objects : Option (List PlainObject)) → moved m t s made objects ≡ Some n
+objects_moved : (m n : PlainMachine) (t : ℕ) (s : Option ThreadState) (made : Option (List (List ℕ))) (objects : Option (List PlainObject))
+    → moved m t s made objects ≡ Some n
     → objects ≡ Some n.objects
 objects_moved m n t None made objects h = absurd (cc h)
 objects_moved m n t (Some s) None objects h = absurd (cc h)
@@ -216,21 +218,21 @@ objects_take : (m n : PlainMachine) (t : ℕ) (e : Entry) → take m t e ≡ Som
 objects_take m n t e h = by_thread (slice_get m.threads t) h
   where
     by_thread : (r : Option ThreadState)
-        → option_and_then (λ s. moved m t (thread_after m.program (code_of m.program t) s e) (made_behind m t e) (take_entry m.objects t e)) r ≡ Some n
+        → option_and_then (λ s. moved m t (thread_after m.program (code_of m.program t) s e) (made_after_entry m t e) (take_entry m.objects t e)) r ≡ Some n
         → take_entry m.objects t e ≡ Some n.objects
     by_thread None h = absurd (cc h)
-    by_thread (Some s) h = objects_moved m n t (thread_after m.program (code_of m.program t) s e) (made_behind m t e) (take_entry m.objects t e) h
+    by_thread (Some s) h = objects_moved m n t (thread_after m.program (code_of m.program t) s e) (made_after_entry m t e) (take_entry m.objects t e) h
 
 -- the next machine, and what of it is free
 pub record IsStep (m n final : PlainMachine) (o : ℕ) (x : ℕ × Logged) (xs : List (ℕ × Logged)) : Type 0 where
-  pub on : behind_all n xs ≡ Some final
+  pub on : after_all n xs ≡ Some final
   pub enters : is_same_object (bound_to x.1.entry) (Some o) ≡ true → is_enter_of o x.1.entry ≡ true
   pub free : is_same_object (bound_to x.1.entry) (Some o) ≡ false → IsUnentered o n.objects
 
-pub step_on : (m final : PlainMachine) (o : ℕ) (x : ℕ × Logged) (xs : List (ℕ × Logged)) → behind_all m (x ∷ xs) ≡ Some final
+pub step_on : (m final : PlainMachine) (o : ℕ) (x : ℕ × Logged) (xs : List (ℕ × Logged)) → after_all m (x ∷ xs) ≡ Some final
     → IsUnentered o m.objects → (n : PlainMachine) × IsStep m n final o x xs
 step_on m final o x xs h free =
-    let a = first_some (λ n. behind_all n xs) (take m x.0 x.1.entry) final h in
+    let a = first_some (λ n. after_all n xs) (take m x.0 x.1.entry) final h in
     let taken = objects_take m a.0 x.0 x.1.entry a.1 in (
       a.0,
       record {

@@ -6,9 +6,9 @@ use Rattle.hash_laws.proofs.LegalHashes.{fitting_hashes_are_draws}
 use Rattle.heap_table.specs.Seen.{ClosedSeen}
 use Rattle.lock_journal.specs.declared.record.RunRecord.{RunRecord}
 use Rattle.lock_journal.specs.declared.record.Shot.{Shot}
-use Rattle.lone_logs.specs.LoneRun.{IsLoneRun}
-use Rattle.lone_logs.specs.LoneRun as lone
-use Rattle.lone_logs.specs.Shots.{IsShotOf, HasShotsOf}
+use Rattle.single_thread_law.specs.LoneRun.{IsLoneRun}
+use Rattle.single_thread_law.specs.LoneRun as lone
+use Rattle.single_thread_law.specs.Shots.{IsShotOfLog, HasShotsOf}
 use Rattle.object_program.specs.Program.{ProgramText}
 use Rattle.plain_machine.specs.Legal.{machine_after}
 use Rattle.plain_machine.specs.Machine.{PlainMachine}
@@ -31,12 +31,12 @@ cut_one (n ∷ []) (log ∷ more ∷ logs) one same = absurd (omega (arith, one)
 cut_one (n ∷ k ∷ ns) (log ∷ logs) one same = absurd (omega (arith, one, same))
 
 shot_of : (p : ProgramText) (fuel : ℕ) (logs : List (List Logged)) (shot : Shot) → length logs ≡ 1 → IsRightShot p fuel logs shot
-    → IsShotOf p fuel (log_of logs 0) shot
+    → IsShotOfLog p fuel (log_of logs 0) shot
 shot_of p fuel logs shot one s =
     record { machine = s.machine; under = ap (machine_after p fuel) (sym (cut_one shot.cut logs one s.threads)) ∙ s.under; cells = s.cells }
 
 shots_right : (p : ProgramText) (fuel : ℕ) (logs : List (List Logged)) (shots : List Shot) → length logs ≡ 1
-    → AllByRecursion (IsRightShot p fuel logs) shots → AllByRecursion (IsShotOf p fuel (log_of logs 0)) shots
+    → AllByRecursion (IsRightShot p fuel logs) shots → AllByRecursion (IsShotOfLog p fuel (log_of logs 0)) shots
 shots_right p fuel logs [] one all = tt
 shots_right p fuel logs (s ∷ shots) one all = (shot_of p fuel logs s one all.0, shots_right p fuel logs shots one all.1)
 

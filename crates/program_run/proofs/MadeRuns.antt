@@ -1,5 +1,6 @@
 -- A plain run is made by a record and a closed heap, where its enters have paths that the law of biases allows.
-use Rattle.std.proofs.Common.{◌≡◌, ℕ, zero, suc, ◌+◌, ◌-◌, ◌*◌, ◌<◌, ◌≤◌, Bool, true, false, if◌then◌else◌, List, [], ◌∷◌, ◌++◌, length, map, Option, Some, None, refl, sym, ap, ◌∙◌, subst, inl, inr, arith}
+use Rattle.std.proofs.Common.{◌≡◌, ℕ, zero, suc, ◌+◌, ◌-◌, ◌*◌, ◌<◌, ◌≤◌, Bool, true, false, if◌then◌else◌, List, []}
+use Rattle.std.proofs.Common.{◌∷◌, ◌++◌, length, map, Option, Some, None, refl, sym, ap, ◌∙◌, subst, inl, inr, arith}
 use Rattle.std.specs.Prelude.{slice_get, slice_index, slice_index_or}
 use Rattle.std.specs.List.{AllByRecursion, list_any}
 use Rattle.std.proofs.lemmas.List.{get_or-append_right, get_or_append_left, get_or_past, length-map}
@@ -7,7 +8,7 @@ use Rattle.std.proofs.lemmas.List.Sums.{sum_by-cons}
 use Rattle.std.proofs.lemmas.Option.{same_Some}
 use Rattle.core_law.specs.Draws.{HasDraws}
 use Rattle.core_law.specs.TakenBiases.{OwnsAreTaken, times_taken}
-use Rattle.core_world.specs.Threads.Known.{DumpShot}
+use Rattle.core_world.specs.Threads.ThreadView.{DumpShot}
 use Rattle.core_world.specs.Trees.SafepointSteps.{halted_word}
 use Rattle.core_world.specs.Words.Forms.{halted_form, is_halted}
 use Rattle.hash_laws.proofs.LegalHashes.{fitting_hashes_are_draws, legal_hashes_fit}
@@ -18,7 +19,7 @@ use Rattle.lock_journal.specs.declared.record.Cell.{Cell}
 use Rattle.lock_journal.specs.declared.record.ClassLine.{ClassLine}
 use Rattle.lock_journal.specs.declared.record.RunRecord.{RunRecord}
 use Rattle.lock_journal.specs.declared.record.Shot.{Shot}
-use Rattle.lone_logs.specs.LoneRun.{NoneGoesOn, with_no_paths}
+use Rattle.single_thread_law.specs.LoneRun.{NoneGoesOn, with_no_paths}
 use Rattle.mark_word.proofs.ReadingSafepoints.{read_safe-safe_of}
 use Rattle.object_program.specs.Program.{ProgramText}
 use Rattle.plain_history.specs.EnterPaths.{EndsStay, PathsFit, entries_on, first_path, needs_bias}
@@ -34,7 +35,7 @@ use Rattle.plain_monitor.specs.Order.{order}
 use Rattle.plain_monitor.proofs.Lists.{all_push}
 use Rattle.run_rounds.specs.Outcome.{IsOver}
 use Rattle.program_run.specs.declared.settings.Settings.{Settings}
-use Rattle.program_run.specs.Biases.{HasBiases, IsEven, IsIdle, IsLine, prototype_by}
+use Rattle.program_run.specs.Biases.{RecordObeysBiasLaw, IsEven, IsIdle, IsLine, prototype_by}
 use Rattle.program_run.specs.HeapFor.{heap_for}
 use Rattle.program_run.specs.Left.{cells_left, shot_left, shots_left}
 use Rattle.program_run.specs.Lines.{counts_on, line_of, lines_below, no_counts, total_on}
@@ -244,7 +245,7 @@ module _ (s : Settings) (p : ProgramText) (plain_logs : List (List Logged)) (sho
         revoke = sym (nothing (λ n. n.revoke) k (ap (λ (n : ClassCounts). n.revoke) (nothing_on k)));
       }
 
-  biases : HasBiases s.tick run closed
+  biases : RecordObeysBiasLaw s.tick run closed
   biases =
       record {
         stays = paths.stays;

@@ -1,5 +1,6 @@
 -- Logs whose paths of enters are taken away: what of a run doesn't look at these.
-use Rattle.std.proofs.Common.{◌≡◌, ℕ, zero, suc, ◌+◌, ◌||◌, Bool, true, false, if◌then◌else◌, List, [], ◌∷◌, ◌++◌, map, Option, Some, option_and_then, refl, sym, ap, ◌∙◌, subst, inl, inr}
+use Rattle.std.proofs.Common.{◌≡◌, ℕ, zero, suc, ◌+◌, ◌||◌, Bool, true, false, if◌then◌else◌, List, [], ◌∷◌}
+use Rattle.std.proofs.Common.{◌++◌, map, Option, Some, option_and_then, refl, sym, ap, ◌∙◌, subst, inl, inr}
 use Rattle.std.specs.Prelude.{IsSome}
 use Rattle.std.specs.List.{AllByRecursion, flat_map}
 use Rattle.std.proofs.lemmas.List.{map-append}
@@ -7,15 +8,15 @@ use Rattle.core_law.specs.Draws.{HasDraws}
 use Rattle.core_world.specs.Clauses.Draws.{AreDraws, Draw, IsNextDraw, all_draws, draw_in, drawn_by, drawn_for, draws_for}
 use Rattle.lock_journal.specs.RunText.{printed}
 use Rattle.lock_journal.specs.declared.record.Shot.{Shot}
-use Rattle.lone_logs.specs.LoneRun.{with_no_path, with_no_paths, without_path}
+use Rattle.single_thread_law.specs.LoneRun.{with_no_path, with_no_paths, without_path}
 use Rattle.machine_laws.proofs.ReachedPaths.{path_changes_nothing}
 use Rattle.object_program.specs.Program.{ProgramText}
 use Rattle.plain_history.specs.EnterPaths.{has_hash, is_hash}
 use Rattle.plain_history.specs.ExactStamps.{IsExactStamp, IsTakingStamp, StampsAreExact}
 use Rattle.plain_history.specs.FirstDraws.{DrawsComeFirst}
 use Rattle.plain_history.specs.HeldByLog.{HasLetGo, held_after, held_by, nothing_held}
-use Rattle.plain_machine.specs.Legal.{IsLegal, behind_all, machine_after}
-use Rattle.plain_machine.specs.Machine.{PlainMachine, new_machine, take as behind_one}
+use Rattle.plain_machine.specs.Legal.{IsLegal, after_all, machine_after}
+use Rattle.plain_machine.specs.Machine.{PlainMachine, new_machine, take as after_one}
 use Rattle.plain_monitor.specs.declared.entry.Entry.{Entry}
 use Rattle.plain_monitor.specs.declared.entry.Entry.TheVariants as entry
 use Rattle.plain_monitor.specs.declared.entry.Logged.{Logged}
@@ -77,19 +78,19 @@ pub order_bare : (logs : List (List Logged)) → order (with_no_paths logs) ≡ 
 order_bare logs = ap ordered (threads_bare 0 logs) ∙ ordered_bare (with_threads 0 logs)
 
 -- MACHINES
-take_bare : (m : PlainMachine) (t : ℕ) (e : Entry) → behind_one m t (without_path e) ≡ behind_one m t e
+take_bare : (m : PlainMachine) (t : ℕ) (e : Entry) → after_one m t (without_path e) ≡ after_one m t e
 take_bare m t (entry.Enter o path) = path_changes_nothing m t o StackFirst path
 take_bare m t e = refl
 
-behind_bare : (m : PlainMachine) (xs : List (ℕ × Logged)) → behind_all m (map bare_at xs) ≡ behind_all m xs
-behind_bare m [] = refl
-behind_bare m (x ∷ xs) =
-    ap (option_and_then (λ n. behind_all n (map bare_at xs))) (take_bare m x.0 x.1.entry)
-    ∙ ap (λ f. option_and_then f (behind_one m x.0 x.1.entry)) (λ i n. behind_bare n xs i)
+after_all_bare : (m : PlainMachine) (xs : List (ℕ × Logged)) → after_all m (map bare_at xs) ≡ after_all m xs
+after_all_bare m [] = refl
+after_all_bare m (x ∷ xs) =
+    ap (option_and_then (λ n. after_all n (map bare_at xs))) (take_bare m x.0 x.1.entry)
+    ∙ ap (λ f. option_and_then f (after_one m x.0 x.1.entry)) (λ i n. after_all_bare n xs i)
 
 pub after_bare : (p : ProgramText) (fuel : ℕ) (logs : List (List Logged))
     → machine_after p fuel (with_no_paths logs) ≡ machine_after p fuel logs
-after_bare p fuel logs = ap (behind_all (new_machine p fuel)) (order_bare logs) ∙ behind_bare (new_machine p fuel) (order logs)
+after_bare p fuel logs = ap (after_all (new_machine p fuel)) (order_bare logs) ∙ after_all_bare (new_machine p fuel) (order logs)
 
 rises_to : (n : ℕ) (log : List Logged) → RisesAbove n log → RisesAbove n (bare log)
 rises_to n [] r = tt

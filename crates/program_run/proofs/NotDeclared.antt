@@ -1,8 +1,10 @@
 -- An object of which the heap knows nothing has no entry in a legal history but hashes, and these aren't taken either.
-use Rattle.std.proofs.Common.{◌≡◌, ℕ, ◌≤◌, ◌==◌, eqb-true, Bool, true, false, cond, List, [], ◌∷◌, length, Option, Some, None, refl, sym, ap, ◌∙◌, arith, length-set}
+use Rattle.std.proofs.Common.{◌≡◌, ℕ, ◌≤◌, ◌==◌, eqb-true, Bool, true, false, cond, List, [], ◌∷◌}
+use Rattle.std.proofs.Common.{length, Option, Some, None, refl, sym, ap, ◌∙◌, arith, length-set}
 use Rattle.std.proofs.lemmas.Option.{same_Some, slice_get_past}
 use Rattle.plain_monitor.specs.declared.entry.Entry.{Entry}
-use Rattle.plain_monitor.specs.declared.entry.Entry.TheVariants.{Enter, Exit, Get, Put, Wait, Resume, Notify, NotifyAll, Hash, New, Print, Dump, Trap, Spent, Done}
+use Rattle.plain_monitor.specs.declared.entry.Entry.TheVariants.{Enter, Exit, Get, Put, Wait, Resume, Notify, NotifyAll}
+use Rattle.plain_monitor.specs.declared.entry.Entry.TheVariants.{Hash, New, Print, Dump, Trap, Spent, Done}
 use Rattle.plain_monitor.specs.declared.entry.Logged.{Logged}
 use Rattle.plain_monitor.specs.Objects.{PlainObject, named, take_named, take_entry}
 use Rattle.plain_monitor.specs.History.{run_all}
@@ -37,7 +39,8 @@ length_kept before after t e None h = ap (λ (xs : List PlainObject). length xs)
 length_kept before after t e (Some o) h = let a = taken_at before after t e o h in ap (λ (xs : List PlainObject). length xs) a.is ∙ length-set before o a.y
 
 -- an object that there isn't takes no entry
-unnamed : (before after : List PlainObject) (t : ℕ) (e : Entry) (o : ℕ) → length before ≤ o → take_named before t e (named e) ≡ Some after → named e ≡ Some o → ⊥
+unnamed : (before after : List PlainObject) (t : ℕ) (e : Entry) (o : ℕ)
+    → length before ≤ o → take_named before t e (named e) ≡ Some after → named e ≡ Some o → ⊥
 unnamed before after t e o far h is =
     let a = taken_at before after t e o (ap (take_named before t e) (sym is) ∙ h) in
     let was = a.was in
@@ -45,7 +48,8 @@ unnamed before after t e o far h is =
     absurd (cc (was, none))
 
 -- so it has none in a history that is taken
-pub none_on : (xs : List (ℕ × Logged)) (before after : List PlainObject) (o : ℕ) → run_all take_entry before xs ≡ Some after → length before ≤ o → entries_on o xs ≡ []
+pub none_on : (xs : List (ℕ × Logged)) (before after : List PlainObject) (o : ℕ)
+    → run_all take_entry before xs ≡ Some after → length before ≤ o → entries_on o xs ≡ []
 none_on [] before after o h far = refl
 none_on (x ∷ xs) before after o h far =
     let k = first_run take_entry (take_entry before x.0 x.1.entry) xs after h in

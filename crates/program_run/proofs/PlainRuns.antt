@@ -6,7 +6,7 @@ use Rattle.hash_laws.proofs.LegalHashes.{fitting_hashes_are_draws, legal_hashes_
 use Rattle.heap_table.specs.Seen.{ClosedSeen}
 use Rattle.lock_journal.specs.RunText.{text_of_lines, text_of_run, thread_lines}
 use Rattle.lock_journal.specs.declared.record.RunRecord.{RunRecord}
-use Rattle.lone_logs.specs.LoneRun.{with_no_paths}
+use Rattle.single_thread_law.specs.LoneRun.{with_no_paths}
 use Rattle.object_program.specs.Program.{ProgramText}
 use Rattle.plain_machine.specs.Legal.{machine_after}
 use Rattle.plain_machine.specs.Machine.{PlainMachine}

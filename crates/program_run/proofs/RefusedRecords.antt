@@ -19,7 +19,7 @@ use Rattle.plain_monitor.specs.Order.{is_before, order}
 use Rattle.plain_monitor.proofs.Lists.{all_at}
 use Rattle.plain_monitor.proofs.Orders.{before_asym}
 use Rattle.core_law.specs.TakenBiases.{times_taken}
-use Rattle.program_run.specs.Biases.{HasBiases, class_in}
+use Rattle.program_run.specs.Biases.{RecordObeysBiasLaw, class_in}
 use Rattle.program_run.specs.Shots.{IsRightShot, AreRightShots, shots_of}
 
 -- one thread takes the bias and lets go, and another one enters by this path
@@ -28,13 +28,13 @@ handed path =
     (record { stamp = 1; entry = Enter 0 BiasTaken } ∷ record { stamp = 2; entry = Exit 0 } ∷ [])
     ∷ (record { stamp = 3; entry = Enter 0 path } ∷ []) ∷ []
 
-pub from_nowhere : (tick : ℕ) (r : RunRecord) (c : ClosedSeen) → r.logs ≡ handed BiasOwn → HasBiases tick r c → ⊥
+pub from_nowhere : (tick : ℕ) (r : RunRecord) (c : ClosedSeen) → r.logs ≡ handed BiasOwn → RecordObeysBiasLaw tick r c → ⊥
 from_nowhere tick r c logs h =
     let taken = h.taken 1 0 [] (record { stamp = 3; entry = Enter 0 BiasOwn }) [] (ap (λ (x : List (List Logged)). log_of x 1) logs) refl in
     cc taken
 
 pub wanders : (tick k : ℕ) (r : RunRecord) (c : ClosedSeen) (line : ClassLine) → r.logs ≡ handed BiasTaken
-    → class_in r 0 ≡ Some k → slice_get r.classes k ≡ Some line → line.rebias ≡ 0 → HasBiases tick r c → ⊥
+    → class_in r 0 ≡ Some k → slice_get r.classes k ≡ Some line → line.rebias ≡ 0 → RecordObeysBiasLaw tick r c → ⊥
 wanders tick k r c line logs class at none h =
     let few = h.few 0 k line class at in
     let twice : times_taken 0 (entries_on 0 (order r.logs)) ≡ 2 = ap (λ (x : List (List Logged)). times_taken 0 (entries_on 0 (order x))) logs in

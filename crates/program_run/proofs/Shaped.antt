@@ -1,5 +1,6 @@
 -- The shape of a program's heap, by the slots of its classes and the classes of its objects.
-use Rattle.std.proofs.Common.{◌≡◌, ℕ, zero, suc, ◌+◌, ◌*◌, ◌<◌, ◌≤◌, ◌||◌, Bool, true, false, if◌then◌else◌, List, [], ◌∷◌, ◌++◌, length, map, replicate, refl, sym, ap, ◌∙◌, subst, arith, All}
+use Rattle.std.proofs.Common.{◌≡◌, ℕ, zero, suc, ◌+◌, ◌*◌, ◌<◌, ◌≤◌, ◌||◌, Bool, true, false, if◌then◌else◌, List}
+use Rattle.std.proofs.Common.{[], ◌∷◌, ◌++◌, length, map, replicate, refl, sym, ap, ◌∙◌, subst, arith, All}
 use Rattle.std.specs.List.{AllByRecursion, list_any}
 use Rattle.std.specs.Prelude.{slice_index}
 use Rattle.std.proofs.lemmas.List.{length-append, length-map, length-replicate, map-append}
@@ -11,7 +12,8 @@ use Rattle.object_program.specs.declared.program.ThreadDef.{ThreadDef}
 use Rattle.object_program.specs.declared.program.Code.{Code}
 use Rattle.object_program.specs.declared.program.Code.TheVariants.{New}
 use Rattle.object_program.specs.declared.program.LabelDef.{LabelDef}
-use Rattle.object_program.specs.Program.{ProgramText, classes_from, declared_total, has_new, is_new, made_total, objects_total, shape_from, slots_of_class, total_of}
+use Rattle.object_program.specs.Program.{ProgramText, classes_from, declared_total, has_new, is_new}
+use Rattle.object_program.specs.Program.{made_total, objects_total, shape_from, slots_of_class, total_of}
 use Rattle.object_program.proofs.Made.{shape_length}
 use Rattle.object_program.specs.Valid.{AreObjects, IsInstruction, IsProgram, IsThread}
 use Rattle.plain_monitor.specs.Limits.{most_threads, most_classes, most_slots, most_objects, most_made, most_in_all}

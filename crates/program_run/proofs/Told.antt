@@ -13,7 +13,7 @@ use Rattle.plain_monitor.specs.declared.entry.Logged.{Logged}
 use Rattle.plain_monitor.specs.declared.entry.Path.{Path}
 use Rattle.plain_monitor.specs.declared.entry.Path.TheVariants.{BiasTaken}
 use Rattle.plain_monitor.specs.History.{log_of, objects_after}
-use Rattle.plain_monitor.specs.Made.{IsMadeInTime, Numbering, class_of, made_after}
+use Rattle.plain_monitor.specs.Made.{IsMadeInTime, Numbering, class_if_there, made_after}
 use Rattle.plain_monitor.specs.Objects.{new_object, new_objects}
 use Rattle.plain_monitor.specs.Order.{order}
 use Rattle.plain_history.specs.Cuts.{cut_logs}
@@ -22,7 +22,7 @@ use Rattle.core_law.specs.BiasLaw.{is_logged}
 use Rattle.core_law.specs.OfARun.{IsHashLogged}
 use Rattle.core_law.specs.TakenBiases.{times_taken, OwnsAreTaken}
 use Rattle.core_law.specs.Logic.{Heap}
-use Rattle.core_world.specs.Threads.Known.{DumpShot, Known}
+use Rattle.core_world.specs.Threads.ThreadView.{DumpShot, ThreadView}
 use Rattle.core_world.specs.Threads.References.{numbering}
 use Rattle.heap_table.specs.Seen.{ClosedSeen}
 use Rattle.lock_journal.specs.Hashes.{hash_fits}
@@ -34,11 +34,11 @@ use Rattle.object_program.specs.Valid.{IsProgram}
 use Rattle.plain_machine.specs.Legal.{IsLegal, machine_after}
 use Rattle.plain_machine.specs.Machine.{PlainMachine}
 use Rattle.hash_laws.proofs.LegalHashes.{legal_hashes_fit}
-use Rattle.run_ends.specs.OfARun.{IsEnd, logs_in, shots_at, shots_in}
-use Rattle.run_rounds.specs.Outcome.{HasRun, IsOver, verdicts_beyond}
+use Rattle.closed_heap_laws.specs.OfARun.{IsEnd, logs_in, shots_at, shots_in}
+use Rattle.run_rounds.specs.Outcome.{IsRunOutcome, IsOver, verdicts_beyond}
 use Rattle.run_rounds.proofs.Numbered.{heap_numbers}
 use Rattle.program_run.specs.declared.settings.Settings.{Settings}
-use Rattle.program_run.specs.Biases.{HasBiases, IsEven, IsIdle, IsLine, IsUnrevoked, class_in, prototype_by}
+use Rattle.program_run.specs.Biases.{RecordObeysBiasLaw, IsEven, IsIdle, IsLine, IsUnrevoked, class_in, prototype_by}
 use Rattle.program_run.specs.HeapFor.{heap_for, shape_for}
 use Rattle.program_run.specs.Left.{IsOfClosed, shots_left}
 use Rattle.program_run.specs.Lines.{line_of, lines_below, total_on}
@@ -46,7 +46,8 @@ use Rattle.program_run.specs.inner.Lines.{HasSmallCounts}
 use Rattle.program_run.specs.Ran.{HasAll, IsRan, IsRecordOf}
 use Rattle.program_run.specs.Shots.{AreRightShots}
 use Rattle.program_run.specs.Verdicts.{IsSum, verdicts_by}
-use Rattle.program_run.proofs.Biased.{Biased, Plain, all_idle, all_lines, counted_all, even, fits, log_fits, prototype_is, revoke_is, small_here, sums_are, verdicts_within}
+use Rattle.program_run.proofs.Biased.{Biased, Plain, all_idle, all_lines, counted_all, even, fits, log_fits}
+use Rattle.program_run.proofs.Biased.{prototype_is, revoke_is, small_here, sums_are, verdicts_within}
 use Rattle.program_run.proofs.BiasesTaken.{log_owned, taken_few}
 use Rattle.program_run.proofs.Classes.{class_at_end, logged_at_end}
 use Rattle.program_run.proofs.Cut.{Fronts, Legals, TheirObjects, right_shots}
@@ -54,7 +55,7 @@ use Rattle.program_run.proofs.Few.{First, Stay, UseUp, Begins, Works, log_few, m
 use Rattle.program_run.proofs.NotDeclared.{none_on}
 use Rattle.program_run.proofs.LinesBelow.{line_at, lines_many}
 
-pub small : (s : Settings) (p : ProgramText) (c : ClosedSeen) → HasRun (heap_for s p) p s.fuel s.tick c → HasSmallCounts c
+pub small : (s : Settings) (p : ProgramText) (c : ClosedSeen) → IsRunOutcome (heap_for s p) p s.fuel s.tick c → HasSmallCounts c
 small s p c ran = small_here (heap_for s p) c ran.biases ran.heap_is
 
 -- the heap has the program's numbers
@@ -63,7 +64,7 @@ numbering_for s p is = heap_numbers (heap_for s p) p (record { program = is; thr
 
 -- the law that is asked of a heap's end: where its shots cut the logs, each entry finds what it needs
 abbrev pub Cuts : Type 0
-Cuts = (heap : Heap) (words : List ℕ) (ks : List Known) (t i : ℕ) (s : DumpShot) → IsEnd heap words ks
+Cuts = (heap : Heap) (words : List ℕ) (ks : List ThreadView) (t i : ℕ) (s : DumpShot) → IsEnd heap words ks
     → slice_get (shots_at (shots_in ks) t) i ≡ Some s → IsMadeInTime (numbering heap.shape) (cut_logs s.cut (logs_in ks))
 
 some_there : {A : Type 0} (m : Option A) → IsSome m → (x : A) × (m ≡ Some x)
@@ -73,7 +74,7 @@ some_there (Some x) h = (x, refl)
 module _ (fronts : Fronts) (legals : Legals) (theirs : TheirObjects) (first : First) (stay : Stay) (use_up : UseUp) (begins : Begins) (works : Works)
     (cuts : Cuts) (biased_law : Biased) (plain_law : Plain)
     (s : Settings) (p : ProgramText) (r : RunRecord) (c : ClosedSeen) (is : IsProgram p) (few : s.fuel ≤ most_fuel)
-    (ran : HasRun (heap_for s p) p s.fuel s.tick c) (of : IsRecordOf s p r) (copy : IsOfClosed r c) where
+    (ran : IsRunOutcome (heap_for s p) p s.fuel s.tick c) (of : IsRecordOf s p r) (copy : IsOfClosed r c) where
   abbrev heap : Heap
   heap = heap_for s p
 
@@ -130,9 +131,9 @@ module _ (fronts : Fronts) (legals : Legals) (theirs : TheirObjects) (first : Fi
   class_told o k class within =
       let same : numbering heap.shape ≡ numbering_of r.program = numbering_for s p is ∙ ap numbering_of (sym of.program) in
       let logs : logs_in ran.biases.knowns ≡ r.logs = sym ran.biases.logs ∙ sym copy.logs in
-      let told = first_some (λ (made : List (List ℕ)). class_of (numbering heap.shape) made o)
+      let told = first_some (λ (made : List (List ℕ)). class_if_there (numbering heap.shape) made o)
       (made_after (numbering heap.shape) (logs_in ran.biases.knowns)) k
-      ((λ i. option_and_then (λ (made : List (List ℕ)). class_of (same i) made o) (made_after (same i) (logs i))) ∙ class) in (
+      ((λ i. option_and_then (λ (made : List (List ℕ)). class_if_there (same i) made o) (made_after (same i) (logs i))) ∙ class) in (
         ran.biases.biases.class_is o within ∙ class_at_end heap c.words ran.biases.knowns ran.biases.end told.0 told.1 o k told.2 within,
         ap (λ (x : List (List Logged)). is_logged heap.shape x o) ran.biases.logs
             ∙ logged_at_end heap c.words ran.biases.knowns ran.biases.end told.0 told.1 o k told.2,
@@ -202,11 +203,11 @@ module _ (fronts : Fronts) (legals : Legals) (theirs : TheirObjects) (first : Fi
         logs = ap (λ (x : List (List Logged)). length x) copy.logs ∙ ran.followed.count;
         shots =
             ap (λ (x : List (List Shot)). length x) copy.shots ∙ length-map c.shots shots_left
-            ∙ ap (λ (x : List (List DumpShot)). length x) ran.biases.shots ∙ length-map ran.biases.knowns (λ (k : Known). k.shots) ∙ ran.biases.end.all;
+            ∙ ap (λ (x : List (List DumpShot)). length x) ran.biases.shots ∙ length-map ran.biases.knowns (λ (k : ThreadView). k.shots) ∙ ran.biases.end.all;
         classes = ap (λ (x : List ClassLine). length x) lines_are ∙ lines_many c (length p.classes);
       }
 
-  biases : HasBiases s.tick r c
+  biases : RecordObeysBiasLaw s.tick r c
   biases =
       record {
         stays = λ o. subst (λ (x : List (List Logged)). EndsStay (entries_on o (order x))) (sym copy.logs) (ran.biases.biases.biases.stays o);
@@ -241,7 +242,8 @@ module _ (fronts : Fronts) (legals : Legals) (theirs : TheirObjects) (first : Fi
         legal = subst (IsLegal p s.fuel) (sym copy.logs) legal;
         over = over;
         shots = shots;
-        hashes = λ o. subst (λ (x : List (List Logged)). hash_fits s.start (order x) o ≡ true) (sym copy.logs) (legal_hashes_fit p s.fuel s.start c.logs legal ran.draws o);
+        hashes = λ o. subst (λ (x : List (List Logged)). hash_fits s.start (order x) o ≡ true)
+            (sym copy.logs) (legal_hashes_fit p s.fuel s.start c.logs legal ran.draws o);
         first = subst DrawsComeFirst (sym copy.logs) ran.draws.first;
         stamps = subst StampsAreExact (sym copy.logs) ran.stamps;
         biases = biases;

@@ -1,5 +1,6 @@
 -- How many verdicts the lines of a record tell, against the entries that were logged.
-use Rattle.std.proofs.Common.{◌≡◌, ℕ, zero, suc, ◌+◌, ◌*◌, ◌<◌, ◌≤◌, Bool, true, false, if◌then◌else◌, List, [], ◌∷◌, length, drop, map, Some, refl, ap, ◌∙◌, subst, arith}
+use Rattle.std.proofs.Common.{◌≡◌, ℕ, zero, suc, ◌+◌, ◌*◌, ◌<◌, ◌≤◌, Bool, true, false, if◌then◌else◌}
+use Rattle.std.proofs.Common.{List, [], ◌∷◌, length, drop, map, Some, refl, ap, ◌∙◌, subst, arith}
 use Rattle.std.specs.Prelude.{nat_le, slice_get, slice_index_or}
 use Rattle.std.specs.List.{AllByRecursion, sum_by}
 use Rattle.std.proofs.lemmas.Bool.Decides.{nat_tests}
@@ -7,7 +8,7 @@ use Rattle.std.proofs.lemmas.List.Sums.{sum_by-cons}
 use Rattle.lock_policy.specs.Policy.{rebias_threshold, revoke_threshold}
 use Rattle.core_law.specs.CountsAndVerdicts.{sum_below, verdicts_on}
 use Rattle.core_world.specs.Threads.Counts.{CountedVerdict, counts_of}
-use Rattle.core_world.specs.Threads.Known.{Known}
+use Rattle.core_world.specs.Threads.ThreadView.{ThreadView}
 use Rattle.core_world.specs.Threads.Stages.{one_if}
 use Rattle.heap_table.specs.BiasesAtEnd.{counted_by}
 use Rattle.heap_table.specs.declared.counts.ClassCounts.{ClassCounts}
@@ -19,7 +20,7 @@ use Rattle.plain_monitor.specs.declared.entry.Logged.{Logged}
 use Rattle.plain_monitor.specs.History.{log_of}
 use Rattle.run_rounds.specs.Outcome.{verdicts_beyond}
 use Rattle.program_run.specs.Biases as biases
-use Rattle.program_run.specs.Biases.{HasBiases}
+use Rattle.program_run.specs.Biases.{RecordObeysBiasLaw}
 use Rattle.program_run.specs.Lines.{counts_on, total_on}
 use Rattle.program_run.specs.Verdicts.{IsSum, entries_in, most_verdicts, verdicts_by}
 use Rattle.program_run.proofs.Counted.{sum_front}
@@ -28,8 +29,8 @@ use Rattle.program_run.proofs.Counted.{sum_front}
 abbrev number_of : ClassCounts → ℕ
 number_of n = n.single + n.rebias + n.revoke
 
-pub shown_by : (classes : ℕ) (ks : List Known) (t : ℕ) → t < length ks
-    → slice_index_or (map (λ (x : Known). counts_shown 0 classes x.counts) ks) t [] ≡ counts_shown 0 classes (counted_by ks t)
+pub shown_by : (classes : ℕ) (ks : List ThreadView) (t : ℕ) → t < length ks
+    → slice_index_or (map (λ (x : ThreadView). counts_shown 0 classes x.counts) ks) t [] ≡ counts_shown 0 classes (counted_by ks t)
 shown_by classes [] t here = absurd (omega (arith, here))
 shown_by classes (k ∷ ks) zero here = refl
 shown_by classes (k ∷ ks) (suc t) here = shown_by classes ks t (omega (arith, here))
@@ -57,7 +58,7 @@ shown_few classes vs =
     (λ d. subst (λ (k : ℕ). verdicts_on (counts_of vs k) ≤ verdicts_on (counts_of vs d)) (omega arith) (le_self (verdicts_on (counts_of vs d))))
 
 -- THE LINES OF CLASSES
--- the verdicts that a thread counted on class i and on those behind it
+-- the verdicts that a thread counted on class i and on those after it
 own_split : (own : List ClassCounts) (i : ℕ) → number_of (counts_on own i) + verdicts_by (drop (suc i) own) ≡ verdicts_by (drop i own)
 own_split [] zero = refl
 own_split [] (suc i) = refl
@@ -153,7 +154,7 @@ none_revoked (line ∷ lines) each low =
     (here.revoked ∙ ap one_if below, none_revoked lines (λ k l e. each (suc k) l e) (omega (arith, verdicts, low)))
 
 -- RECORDS
-module _ {tick : ℕ} (r : RunRecord) (c : ClosedSeen) (has : HasBiases tick r c) where
+module _ {tick : ℕ} (r : RunRecord) (c : ClosedSeen) (has : RecordObeysBiasLaw tick r c) where
   pub all_few : sum_by biases.verdicts_on r.classes ≤ most_verdicts r
   all_few =
       let lines = lines_few c.counts 0 r.classes

@@ -1,5 +1,6 @@
 -- What the law of biases says of a run, by its record.
-use Rattle.std.specs.Prelude.{◌≡◌, ◌⊎◌, ℕ, ◌+◌, ◌*◌, ◌%◌, ◌==◌, ◌&&◌, ◌≤◌, min, nat_le, if◌then◌else◌, Bool, true, false, [], length, slice_get, slice_index_or, Option, Some, option_and_then}
+use Rattle.std.specs.Prelude.{◌≡◌, ◌⊎◌, ℕ, ◌+◌, ◌*◌, ◌%◌, ◌==◌, ◌&&◌, ◌≤◌, min, nat_le, if◌then◌else◌, Bool, true}
+use Rattle.std.specs.Prelude.{false, [], length, slice_get, slice_index_or, Option, Some, option_and_then}
 use Rattle.std.specs.List.{AllByRecursion, list_any}
 use Rattle.lock_policy.specs.Policy.{rebias_threshold, revoke_threshold, most_revocations}
 use Rattle.core_law.specs.CountsAndVerdicts.{CountFits}
@@ -14,15 +15,15 @@ use Rattle.plain_history.specs.HeldByLog.{nothing_held}
 use Rattle.plain_monitor.specs.declared.entry.Path.{Path}
 use Rattle.plain_monitor.specs.declared.entry.Path.TheVariants.{BiasTaken}
 use Rattle.plain_monitor.specs.History.{log_of}
-use Rattle.plain_monitor.specs.Made.{class_of, made_after}
+use Rattle.plain_monitor.specs.Made.{class_if_there, made_after}
 use Rattle.plain_monitor.specs.Order.{order}
 use Rattle.run_rounds.specs.Outcome.{verdicts_beyond}
 use Rattle.program_run.specs.Lines.{total_on}
 use Rattle.program_run.specs.Verdicts.{IsSum, verdicts_by}
 
--- the class of object o, where it is there behind all entries: that of its declaration, or of the New that made it
+-- the class of object o, where it is there after all entries: that of its declaration, or of the New that made it
 abbrev pub class_in : RunRecord → ℕ → Option ℕ
-class_in r o = option_and_then (λ made. class_of (numbering_of r.program) made o) (made_after (numbering_of r.program) r.logs)
+class_in r o = option_and_then (λ made. class_if_there (numbering_of r.program) made o) (made_after (numbering_of r.program) r.logs)
 
 -- the class with this line wasn't revoked in bulk
 abbrev pub IsUnrevoked : RunRecord → ℕ → Type 0
@@ -52,7 +53,7 @@ IsIdle line = (line.single ≡ 0) × (line.rebias ≡ 0) × (line.revoke ≡ 0) 
 abbrev pub prototype_by : Bool → ClassLine → ℕ
 prototype_by bias line = if bias && (line.revoke == 0) then line.rebias % 4 * 256 + 5 else 1
 
-pub record HasBiases (tick : ℕ) (r : RunRecord) (c : ClosedSeen) : Type 0 where
+pub record RecordObeysBiasLaw (tick : ℕ) (r : RunRecord) (c : ClosedSeen) : Type 0 where
   -- in the order of all logs no Enter with a bias path stands after one of its object with another path, or after a Wait,
   -- Notify or NotifyAll of it
   pub stays : (o : ℕ) → EndsStay (entries_on o (order r.logs))

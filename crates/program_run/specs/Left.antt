@@ -1,6 +1,6 @@
 -- What the record of a run has of the heap that the run left.
 use Rattle.std.specs.Prelude.{◌≡◌, ℕ, List, map, Option}
-use Rattle.core_world.specs.Threads.Known.{DumpShot}
+use Rattle.core_world.specs.Threads.ThreadView.{DumpShot}
 use Rattle.heap_table.specs.Seen.{ClosedSeen}
 use Rattle.lock_journal.specs.declared.record.Cell.{Cell}
 use Rattle.lock_journal.specs.declared.record.RunRecord.{RunRecord}

@@ -1,7 +1,7 @@
 -- What happened to the biases of each class, by what a heap has at its end.
 use Rattle.std.specs.Prelude.{ℕ, zero, suc, List, [], ◌∷◌, ◌++◌, slice_index, slice_index_or}
 use Rattle.std.specs.List.{sum_by}
-use Rattle.core_world.specs.declared.name.Name.TheVariants.{Prototype, Revocations}
+use Rattle.core_world.specs.declared.word_id.WordId.TheVariants.{Prototype, Revocations}
 use Rattle.heap_table.specs.declared.counts.ClassCounts.{ClassCounts}
 use Rattle.heap_table.specs.Layout.{place_of}
 use Rattle.heap_table.specs.Seen.{ClosedSeen}

@@ -6,7 +6,7 @@ use Rattle.lock_journal.specs.Hashes.{hash_fits}
 use Rattle.lock_journal.specs.RunText.{printed, text_of_lines, thread_lines}
 use Rattle.lock_journal.specs.declared.record.RunRecord.{RunRecord}
 use Rattle.lock_journal.specs.declared.record.Shot.{Shot}
-use Rattle.lone_logs.specs.LoneRun.{with_no_paths, NoneGoesOn}
+use Rattle.single_thread_law.specs.LoneRun.{with_no_paths, NoneGoesOn}
 use Rattle.object_program.specs.Program.{ProgramText}
 use Rattle.plain_history.specs.ExactStamps.{StampsAreExact}
 use Rattle.plain_history.specs.FirstDraws.{DrawsComeFirst}
@@ -18,7 +18,7 @@ use Rattle.program_run.specs.declared.settings.Settings.{Settings}
 use Rattle.program_run.specs.Ran.{IsRan}
 use Rattle.program_run.specs.Shots.{AreRightShots}
 
--- The logs have one path for all enters. The plain machine takes them, and this is the machine behind them, which is over; the hashes fit
+-- The logs have one path for all enters. The plain machine takes them, and this is the machine after them, which is over; the hashes fit
 -- the threads' generators, the dumps' shots are right, and the stamps are exact.
 pub record IsPlainRun (p : ProgramText) (fuel start : ℕ) (logs : List (List Logged)) (shots : List (List Shot))
     (m : PlainMachine) : Type 0 where

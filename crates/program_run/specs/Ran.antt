@@ -11,7 +11,7 @@ use Rattle.plain_machine.specs.Machine.{PlainMachine}
 use Rattle.plain_monitor.specs.Order.{order}
 use Rattle.run_rounds.specs.Outcome.{IsOver}
 use Rattle.program_run.specs.declared.settings.Settings.{Settings}
-use Rattle.program_run.specs.Biases.{HasBiases}
+use Rattle.program_run.specs.Biases.{RecordObeysBiasLaw}
 use Rattle.program_run.specs.HeapFor.{heap_for}
 use Rattle.program_run.specs.Left.{IsOfClosed}
 use Rattle.program_run.specs.Shots.{AreRightShots}
@@ -30,7 +30,7 @@ pub record HasAll (p : ProgramText) (r : RunRecord) : Type 0 where
   pub classes : length r.classes ≡ length p.classes
 
 -- The record is of this program and of this heap, which is the program's. The plain machine takes its logs, and is over
--- behind them, as the halt says; the hashes fit the threads' generators, the dumps' shots are right, the stamps are exact,
+-- after them, as the halt says; the hashes fit the threads' generators, the dumps' shots are right, the stamps are exact,
 -- and the law of biases holds.
 pub record IsRan (s : Settings) (p : ProgramText) (r : RunRecord) (c : ClosedSeen) : Type 0 where
   pub of : IsRecordOf s p r
@@ -46,4 +46,4 @@ pub record IsRan (s : Settings) (p : ProgramText) (r : RunRecord) (c : ClosedSee
   -- an entry that takes an object is stamped one above the greater of the last stamp of its log and the last one below its own
   -- with which a thread let go of the object, and every other entry has the next stamp of its log
   pub stamps : StampsAreExact r.logs
-  pub biases : HasBiases s.tick r c
+  pub biases : RecordObeysBiasLaw s.tick r c

@@ -10,7 +10,7 @@ ghost use Rattle.object_program.specs.Program.{ProgramText};
 ghost use Rattle.object_program.specs.Valid.{IsProgram};
 ghost use Rattle.plain_machine.specs.Legal.{machine_after};
 ghost use Rattle.plain_machine.specs.Machine.{PlainMachine};
-ghost use Rattle.run_rounds.specs.Outcome.{HasRun};
+ghost use Rattle.run_rounds.specs.Outcome.{IsRunOutcome};
 ghost use Rattle.thread_logs.specs.Passed.{IsOnTheWay};
 ghost use Rattle.program_run.specs.declared.settings.Settings.{Settings};
 ghost use Rattle.program_run.specs.HeapFor.{heap_for};
@@ -23,9 +23,9 @@ ghost use Rattle.program_run.specs.Shots.{shots_of};
 pub fn the_record_tells_the_run()
     ensures record { (s : Settings) (p : ProgramText) (r : RunRecord) (c : ClosedSeen) → IsProgram p
         → s.fuel ≤ most_fuel
-        → HasRun (heap_for s p) p s.fuel s.tick c → IsRecordOf s p r → IsOfClosed r c → IsRan s p r c }
+        → IsRunOutcome (heap_for s p) p s.fuel s.tick c → IsRecordOf s p r → IsOfClosed r c → IsRan s p r c }
     ensures small { (s : Settings) (p : ProgramText) (c : ClosedSeen)
-        → HasRun (heap_for s p) p s.fuel s.tick c → HasSmallCounts c }
+        → IsRunOutcome (heap_for s p) p s.fuel s.tick c → HasSmallCounts c }
 {
     thread_logs::logs_that_follow_the_code_are_legal();
     thread_logs::the_machine_is_what_the_logs_make_it();
@@ -33,8 +33,8 @@ pub fn the_record_tells_the_run()
     thread_logs::threads_stay_theirs();
     machine_laws::machines_stay_reached();
     machine_laws::each_entry_uses_up_work();
-    run_ends::the_end_of_a_heap_tells_its_run();
-    run_ends::the_end_of_a_heap_tells_its_prototypes();
+    closed_heap_laws::the_end_of_a_heap_tells_its_run();
+    closed_heap_laws::the_end_of_a_heap_tells_its_prototypes();
 }
 
 /// A dump shows a state that the run passes through. What it has of each object is the owner and the count in the

@@ -5,7 +5,7 @@ ghost use Rattle.heap_table.specs.Seen.{ClosedSeen};
 ghost use Rattle.lock_journal.specs.RunText.{text_of_run};
 ghost use Rattle.lock_journal.specs.declared.record.RunRecord.{RunRecord};
 ghost use Rattle.lock_journal.specs.declared.record.Shot.{Shot};
-ghost use Rattle.lone_logs.specs.LoneRun.{with_no_paths};
+ghost use Rattle.single_thread_law.specs.LoneRun.{with_no_paths};
 ghost use Rattle.object_program.specs.Program.{ProgramText};
 ghost use Rattle.plain_machine.specs.Legal.{machine_after};
 ghost use Rattle.plain_machine.specs.Machine.{PlainMachine};

@@ -12,7 +12,7 @@ ghost use Rattle.plain_monitor.specs.declared.entry.Path.TheVariants.{BiasOwn, B
 ghost use Rattle.plain_monitor.specs.declared.entry.Logged.{Logged};
 ghost use Rattle.plain_monitor.specs.History.{log_of};
 ghost use Rattle.plain_monitor.specs.Order.{is_before};
-ghost use Rattle.program_run.specs.Biases.{HasBiases, class_in};
+ghost use Rattle.program_run.specs.Biases.{RecordObeysBiasLaw, class_in};
 ghost use Rattle.program_run.specs.Shots.{AreRightShots, shots_of};
 
 /// A thread takes the bias of an object and lets go of it, and another one, which never took it, enters the object by a bias of its own.
@@ -20,7 +20,7 @@ pub fn no_record_with_a_bias_from_nowhere()
     ensures { (tick : ℕ) (r : RunRecord) (c : ClosedSeen)
         → r.logs ≡ (record { stamp = 1; entry = Enter 0 BiasTaken } ∷ record { stamp = 2; entry = Exit 0 } ∷ [])
         ∷ (record { stamp = 3; entry = Enter 0 BiasOwn } ∷ []) ∷ []
-        → HasBiases tick r c → ⊥ }
+        → RecordObeysBiasLaw tick r c → ⊥ }
 {}
 
 /// Two threads take the bias of an object, one after the other, and its class was never rebiased in bulk.
@@ -29,7 +29,7 @@ pub fn no_record_with_a_bias_that_wanders()
         → r.logs ≡ (record { stamp = 1; entry = Enter 0 BiasTaken } ∷ record { stamp = 2; entry = Exit 0 } ∷ [])
         ∷ (record { stamp = 3; entry = Enter 0 BiasTaken } ∷ []) ∷ []
         → class_in r 0 ≡ Some k → slice_get r.classes k ≡ Some line → line.rebias ≡ 0
-        → HasBiases tick r c → ⊥ }
+        → RecordObeysBiasLaw tick r c → ⊥ }
 {}
 
 /// A dump leaves out an entry of thread v, as it cuts that log, though the entry stands before one of thread u that the dump has, and is tied to

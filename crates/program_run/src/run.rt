@@ -2,7 +2,7 @@
 
 ghost use Rattle.std.specs.Prelude.{◌≤◌, IfOk};
 ghost use Rattle.plain_monitor.specs.Limits.{most_fuel};
-ghost use Rattle.run_rounds.specs.Outcome.{HasRun};
+ghost use Rattle.run_rounds.specs.Outcome.{IsRunOutcome};
 ghost use Rattle.program_run.specs.HeapFor.{heap_for};
 ghost use Rattle.program_run.specs.Ran.{IsRan};
 
@@ -62,7 +62,8 @@ fn run_closed<R: Threads + Wait + Sync, C: Clock + Sync, G: Gate + Sync>(
     requires fuel { settings.now.fuel ≤ most_fuel }
     requires workers { 1 ≤ settings.now.workers }
     requires quantum { 1 ≤ settings.now.quantum }
-    ensures { IfOk result (HasRun (heap_for settings.now program.now) program.now settings.now.fuel settings.now.tick) }
+    ensures { IfOk result (IsRunOutcome (heap_for settings.now program.now) program.now
+        settings.now.fuel settings.now.tick) }
 {
     let (heap, runners) = open(alloc, program, settings)?;
     run_rounds::run(

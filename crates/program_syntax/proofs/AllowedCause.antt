@@ -1,5 +1,6 @@
 -- What a line without a cause of refusal has: operands that pass each test, room, and its place.
-use Rattle.std.proofs.Common.{◌≡◌, ℕ, zero, suc, Bool, true, false, ◌==◌, if◌then◌else◌, List, [], ◌∷◌, length, slice_get, refl, subst, Option, Some, None, IsTrue, eqb-true}
+use Rattle.std.proofs.Common.{◌≡◌, ℕ, zero, suc, Bool, true, false, ◌==◌, if◌then◌else◌, List, [], ◌∷◌}
+use Rattle.std.proofs.Common.{length, slice_get, refl, subst, Option, Some, None, IsTrue, eqb-true}
 use Rattle.std.proofs.lemmas.Bool.{or_parts, not-false}
 use Rattle.object_program.specs.Name.{is_name}
 use Rattle.program_syntax.specs.Number.{number_of, is_within}
@@ -8,9 +9,10 @@ use Rattle.program_syntax.specs.Line.{operands_of}
 use Rattle.program_syntax.specs.declared.operand.Operand.{Operand}
 use Rattle.program_syntax.specs.declared.operand.Operand.TheVariants.{New, Known, Number}
 use Rattle.program_syntax.specs.Reading.{Before, operand}
-use Rattle.program_syntax.specs.Refusal.{names_before, names_known, is_bad_name, is_twice, is_undeclared, is_bad_number, some_operand, passes_limit, opens_unclosed, is_in_place, keyword_cause}
+use Rattle.program_syntax.specs.Refusal.{names_before, names_known, is_bad_name, is_twice, is_undeclared, is_bad_number}
+use Rattle.program_syntax.specs.Refusal.{some_operand, passes_limit, opens_unclosed, is_in_place, keyword_cause}
 use Rattle.program_syntax.specs.declared.keyword.Keyword.{Keyword}
-use Rattle.program_syntax.specs.declared.error.Why.{Why}
+use Rattle.program_syntax.specs.declared.error.RefusalCause.{RefusalCause}
 
 -- the operand passes each test
 abbrev pub IsFine : Before → List (List ℕ) → Operand → List ℕ → Type 0
@@ -35,7 +37,7 @@ pub record HasNoCause (b : Before) (later : List (List ℕ)) (ws : List (List �
   pub closed : opens_unclosed later k ≡ false
 
 -- a test that finds no cause fails, and the next is asked
-cond_none : (t : Bool) (w : Why) (o : Option Why) → (if t then Some w else o) ≡ None → (t ≡ false) × (o ≡ None)
+cond_none : (t : Bool) (w : RefusalCause) (o : Option RefusalCause) → (if t then Some w else o) ≡ None → (t ≡ false) × (o ≡ None)
 cond_none true w o h = absurd (cc h)
 cond_none false w o h = (refl, h)
 

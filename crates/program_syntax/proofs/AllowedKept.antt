@@ -1,5 +1,6 @@
 -- A line without a cause keeps what holds of the lines so far.
-use Rattle.std.proofs.Common.{◌≡◌, ℕ, ◌+◌, ◌<◌, ◌≤◌, Bool, true, false, List, [], ◌∷◌, ◌++◌, length, map, slice_get, refl, sym, subst, arith, Option, Some, None, IsTrue, leb-false, ltb-false, append_assoc, append-nil}
+use Rattle.std.proofs.Common.{◌≡◌, ℕ, ◌+◌, ◌<◌, ◌≤◌, Bool, true, false, List, [], ◌∷◌, ◌++◌, length, map, slice_get, refl, sym}
+use Rattle.std.proofs.Common.{subst, arith, Option, Some, None, IsTrue, leb-false, ltb-false, append_assoc, append-nil}
 use Rattle.std.specs.List.{AllByRecursion}
 use Rattle.std.proofs.lemmas.Bool.{not-false}
 use Rattle.std.proofs.lemmas.List.{length-map, length_push}
@@ -10,7 +11,7 @@ use Rattle.object_program.specs.Valid.{is_among, AreObjects, IsInstruction, IsTh
 use Rattle.program_syntax.specs.Line.{operands_of}
 use Rattle.program_syntax.specs.declared.operand.Space.TheVariants.{Classes, Objects, Threads, Locals}
 use Rattle.program_syntax.specs.declared.operand.Operand.TheVariants.{New, Known}
-use Rattle.program_syntax.specs.Reading.{Before, operand, count_at, class_at, labels_ahead, section_labels, instruction_on, declared_objects, behind_keyword}
+use Rattle.program_syntax.specs.Reading.{Before, operand, count_at, class_at, labels_ahead, section_labels, instruction_on, declared_objects, after_keyword}
 use Rattle.object_program.specs.declared.program.ClassDef.{ClassDef}
 use Rattle.object_program.specs.declared.program.ObjectDef.{ObjectDef}
 use Rattle.object_program.specs.declared.program.LabelDef.{LabelDef}
@@ -25,7 +26,8 @@ use Rattle.program_syntax.proofs.AllowedNames.{AreNames-push, AreNames-push_map,
 use Rattle.program_syntax.proofs.AllowedLabels.{AreTargets-more, AreTargets-push}
 use Rattle.program_syntax.proofs.AllowedCause.{HasNoCause, AreFine, operand_fine}
 use Rattle.program_syntax.proofs.AllowedOperands.{count_between, in_thread, instruction_fine}
-use Rattle.program_syntax.proofs.AllowedParts.{IsAllowedText, Ahead, ahead_of, ahead_with, IsOpenCode, IsOpen, IsOpenIn, IsSection, IsAllowedSoFar, IsOpenCode-more, IsThread-more, AreObjects-more, AreObjects-push, total_of-push, EndsOnce-push}
+use Rattle.program_syntax.proofs.AllowedParts.{IsAllowedText, Ahead, ahead_of, ahead_with, IsOpenCode, IsOpen, IsOpenIn, IsSection, IsAllowedSoFar}
+use Rattle.program_syntax.proofs.AllowedParts.{IsOpenCode-more, IsThread-more, AreObjects-more, AreObjects-push, total_of-push, EndsOnce-push}
 
 -- a class
 IsAllowedText-class : (p : ProgramText) (c : ClassDef) → IsAllowedText p → IsTrue (is_name c.name) → is_among (map (λ d. d.name) p.classes) c.name ≡ false
@@ -46,7 +48,8 @@ IsAllowedText-class p c h name new slots room =
 
 -- a declaration of objects
 IsAllowedText-object : (p : ProgramText) (d : ObjectDef) → IsAllowedText p → IsTrue (is_name d.name) → is_among (map (λ e. e.name) p.objects) d.name ≡ false
-    → AreObjects (length p.classes) (total_of p.objects) (d ∷ []) → total_of p.objects + d.size ≤ most_objects → IsAllowedText (record p { objects = p.objects ++ d ∷ [] })
+    → AreObjects (length p.classes) (total_of p.objects) (d ∷ [])
+    → total_of p.objects + d.size ≤ most_objects → IsAllowedText (record p { objects = p.objects ++ d ∷ [] })
 IsAllowedText-object p d h name new here room =
     let one : length (p.objects ++ d ∷ []) ≡ length p.objects + 1 = length_push p.objects d in
     record {
@@ -61,7 +64,7 @@ IsAllowedText-object p d h name new here room =
       threads_few = h.threads_few;
     }
 
--- no label stands behind a section's `end`
+-- no label stands after a section's `end`
 abbrev at_end : Ahead
 at_end = record { labels = λ n. []; closed = true }
 
@@ -123,7 +126,7 @@ IsOpen-local classes objects names ahead t name o here new room =
 abbrev at_label : List ℕ → List (List ℕ) → Ahead
 at_label name later = record (ahead_of later) { labels = λ n. record { name = name; index = n } ∷ [] ++ labels_ahead n later }
 
--- a label of an open section, for the instruction behind it
+-- a label of an open section, for the instruction after it
 IsOpen-label : (classes objects : ℕ) (names : List (List ℕ)) (later : List (List ℕ)) (t : ThreadDef) (name : List ℕ)
     → IsOpen classes objects names (at_label name later) t → IsTrue (is_name name) → is_among (map (λ l. l.name) t.labels) name ≡ false
     → IsOpen classes objects names (ahead_of later) (record t { labels = t.labels ++ record { name = name; index = length t.code + 1 } ∷ [] })
@@ -143,7 +146,7 @@ IsOpen-label classes objects names later t name o here new =
       closed = o.closed;
     }
 
--- before an instruction's line the labels ahead are those behind it
+-- before an instruction's line the labels ahead are those after it
 abbrev at_code : List (List ℕ) → Ahead
 at_code later = record (ahead_of later) { labels = λ n. labels_ahead (n + 1) later }
 
@@ -155,7 +158,7 @@ IsOpen-code classes objects names later t c o here =
     let one : length (t.code ++ c ∷ []) ≡ length t.code + 1 = length_push t.code c in
     let IsAll : List Code → ℕ → Type 0 = λ cs n. AllByRecursion (IsOpenCode classes (length t.locals) objects (t.labels ++ labels_ahead n later)) cs in
     let before : length t.code + 1 + 1 ≡ length t.code + 2 = omega arith in
-    let behind : length t.code + 2 ≡ length (t.code ++ c ∷ []) + 1 = omega arith in
+    let after : length t.code + 2 ≡ length (t.code ++ c ∷ []) + 1 = omega arith in
     let all : IsAll t.code (length t.code + 2) = subst (IsAll t.code) before o.code in
     record {
       name = o.name;
@@ -165,7 +168,7 @@ IsOpen-code classes objects names later t c o here =
       locals_few = o.locals_few;
       labels = o.labels;
       targets = AreTargets-more _ _ 1 (omega arith) t.labels o.targets;
-      code = subst (IsAll (t.code ++ c ∷ [])) behind (all_push _ t.code c all here);
+      code = subst (IsAll (t.code ++ c ∷ [])) after (all_push _ t.code c all here);
       closed = o.closed;
     }
 
@@ -174,7 +177,7 @@ abbrev outside : ProgramText → Before
 outside p = record { text = p; section = None }
 
 class_kept : (p : ProgramText) (later ws : List (List ℕ)) → IsAllowedText p → HasNoCause (outside p) later ws Class
-    → IsAllowedSoFar (behind_keyword (outside p) later ws Class) (ahead_of later)
+    → IsAllowedSoFar (after_keyword (outside p) later ws Class) (ahead_of later)
 class_kept p later ws h n =
     let name = operand_fine (outside p) later (operands_of Class) ws 0 (New Classes) refl n.operands in
     let number = operand_fine (outside p) later (operands_of Class) ws 1 _ refl n.operands in
@@ -196,14 +199,14 @@ objects_kept p later ws k size array h first second operands some one room =
     IsAllowedText-object p (declared_objects p ws size array) h name.0 name.1 ((below, refl, some, one), tt) room
 
 object_kept : (p : ProgramText) (later ws : List (List ℕ)) → IsAllowedText p → HasNoCause (outside p) later ws Object
-    → IsAllowedSoFar (behind_keyword (outside p) later ws Object) (ahead_of later)
+    → IsAllowedSoFar (after_keyword (outside p) later ws Object) (ahead_of later)
 object_kept p later ws h n = record {
   text = objects_kept p later ws Object 1 false h refl refl n.operands (omega arith) (λ _. refl) (ltb-false _ _ n.limit);
   section = tt;
 }
 
 array_kept : (p : ProgramText) (later ws : List (List ℕ)) → IsAllowedText p → HasNoCause (outside p) later ws Array
-    → IsAllowedSoFar (behind_keyword (outside p) later ws Array) (ahead_of later)
+    → IsAllowedSoFar (after_keyword (outside p) later ws Array) (ahead_of later)
 array_kept p later ws h n =
     let size = count_between 1 most_objects ws 2 (operand_fine (outside p) later (operands_of Array) ws 2 _ refl n.operands) in
     record {
@@ -212,7 +215,7 @@ array_kept p later ws h n =
     }
 
 thread_kept : (p : ProgramText) (later ws : List (List ℕ)) → IsAllowedText p → HasNoCause (outside p) later ws Thread
-    → IsAllowedSoFar (behind_keyword (outside p) later ws Thread) (ahead_of later)
+    → IsAllowedSoFar (after_keyword (outside p) later ws Thread) (ahead_of later)
 thread_kept p later ws h n =
     let name = operand_fine (outside p) later (operands_of Thread) ws 0 (New Threads) refl n.operands in
     let room : length (map (λ t. t.name) p.threads) < most_threads = rw length-map (leb-false _ _ n.limit) in
@@ -232,7 +235,7 @@ thread_kept p later ws h n =
     }
 
 local_kept : (p : ProgramText) (t : ThreadDef) (later ws : List (List ℕ)) → IsAllowedText p → IsOpenIn p (ahead_of later) t
-    → HasNoCause (in_thread p t) later ws Local → IsAllowedSoFar (behind_keyword (in_thread p t) later ws Local) (ahead_of later)
+    → HasNoCause (in_thread p t) later ws Local → IsAllowedSoFar (after_keyword (in_thread p t) later ws Local) (ahead_of later)
 local_kept p t later ws h o n =
     let name = operand_fine (in_thread p t) later (operands_of Local) ws 0 (New Locals) refl n.operands in
     record { text = h; section = IsOpen-local _ _ _ _ t (operand ws 0) o name.0 name.1 (leb-false _ _ n.limit) }
@@ -240,7 +243,7 @@ local_kept p t later ws h o n =
 -- the label of a line is the one that the lines before it had ahead
 label_kept : (p : ProgramText) (t : ThreadDef) (later : List (List ℕ)) (w : List ℕ) (ws : List (List ℕ)) → IsAllowedText p
     → IsOpenIn p (ahead_with (w ∷ ws) (Some Label) later) t → HasNoCause (in_thread p t) later ws Label
-    → IsAllowedSoFar (behind_keyword (in_thread p t) later ws Label) (ahead_of later)
+    → IsAllowedSoFar (after_keyword (in_thread p t) later ws Label) (ahead_of later)
 label_kept p t later w [] h o n = absurd n.operands
 label_kept p t later w (l ∷ m ∷ ws) h o n = absurd n.operands.1
 label_kept p t later w (l ∷ []) h o n =
@@ -251,7 +254,7 @@ label_kept p t later w (l ∷ []) h o n =
 -- a line of an open section
 section_kept : (p : ProgramText) (t : ThreadDef) (later : List (List ℕ)) (w : List ℕ) (ws : List (List ℕ)) (k : Keyword) → IsAllowedText p
     → IsOpenIn p (ahead_with (w ∷ ws) (Some k) later) t → HasNoCause (in_thread p t) later ws k
-    → IsAllowedSoFar (behind_keyword (in_thread p t) later ws k) (ahead_of later)
+    → IsAllowedSoFar (after_keyword (in_thread p t) later ws k) (ahead_of later)
 section_kept p t later w ws Class h o n = absurd (cc o.closed)
 section_kept p t later w ws Object h o n = absurd (cc o.closed)
 section_kept p t later w ws Array h o n = absurd (cc o.closed)
@@ -266,7 +269,7 @@ section_kept p t later w ws k h o n =
 
 -- a line outside sections
 outside_kept : (p : ProgramText) (later ws : List (List ℕ)) (k : Keyword) → IsAllowedText p → HasNoCause (outside p) later ws k
-    → IsAllowedSoFar (behind_keyword (outside p) later ws k) (ahead_of later)
+    → IsAllowedSoFar (after_keyword (outside p) later ws k) (ahead_of later)
 outside_kept p later ws Class h n = class_kept p later ws h n
 outside_kept p later ws Object h n = object_kept p later ws h n
 outside_kept p later ws Array h n = array_kept p later ws h n
@@ -275,6 +278,6 @@ outside_kept p later ws k h n = absurd (cc n.place)
 
 pub line_kept : (p : ProgramText) (s : Option ThreadDef) (later : List (List ℕ)) (w : List ℕ) (ws : List (List ℕ)) (k : Keyword) → IsAllowedText p
     → IsSection p (ahead_with (w ∷ ws) (Some k) later) s → HasNoCause (record { text = p; section = s }) later ws k
-    → IsAllowedSoFar (behind_keyword (record { text = p; section = s }) later ws k) (ahead_of later)
+    → IsAllowedSoFar (after_keyword (record { text = p; section = s }) later ws k) (ahead_of later)
 line_kept p None later w ws k h o n = outside_kept p later ws k h n
 line_kept p (Some t) later w ws k h o n = section_kept p t later w ws k h o n

@@ -11,8 +11,8 @@ target_among_at l ls name true e among ih =
     let here : target_among (l ∷ ls) name ≡ l.index = rw e refl in
     or_left _ _ (eq-eqb _ _ (sym here))
 target_among_at l ls name false e among ih =
-    let behind : target_among ls name ≡ target_among (l ∷ ls) name = rw e refl in
-    subst (λ i. is_target (l ∷ ls) i ≡ true) behind (or_right _ _ (ih (rw e at among)))
+    let after : target_among ls name ≡ target_among (l ∷ ls) name = rw e refl in
+    subst (λ i. is_target (l ∷ ls) i ≡ true) after (or_right _ _ (ih (rw e at among)))
 
 -- a name among those of the labels stands for the target of one of them
 pub is_target-target_among : (labels : List LabelDef) (name : List ℕ) → is_among (map (λ d. d.name) labels) name ≡ true

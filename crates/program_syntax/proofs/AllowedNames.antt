@@ -12,13 +12,14 @@ bytes_differ : (a b : List ℕ) → bytes_eq a b ≡ false → bytes_eq b a ≡ 
 bytes_differ a b h =
     false_from_ne_true _ (λ e. let same : b ≡ a = (bytes_eq-Decides b a).0 e in let yes : bytes_eq a b ≡ true = (bytes_eq-Decides a b).1 (sym same) in cc)
 
--- a name behind the names that it differs from
-pub AreNames-push : (names : List (List ℕ)) (name : List ℕ) → AreNames names → IsTrue (is_name name) → is_among names name ≡ false → AreNames (names ++ name ∷ [])
+-- a name after the names that it differs from
+pub AreNames-push : (names : List (List ℕ)) (name : List ℕ) → AreNames names
+    → IsTrue (is_name name) → is_among names name ≡ false → AreNames (names ++ name ∷ [])
 AreNames-push [] name all here new = (here, refl, tt)
 AreNames-push (n ∷ ns) name all here new =
     let parts : (bytes_eq n name ≡ false) × (is_among ns name ≡ false) = or_parts _ _ new in
-    let behind : is_among (name ∷ []) n ≡ false = or_from _ _ (bytes_differ n name parts.0) refl in
-    let apart : is_among (ns ++ name ∷ []) n ≡ false = list_any-append (λ k. bytes_eq k n) ns (name ∷ []) ∙ or_from _ _ all.1 behind in
+    let after : is_among (name ∷ []) n ≡ false = or_from _ _ (bytes_differ n name parts.0) refl in
+    let apart : is_among (ns ++ name ∷ []) n ≡ false = list_any-append (λ k. bytes_eq k n) ns (name ∷ []) ∙ or_from _ _ all.1 after in
     (all.0, apart, AreNames-push ns name all.2 here parts.1)
 
 pub AreNames-push_map : {X : Type 0} (name_of : X → List ℕ) (xs : List X) (x : X)

@@ -1,5 +1,6 @@
 -- The operands of an instruction whose line has no cause are those that a program may have.
-use Rattle.std.proofs.Common.{◌≡◌, ℕ, ◌-◌, ◌<◌, ◌≤◌, ℤ, pos, negsuc, nat_abs, ◌≤ℤ◌, true, List, length, map, slice_get, refl, subst, arith, Option, Some, None, unwrap_or}
+use Rattle.std.proofs.Common.{◌≡◌, ℕ, ◌-◌, ◌<◌, ◌≤◌, ℤ, pos, negsuc, nat_abs, ◌≤ℤ◌, true, List, length}
+use Rattle.std.proofs.Common.{map, slice_get, refl, subst, arith, Option, Some, None, unwrap_or}
 use Rattle.std.proofs.lemmas.Int.{ints}
 use Rattle.std.proofs.lemmas.List.{length-map}
 use Rattle.plain_monitor.specs.Limits.{most_slots}
@@ -13,7 +14,8 @@ use Rattle.program_syntax.specs.declared.operand.Operand.TheVariants.{Known, Num
 use Rattle.program_syntax.specs.Reading.{Before, operand, number_at, count_at, local_at, object_at, class_at, target_at, section_labels, instruction_on}
 use Rattle.object_program.specs.declared.program.ThreadDef.{ThreadDef}
 use Rattle.program_syntax.specs.declared.keyword.Keyword.{Keyword}
-use Rattle.program_syntax.specs.declared.keyword.Keyword.TheVariants.{Set, Add, Sub, Mul, Ref, Elem, Enter, Exit, Wait, Notify, NotifyAll, Get, Put, Hash, New, Print, Jump, Jlt, Jeq}
+use Rattle.program_syntax.specs.declared.keyword.Keyword.TheVariants.{Set, Add, Sub, Mul, Ref, Elem, Enter, Exit, Wait, Notify}
+use Rattle.program_syntax.specs.declared.keyword.Keyword.TheVariants.{NotifyAll, Get, Put, Hash, New, Print, Jump, Jlt, Jeq}
 use Rattle.program_syntax.proofs.AllowedNames.{number_among-lt}
 use Rattle.program_syntax.proofs.AllowedLabels.{is_target-target_among}
 use Rattle.program_syntax.proofs.AllowedCause.{AreFine, operand_fine}

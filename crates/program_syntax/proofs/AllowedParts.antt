@@ -1,16 +1,18 @@
 -- What holds of the declarations and the open section that lines have made so far, seen from before the lines that are ahead.
-use Rattle.std.proofs.Common.{◌≡◌, ℕ, ◌+◌, ◌<◌, ◌≤◌, Bool, true, false, if◌then◌else◌, List, [], ◌∷◌, ◌++◌, length, map, refl, arith, Option, Some, None, IsTrue}
+use Rattle.std.proofs.Common.{◌≡◌, ℕ, ◌+◌, ◌<◌, ◌≤◌, Bool, true, false, if◌then◌else◌, List, []}
+use Rattle.std.proofs.Common.{◌∷◌, ◌++◌, length, map, refl, arith, Option, Some, None, IsTrue}
 use Rattle.std.specs.List.{AllByRecursion}
 use Rattle.object_program.specs.Name.{is_name}
 use Rattle.object_program.specs.Program.{ProgramText, total_of}
 use Rattle.object_program.specs.Valid.{is_among, AreNames, AreObjects, AreTargets, IsInstruction, EndsOnce, IsThread}
-use Rattle.program_syntax.specs.Reading.{Before, ends_section, labels_on, number_behind_line, labels_ahead}
+use Rattle.program_syntax.specs.Reading.{Before, ends_section, labels_on, number_after_line, labels_ahead}
 use Rattle.program_syntax.specs.Refusal.{is_end, is_closed}
 use Rattle.object_program.specs.declared.program.ObjectDef.{ObjectDef}
 use Rattle.object_program.specs.declared.program.LabelDef.{LabelDef}
 use Rattle.object_program.specs.declared.program.ThreadDef.{ThreadDef}
 use Rattle.object_program.specs.declared.program.Code.{Code}
-use Rattle.object_program.specs.declared.program.Code.TheVariants.{Set, Add, Sub, Mul, Ref, Elem, Enter, Exit, Wait, Notify, NotifyAll, Get, Put, Hash, New, Print, Jump, Jlt, Jeq, Dump, End}
+use Rattle.object_program.specs.declared.program.Code.TheVariants.{Set, Add, Sub, Mul, Ref, Elem, Enter, Exit, Wait, Notify, NotifyAll}
+use Rattle.object_program.specs.declared.program.Code.TheVariants.{Get, Put, Hash, New, Print, Jump, Jlt, Jeq, Dump, End}
 use Rattle.program_syntax.specs.declared.keyword.Keyword.{Keyword}
 use Rattle.object_program.specs.Limits.{most_locals}
 use Rattle.plain_monitor.specs.Limits.{most_threads, most_slots, most_objects, most_classes}
@@ -40,7 +42,7 @@ ahead_of lines = record { labels = λ n. labels_ahead n lines; closed = is_close
 -- the same of a line with these words and this keyword, and later lines
 abbrev pub ahead_with : List (List ℕ) → Option Keyword → List (List ℕ) → Ahead
 ahead_with words keyword later = record {
-  labels = λ n. if ends_section keyword then [] else labels_on n words keyword ++ labels_ahead (number_behind_line n keyword) later;
+  labels = λ n. if ends_section keyword then [] else labels_on n words keyword ++ labels_ahead (number_after_line n keyword) later;
   closed = if ends_section keyword then is_end keyword else is_closed later;
 }
 
@@ -123,7 +125,8 @@ pub AreObjects-more : (c e n : ℕ) → c ≤ e → (ds : List ObjectDef) → Ar
 AreObjects-more c e n ce [] h = tt
 AreObjects-more c e n ce (d ∷ ds) h = ((omega arith, h.0.1, h.0.2, h.0.3), AreObjects-more c e (n + d.size) ce ds h.1)
 
-pub AreObjects-push : (c n m : ℕ) (ds : List ObjectDef) (d : ObjectDef) → n + total_of ds ≡ m → AreObjects c n ds → AreObjects c m (d ∷ []) → AreObjects c n (ds ++ d ∷ [])
+pub AreObjects-push : (c n m : ℕ) (ds : List ObjectDef) (d : ObjectDef) → n + total_of ds ≡ m
+    → AreObjects c n ds → AreObjects c m (d ∷ []) → AreObjects c n (ds ++ d ∷ [])
 AreObjects-push c n m [] d e all here = ((here.0.0, omega arith, here.0.2, here.0.3), tt)
 AreObjects-push c n m (x ∷ xs) d e all here = (all.0, AreObjects-push c (n + x.size) m xs d (omega arith) all.1 here)
 

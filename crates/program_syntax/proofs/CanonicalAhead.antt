@@ -24,7 +24,8 @@ pub record IsLabelOf (n : ℕ) (l : LabelDef) : Type 0 where
   pub index_is : l.index ≡ n
   pub name_is : is_name l.name ≡ true
 
-label_at_by : (n : ℕ) (l : LabelDef) (ls : List LabelDef) (b : Bool) → (l.index == n) ≡ b → is_name l.name ≡ true → AllByRecursion (IsLabelOf n) (labels_at n ls)
+label_at_by : (n : ℕ) (l : LabelDef) (ls : List LabelDef) (b : Bool) → (l.index == n) ≡ b
+    → is_name l.name ≡ true → AllByRecursion (IsLabelOf n) (labels_at n ls)
     → AllByRecursion (IsLabelOf n) (labels_at n (l ∷ ls))
 label_at_by n l ls true e name h = rw e (record { index_is = eqb-true l.index n e; name_is = name }, h)
 label_at_by n l ls false e name h = rw e h
@@ -33,7 +34,7 @@ pub labels_at_are : (n : ℕ) (labels : List LabelDef) → AreNames (map (λ l. 
 labels_at_are n [] names = tt
 labels_at_are n (l ∷ ls) names = label_at_by n l ls (l.index == n) refl names.0 (labels_at_are n ls names.2)
 
--- lines behind one another
+-- lines one after another
 pub lines-append : (xs ys : List (List (List ℕ))) (later : List (List ℕ)) → map line_of (xs ++ ys) ++ later ≡ map line_of xs ++ (map line_of ys ++ later)
 lines-append xs ys later = ap (λ ls. ls ++ later) (map-append line_of xs ys) ∙ append_assoc (map line_of xs) (map line_of ys) later
 
@@ -78,25 +79,26 @@ closed_labels n [] later h = refl
 closed_labels n (l ∷ ls) later h =
     is_closed-line (label_words l) (map line_of (map label_words ls) ++ later) (label_is_words l h.0.name_is) ∙ closed_labels n ls later h.1
 
-pub closed_locals : (locals : List (List ℕ)) (later : List (List ℕ)) → AreNames locals → is_closed (map line_of (map local_words locals) ++ later) ≡ is_closed later
+pub closed_locals : (locals : List (List ℕ)) (later : List (List ℕ)) → AreNames locals
+    → is_closed (map line_of (map local_words locals) ++ later) ≡ is_closed later
 closed_locals [] later h = refl
 closed_locals (x ∷ xs) later h =
     is_closed-line (local_words x) (map line_of (map local_words xs) ++ later) (local_is_words x h.0) ∙ closed_locals xs later h.2
 
 module _ (classes : List ClassDef) (ds : List ObjectDef) (t : ThreadDef) (named : AreNamed classes ds t) (later : List (List ℕ)) where
-  abbrev pub code_behind : ℕ → Code → List Code → List (List ℕ)
-  code_behind n c cs = line_of (instruction_words classes ds t c) ∷ (map line_of (code_lines classes ds t (n + 1) cs) ++ later)
+  abbrev pub code_after : ℕ → Code → List Code → List (List ℕ)
+  code_after n c cs = line_of (instruction_words classes ds t c) ∷ (map line_of (code_lines classes ds t (n + 1) cs) ++ later)
 
-  -- the lines of an instruction and those behind it
+  -- the lines of an instruction and those after it
   pub code_lines-cons : (n : ℕ) (c : Code) (cs : List Code)
-      → map line_of (code_lines classes ds t n (c ∷ cs)) ++ later ≡ map line_of (map label_words (labels_at n t.labels)) ++ code_behind n c cs
+      → map line_of (code_lines classes ds t n (c ∷ cs)) ++ later ≡ map line_of (map label_words (labels_at n t.labels)) ++ code_after n c cs
   code_lines-cons n c cs =
       lines-append (map label_words (labels_at n t.labels)) (instruction_words classes ds t c ∷ code_lines classes ds t (n + 1) cs) later
 
   ahead_by_labels : (n : ℕ) (c : Code) (cs : List Code)
-      → labels_ahead n (map line_of (code_lines classes ds t n (c ∷ cs)) ++ later) ≡ labels_at n t.labels ++ labels_ahead n (code_behind n c cs)
+      → labels_ahead n (map line_of (code_lines classes ds t n (c ∷ cs)) ++ later) ≡ labels_at n t.labels ++ labels_ahead n (code_after n c cs)
   ahead_by_labels n c cs =
-      ap (labels_ahead n) (code_lines-cons n c cs) ∙ ahead_labels n (labels_at n t.labels) (code_behind n c cs) (labels_at_are n t.labels named.label_names)
+      ap (labels_ahead n) (code_lines-cons n c cs) ∙ ahead_labels n (labels_at n t.labels) (code_after n c cs) (labels_at_are n t.labels named.label_names)
 
   pub ahead_code : (n : ℕ) (cs : List Code) → AllByRecursion (IsInstruction (length classes) (length t.locals) (length ds) t.labels) cs → EndsOnce cs
       → labels_ahead n (map line_of (code_lines classes ds t n cs) ++ later) ≡ labels_from t.labels n cs
@@ -114,9 +116,9 @@ module _ (classes : List ClassDef) (ds : List ObjectDef) (t : ThreadDef) (named 
       ∙ ahead_code (n + 1) (d ∷ cs) h.1 ends.1)
 
   closed_by_labels : (n : ℕ) (c : Code) (cs : List Code)
-      → is_closed (map line_of (code_lines classes ds t n (c ∷ cs)) ++ later) ≡ is_closed (code_behind n c cs)
+      → is_closed (map line_of (code_lines classes ds t n (c ∷ cs)) ++ later) ≡ is_closed (code_after n c cs)
   closed_by_labels n c cs =
-      ap is_closed (code_lines-cons n c cs) ∙ closed_labels n (labels_at n t.labels) (code_behind n c cs) (labels_at_are n t.labels named.label_names)
+      ap is_closed (code_lines-cons n c cs) ∙ closed_labels n (labels_at n t.labels) (code_after n c cs) (labels_at_are n t.labels named.label_names)
 
   pub closed_code : (n : ℕ) (cs : List Code) → AllByRecursion (IsInstruction (length classes) (length t.locals) (length ds) t.labels) cs → EndsOnce cs
       → is_closed (map line_of (code_lines classes ds t n cs) ++ later) ≡ true

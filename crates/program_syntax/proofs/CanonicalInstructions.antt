@@ -12,7 +12,7 @@ use Rattle.program_syntax.specs.Number.{number_of}
 use Rattle.object_program.specs.Program.{ProgramText}
 use Rattle.object_program.specs.Valid.{is_among, AreNames, is_target, IsInstruction}
 use Rattle.program_syntax.specs.Line.{a_local, a_slot, operands_of}
-use Rattle.program_syntax.specs.Reading.{Before, first_keyword, number_among, target_among, section_labels, instruction_on, section_behind, behind_words}
+use Rattle.program_syntax.specs.Reading.{Before, first_keyword, number_among, target_among, section_labels, instruction_on, section_after, after_words}
 use Rattle.program_syntax.specs.Refusal.{passes_limit, code_full, opens_unclosed, is_in_place, keyword_cause, words_cause}
 use Rattle.program_syntax.specs.Canonical.{class_name, object_name, local_name, label_name, instruction_words}
 use Rattle.object_program.specs.declared.program.ClassDef.{ClassDef}
@@ -24,7 +24,8 @@ use Rattle.object_program.specs.declared.program.Code.TheVariants as code
 use Rattle.program_syntax.specs.declared.operand.Space.TheVariants.{Classes, Objects, Locals, Labels}
 use Rattle.program_syntax.specs.declared.operand.Operand.TheVariants.{Known, Number}
 use Rattle.program_syntax.specs.declared.keyword.Keyword.{Keyword}
-use Rattle.program_syntax.specs.declared.keyword.Keyword.TheVariants.{Set, Add, Sub, Mul, Ref, Elem, Enter, Exit, Wait, Notify, NotifyAll, Get, Put, Hash, New, Print, Jump, Jlt, Jeq, Dump, End}
+use Rattle.program_syntax.specs.declared.keyword.Keyword.TheVariants.{Set, Add, Sub, Mul, Ref, Elem, Enter, Exit, Wait, Notify, NotifyAll}
+use Rattle.program_syntax.specs.declared.keyword.Keyword.TheVariants.{Get, Put, Hash, New, Print, Jump, Jlt, Jeq, Dump, End}
 use Rattle.program_syntax.proofs.CanonicalText.{is_word, AreWords, line_of}
 use Rattle.program_syntax.proofs.CanonicalNames.{name_word, nth_is_name, nth_is_among, number_among-nth, label_is_among, label_is_name, target_among-label}
 use Rattle.program_syntax.proofs.CanonicalNumbers.{decimal_word, signed_word, count_of_decimal, value_of_signed}
@@ -55,7 +56,7 @@ keyword_for (code.Jeq x y l) = Jeq
 keyword_for code.Dump = Dump
 keyword_for code.End = End
 
--- what a line of a canonical text has behind its keyword
+-- what a line of a canonical text has after its keyword
 abbrev pub operand_words : List ClassDef → List ObjectDef → ThreadDef → Code → List (List ℕ)
 operand_words classes ds t c = drop 1 (instruction_words classes ds t c)
 
@@ -64,11 +65,11 @@ words_cause-instruction : (b : Before) (later : List (List ℕ)) (classes : List
 words_cause-instruction b later classes ds t code.End = refl
 words_cause-instruction b later classes ds t c = refl
 
-behind_words-instruction : (p : ProgramText) (s : ThreadDef) (later : List (List ℕ)) (classes : List ClassDef) (ds : List ObjectDef) (t : ThreadDef) (c : Code)
-    → behind_words (opened p s) later (instruction_words classes ds t c) (first_keyword (instruction_words classes ds t c))
-    ≡ section_behind p (record s { code = s.code ++ instruction_on p s later (operand_words classes ds t c) (keyword_for c) ∷ [] }) (keyword_for c)
-behind_words-instruction p s later classes ds t code.End = refl
-behind_words-instruction p s later classes ds t c = refl
+after_words-instruction : (p : ProgramText) (s : ThreadDef) (later : List (List ℕ)) (classes : List ClassDef) (ds : List ObjectDef) (t : ThreadDef) (c : Code)
+    → after_words (opened p s) later (instruction_words classes ds t c) (first_keyword (instruction_words classes ds t c))
+    ≡ section_after p (record s { code = s.code ++ instruction_on p s later (operand_words classes ds t c) (keyword_for c) ∷ [] }) (keyword_for c)
+after_words-instruction p s later classes ds t code.End = refl
+after_words-instruction p s later classes ds t c = refl
 
 operands_number : (classes : List ClassDef) (ds : List ObjectDef) (t : ThreadDef) (c : Code)
     → (length (operand_words classes ds t c) == length (operands_of (keyword_for c))) ≡ true
@@ -161,7 +162,7 @@ module _ (classes : List ClassDef) (ds : List ObjectDef) (t : ThreadDef) (named 
 abbrev pub so_far : ThreadDef → List LabelDef → List Code → ThreadDef
 so_far t labels done = record { name = t.name; locals = t.locals; labels = labels; code = done }
 
--- an instruction's line, where the labels before it and behind it are all labels of its thread
+-- an instruction's line, where the labels before it and after it are all labels of its thread
 module _ (p : ProgramText) (t : ThreadDef) (named : AreNamed p.classes p.objects t) (before : List LabelDef) (done : List Code) (later : List (List ℕ))
     (all_labels : section_labels (so_far t before done) later ≡ t.labels) (room : length done < most_code) where
   abbrev here : Before
@@ -182,7 +183,8 @@ module _ (p : ProgramText) (t : ThreadDef) (named : AreNamed p.classes p.objects
 
   a_label_name : (l : ℕ) → is_target t.labels l ≡ true → IsGood here later (Known Labels) (label_name t.labels l)
   a_label_name l h =
-      let among = subst (λ (ls : List LabelDef). is_among (map (λ (d : LabelDef). d.name) ls) (label_name t.labels l) ≡ true) (sym all_labels) (label_is_among t.labels l h) in
+      let among = subst (λ (ls : List LabelDef). is_among (map (λ (d : LabelDef). d.name) ls) (label_name t.labels l) ≡ true)
+      (sym all_labels) (label_is_among t.labels l h) in
       good_known here later Labels (label_name t.labels l) (target_is_name p.classes p.objects t named l h) among
 
   a_slot_number : (k : ℕ) → k < most_slots → IsGood here later a_slot (decimal k)
@@ -269,13 +271,13 @@ module _ (p : ProgramText) (t : ThreadDef) (named : AreNamed p.classes p.objects
   }
 
   pub instruction_read : (final : Before) (c : Code) → IsAllowed p.classes p.objects t c
-      → ReadsAs final (section_behind p (so_far t before (done ++ c ∷ [])) (keyword_for c)) later
+      → ReadsAs final (section_after p (so_far t before (done ++ c ∷ [])) (keyword_for c)) later
       → ReadsAs final here (line_of (instruction_words p.classes p.objects t c) ∷ later)
   instruction_read final c h k =
-      read_line final here (section_behind p (so_far t before (done ++ c ∷ [])) (keyword_for c)) later (instruction_words p.classes p.objects t c)
+      read_line final here (section_after p (so_far t before (done ++ c ∷ [])) (keyword_for c)) later (instruction_words p.classes p.objects t c)
       (instruction_is_words p.classes p.objects t named c h)
       (words_cause-instruction here later p.classes p.objects t c
       ∙ no_cause here later (operand_words p.classes p.objects t c) (keyword_for c) (instruction_allowed c h))
-      (behind_words-instruction p (so_far t before done) later p.classes p.objects t c
-      ∙ ap (λ (x : Code). section_behind p (so_far t before (done ++ x ∷ [])) (keyword_for c)) (instruction_meant c h))
+      (after_words-instruction p (so_far t before done) later p.classes p.objects t c
+      ∙ ap (λ (x : Code). section_after p (so_far t before (done ++ x ∷ [])) (keyword_for c)) (instruction_meant c h))
       k

@@ -1,5 +1,6 @@
 -- The labels of a thread by their targets, which rise.
-use Rattle.std.proofs.Common.{◌≡◌, ℕ, ◌+◌, ◌<◌, ◌≤◌, List, [], ◌∷◌, ◌++◌, length, refl, ap, sym, ◌∙◌, inl, inr, arith, append_assoc, append-nil, lt-ltb, le-ltb, eq-eqb, ne_eqb}
+use Rattle.std.proofs.Common.{◌≡◌, ℕ, ◌+◌, ◌<◌, ◌≤◌, List, [], ◌∷◌, ◌++◌, length, refl, ap, sym, ◌∙◌, inl}
+use Rattle.std.proofs.Common.{inr, arith, append_assoc, append-nil, lt-ltb, le-ltb, eq-eqb, ne_eqb}
 use Rattle.std.specs.Prelude.{filter, nat_lt}
 use Rattle.std.proofs.lemmas.Bool.{cases_order}
 use Rattle.object_program.specs.Valid.{AreTargets}
@@ -30,18 +31,19 @@ below_next_before : (n : ℕ) (l : LabelDef) (ls : List LabelDef) → l.index < 
 below_next_before n l ls lt ih =
     rw (lt-ltb l.index n lt, lt-ltb l.index (n + 1) (omega arith), ne_eqb l.index n (λ e. omega arith)) (ap (λ xs. l ∷ xs) ih)
 
-below_next_at : (n : ℕ) (l : LabelDef) (ls : List LabelDef) → l.index ≡ n → labels_below n ls ≡ [] → labels_below n ls ++ labels_at n ls ≡ labels_below (n + 1) ls
+below_next_at : (n : ℕ) (l : LabelDef) (ls : List LabelDef) → l.index ≡ n
+    → labels_below n ls ≡ [] → labels_below n ls ++ labels_at n ls ≡ labels_below (n + 1) ls
     → labels_below n (l ∷ ls) ++ labels_at n (l ∷ ls) ≡ labels_below (n + 1) (l ∷ ls)
 below_next_at n l ls e none ih =
     let k : labels_at n ls ≡ labels_below (n + 1) ls = rw none at ih in
     rw (le-ltb l.index n (omega arith), lt-ltb l.index (n + 1) (omega arith), eq-eqb l.index n e, none) (ap (λ xs. l ∷ xs) k)
 
-below_next_behind : (n : ℕ) (l : LabelDef) (ls : List LabelDef) → n < l.index → labels_below n ls ++ labels_at n ls ≡ labels_below (n + 1) ls
+below_next_after : (n : ℕ) (l : LabelDef) (ls : List LabelDef) → n < l.index → labels_below n ls ++ labels_at n ls ≡ labels_below (n + 1) ls
     → labels_below n (l ∷ ls) ++ labels_at n (l ∷ ls) ≡ labels_below (n + 1) (l ∷ ls)
-below_next_behind n l ls lt ih =
+below_next_after n l ls lt ih =
     rw (le-ltb l.index n (omega arith), le-ltb l.index (n + 1) (omega arith), ne_eqb l.index n (λ e. omega arith)) ih
 
--- the labels of the next instruction stand behind those of the ones before it
+-- the labels of the next instruction stand after those of the ones before it
 pub below_next : (code m n : ℕ) (labels : List LabelDef) → AreTargets code m labels → labels_below n labels ++ labels_at n labels ≡ labels_below (n + 1) labels
 below_next code m n [] h = refl
 below_next code m n (l ∷ ls) h =
@@ -49,7 +51,7 @@ below_next code m n (l ∷ ls) h =
       | inl e ↦ below_next_at n l ls e (none_below code l.index n ls h.2 (omega arith)) (below_next code l.index n ls h.2)
       | inr r ↦ elim r [
         | inl lt ↦ below_next_before n l ls lt (below_next code l.index n ls h.2)
-        | inr gt ↦ below_next_behind n l ls gt (below_next code l.index n ls h.2)
+        | inr gt ↦ below_next_after n l ls gt (below_next code l.index n ls h.2)
       ]
     ]
 

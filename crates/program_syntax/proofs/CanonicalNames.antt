@@ -1,5 +1,6 @@
 -- Names are found again at their places.
-use Rattle.std.proofs.Common.{◌≡◌, ℕ, ◌<◌, ◌==◌, ◌&&◌, ◌||◌, Bool, true, false, List, [], ◌∷◌, ◌++◌, length, map, refl, sym, subst, arith, bytes_eq, zero, suc, get_or, add-one, eqb-true}
+use Rattle.std.proofs.Common.{◌≡◌, ℕ, ◌<◌, ◌==◌, ◌&&◌, ◌||◌, Bool, true, false, List, [], ◌∷◌, ◌++◌, length}
+use Rattle.std.proofs.Common.{map, refl, sym, subst, arith, bytes_eq, zero, suc, get_or, add-one, eqb-true}
 use Rattle.std.specs.List.{list_all}
 use Rattle.std.proofs.lemmas.Bool.{and_parts, or_parts, or_right, or_left, both_ways, false_from_ne_true}
 use Rattle.std.proofs.lemmas.Bool.Decides.{nat_tests}
@@ -34,7 +35,8 @@ same_bytes name = (bytes_eq-Decides name name).1 refl
 -- a name that is among others isn't one that isn't
 pub bytes_apart : (names : List (List ℕ)) (a b : List ℕ) → is_among names a ≡ false → is_among names b ≡ true → bytes_eq a b ≡ false
 bytes_apart names a b h k =
-    false_from_ne_true (bytes_eq a b) (λ e. let same : a ≡ b = (bytes_eq-Decides a b).0 e in let among : is_among names a ≡ true = rw same k in both_ways (is_among names a) h among)
+    false_from_ne_true (bytes_eq a b) (λ e. let same : a ≡ b = (bytes_eq-Decides a b).0 e in
+    let among : is_among names a ≡ true = rw same k in both_ways (is_among names a) h among)
 
 pub nth_is_name : (names : List (List ℕ)) (i : ℕ) → AreNames names → i < length names → is_name (get_or names i []) ≡ true
 nth_is_name [] i h lt = absurd (omega arith)
@@ -77,7 +79,8 @@ pub label_is_name : (labels : List LabelDef) (n : ℕ) → AreNames (map (λ d. 
 label_is_name [] n names h = absurd (cc h)
 label_is_name (l ∷ ls) n names h = label_is_name_by l ls n (l.index == n) refl h names.0 (label_is_name ls n names.2)
 
-target_among_by : (l : LabelDef) (ls : List LabelDef) (n : ℕ) (b : Bool) → (l.index == n) ≡ b → AreNames (map (λ d. d.name) (l ∷ ls)) → is_target (l ∷ ls) n ≡ true
+target_among_by : (l : LabelDef) (ls : List LabelDef) (n : ℕ) (b : Bool)
+    → (l.index == n) ≡ b → AreNames (map (λ d. d.name) (l ∷ ls)) → is_target (l ∷ ls) n ≡ true
     → (is_target ls n ≡ true → target_among ls (label_name ls n) ≡ n) → target_among (l ∷ ls) (label_name (l ∷ ls) n) ≡ n
 target_among_by l ls n true e names h ih =
     let same : label_name (l ∷ ls) n ≡ l.name = rw e refl in
@@ -95,7 +98,7 @@ pub target_among-label : (labels : List LabelDef) (n : ℕ) → AreNames (map (�
 target_among-label [] n names h = absurd (cc h)
 target_among-label (l ∷ ls) n names h = target_among_by l ls n (l.index == n) refl names h (target_among-label ls n names.2)
 
--- names in front of others, and a name behind others
+-- names before others, and a name after others
 not_among_front : (xs ys : List (List ℕ)) (name : List ℕ) → is_among (xs ++ ys) name ≡ false → is_among xs name ≡ false
 not_among_front [] ys name h = refl
 not_among_front (x ∷ xs) ys name h =
@@ -105,16 +108,17 @@ pub AreNames-front : (xs ys : List (List ℕ)) → AreNames (xs ++ ys) → AreNa
 AreNames-front [] ys h = tt
 AreNames-front (x ∷ xs) ys h = (h.0, not_among_front xs ys x h.1, AreNames-front xs ys h.2)
 
-pub name_behind : (xs : List (List ℕ)) (name : List ℕ) (ys : List (List ℕ)) → AreNames (xs ++ name ∷ ys) → is_name name ≡ true
-name_behind [] name ys h = h.0
-name_behind (x ∷ xs) name ys h = name_behind xs name ys h.2
+pub name_after : (xs : List (List ℕ)) (name : List ℕ) (ys : List (List ℕ)) → AreNames (xs ++ name ∷ ys) → is_name name ≡ true
+name_after [] name ys h = h.0
+name_after (x ∷ xs) name ys h = name_after xs name ys h.2
 
-behind_apart : (x : List ℕ) (xs : List (List ℕ)) (name : List ℕ) (ys : List (List ℕ)) → is_among (xs ++ name ∷ ys) x ≡ false → bytes_eq x name ≡ false
-behind_apart x [] name ys h =
+after_apart : (x : List ℕ) (xs : List (List ℕ)) (name : List ℕ) (ys : List (List ℕ)) → is_among (xs ++ name ∷ ys) x ≡ false → bytes_eq x name ≡ false
+after_apart x [] name ys h =
     let e : bytes_eq name x ≡ false = (or_parts (bytes_eq name x) (is_among ys x) h).0 in
-    false_from_ne_true (bytes_eq x name) (λ t. let same : x ≡ name = (bytes_eq-Decides x name).0 t in let yes : bytes_eq name x ≡ true = (bytes_eq-Decides name x).1 (sym same) in both_ways (bytes_eq name x) e yes)
-behind_apart x (v ∷ xs) name ys h = behind_apart x xs name ys (or_parts (bytes_eq v x) (is_among (xs ++ name ∷ ys) x) h).1
+    false_from_ne_true (bytes_eq x name) (λ t. let same : x ≡ name = (bytes_eq-Decides x name).0 t in
+    let yes : bytes_eq name x ≡ true = (bytes_eq-Decides name x).1 (sym same) in both_ways (bytes_eq name x) e yes)
+after_apart x (v ∷ xs) name ys h = after_apart x xs name ys (or_parts (bytes_eq v x) (is_among (xs ++ name ∷ ys) x) h).1
 
-pub new_behind : (xs : List (List ℕ)) (name : List ℕ) (ys : List (List ℕ)) → AreNames (xs ++ name ∷ ys) → is_among xs name ≡ false
-new_behind [] name ys h = refl
-new_behind (x ∷ xs) name ys h = rw (behind_apart x xs name ys h.1) (new_behind xs name ys h.2)
+pub new_after : (xs : List (List ℕ)) (name : List ℕ) (ys : List (List ℕ)) → AreNames (xs ++ name ∷ ys) → is_among xs name ≡ false
+new_after [] name ys h = refl
+new_after (x ∷ xs) name ys h = rw (after_apart x xs name ys h.1) (new_after xs name ys h.2)

@@ -1,5 +1,6 @@
 -- Numbers are read back from their digits.
-use Rattle.std.proofs.Common.{◌≡◌, ℕ, ◌+◌, ◌-◌, ◌*◌, ◌/◌, ◌%◌, ◌^◌, ◌<◌, ◌≤◌, ◌==◌, Bool, true, false, List, [], ◌∷◌, ◌++◌, length, refl, ap, ◌∙◌, arith, Some, ℤ, pos, negsuc, suc, le-leb}
+use Rattle.std.proofs.Common.{◌≡◌, ℕ, ◌+◌, ◌-◌, ◌*◌, ◌/◌, ◌%◌, ◌^◌, ◌<◌, ◌≤◌, ◌==◌, Bool, true, false, List, []}
+use Rattle.std.proofs.Common.{◌∷◌, ◌++◌, length, refl, ap, ◌∙◌, arith, Some, ℤ, pos, negsuc, suc, le-leb}
 use Rattle.std.specs.Prelude.{decimal, unwrap_or, nat_abs}
 use Rattle.std.specs.Fmt.{signed_decimal}
 use Rattle.std.specs.List.{list_all}
@@ -9,20 +10,20 @@ use Rattle.std.proofs.lemmas.Fmt.{decimal_by_steps, decimal_nonempty, length-dec
 use Rattle.std.proofs.lemmas.Int.{ints}
 use Rattle.plain_monitor.specs.Numbers.{IsInRange, least_number, greatest_number}
 use Rattle.object_program.specs.Name.{is_digit}
-use Rattle.program_syntax.specs.Number.{number_behind, digits_of, number_of, is_within}
+use Rattle.program_syntax.specs.Number.{number_after, digits_of, number_of, is_within}
 use Rattle.program_syntax.proofs.CanonicalText.{is_word_byte, is_word}
 
 digit_is : (d : ℕ) → d < 10 → is_digit (48 + d) ≡ true
 digit_is d h = grind (arith, nat_tests)
 
--- one more digit behind the others
-one_more_by : (k b : ℕ) (ds : List ℕ) (v d : ℕ) (t : Bool) → is_digit b ≡ t → number_behind k (b ∷ ds) ≡ Some v
-    → (number_behind (10 * k + (b - 48)) ds ≡ Some v → number_behind (10 * k + (b - 48)) (ds ++ (48 + d) ∷ []) ≡ Some (10 * v + d))
-    → number_behind k ((b ∷ ds) ++ (48 + d) ∷ []) ≡ Some (10 * v + d)
+-- one more digit after the others
+one_more_by : (k b : ℕ) (ds : List ℕ) (v d : ℕ) (t : Bool) → is_digit b ≡ t → number_after k (b ∷ ds) ≡ Some v
+    → (number_after (10 * k + (b - 48)) ds ≡ Some v → number_after (10 * k + (b - 48)) (ds ++ (48 + d) ∷ []) ≡ Some (10 * v + d))
+    → number_after k ((b ∷ ds) ++ (48 + d) ∷ []) ≡ Some (10 * v + d)
 one_more_by k b ds v d true e h ih = let g = rw e at h in rw e (ih g)
 one_more_by k b ds v d false e h ih = let g = rw e at h in absurd (cc g)
 
-one_more : (k : ℕ) (ds : List ℕ) (v d : ℕ) → d < 10 → number_behind k ds ≡ Some v → number_behind k (ds ++ (48 + d) ∷ []) ≡ Some (10 * v + d)
+one_more : (k : ℕ) (ds : List ℕ) (v d : ℕ) → d < 10 → number_after k ds ≡ Some v → number_after k (ds ++ (48 + d) ∷ []) ≡ Some (10 * v + d)
 one_more k [] v d lt h =
     let same : k ≡ v = cc in
     let value : 10 * k + (48 + d - 48) ≡ 10 * v + d = omega arith in
@@ -32,7 +33,7 @@ one_more k (b ∷ ds) v d lt h =
 
 -- what a number's digits are: they give the number, and are no sign
 pub record IsDecimal (n : ℕ) (ds : List ℕ) : Type 0 where
-  pub value : number_behind 0 ds ≡ Some n
+  pub value : number_after 0 ds ≡ Some n
   pub digits : list_all is_digit ds ≡ true
 
 one_digit : (n : ℕ) → n < 10 → IsDecimal n ((48 + n) ∷ [])
@@ -62,7 +63,8 @@ digits_of_is ds n h low high = rw (le-leb 1 (length ds) low, le-leb (length ds) 
 
 digits_of_decimal : (n : ℕ) → n < 10000000000000000000 → digits_of (decimal n) ≡ Some n
 digits_of_decimal n h =
-    digits_of_is (decimal n) n (decimal_is n (omega arith)) (omega (arith, decimal_nonempty n (omega arith))) (length-decimal-le 19 n (omega arith) (omega arith) (omega arith))
+    digits_of_is (decimal n) n (decimal_is n (omega arith)) (omega (arith, decimal_nonempty n (omega arith)))
+    (length-decimal-le 19 n (omega arith) (omega arith) (omega arith))
 
 not_minus : (b : ℕ) → is_digit b ≡ true → (b == 45) ≡ false
 not_minus b h = grind (arith, nat_tests)

@@ -1,5 +1,6 @@
 -- The canonical text of a program is read as the program.
-use Rattle.std.proofs.Common.{◌≡◌, ℕ, ◌+◌, ◌≤◌, true, List, [], ◌∷◌, ◌++◌, length, map, refl, ap, sym, subst, ◌∙◌, arith, append_assoc, append-nil, Ok, le-ltb, ne_eqb}
+use Rattle.std.proofs.Common.{◌≡◌, ℕ, ◌+◌, ◌≤◌, true, List, [], ◌∷◌, ◌++◌, length, map, refl, ap, sym}
+use Rattle.std.proofs.Common.{subst, ◌∙◌, arith, append_assoc, append-nil, Ok, le-ltb, ne_eqb}
 use Rattle.std.specs.List.{AllByRecursion, flat_map}
 use Rattle.plain_monitor.specs.Limits.{most_slots, most_objects}
 use Rattle.object_program.specs.Name.{is_name}
@@ -7,7 +8,8 @@ use Rattle.object_program.specs.Program.{ProgramText, total_of}
 use Rattle.object_program.specs.Valid.{AreNames, AreObjects, IsInstruction, IsThread, IsProgram}
 use Rattle.program_syntax.specs.Reading.{Before, nothing}
 use Rattle.program_syntax.specs.Refusal.{program_of, read_from, lines_of}
-use Rattle.program_syntax.specs.Canonical.{canonical, program_lines, class_words, object_words, local_words, label_words, instruction_words, labels_at, code_lines, thread_lines}
+use Rattle.program_syntax.specs.Canonical.{canonical, program_lines, class_words, object_words, local_words}
+use Rattle.program_syntax.specs.Canonical.{label_words, instruction_words, labels_at, code_lines, thread_lines}
 use Rattle.object_program.specs.declared.program.ClassDef.{ClassDef}
 use Rattle.object_program.specs.declared.program.ObjectDef.{ObjectDef}
 use Rattle.object_program.specs.declared.program.LabelDef.{LabelDef}
@@ -44,7 +46,7 @@ threads_read final p done (t ∷ ts) later is whole all h =
     (section_read final (with_threads p done) t named all.0 (map line_of (flat_map (thread_lines p.classes p.objects) ts) ++ later)
     (new_in_middle (λ (t : ThreadDef). t.name) done t ts p.threads whole is.thread_names) (omega (arith, length_front done t ts p.threads whole)) rest)
 
--- the empty line behind the last line feed
+-- the empty line after the last line feed
 last_line_read : (p : ProgramText) → ReadsAs (outside p) (outside p) ([] ∷ [])
 last_line_read p = record { at = λ n. refl }
 
@@ -55,17 +57,20 @@ lines_read p is =
     let objects = map (object_words p.classes) p.objects in
     let threads = flat_map (thread_lines p.classes p.objects) p.threads in
     let in_threads = threads_read (outside p) p [] p.threads end is refl is.threads (last_line_read p) in
-    let in_objects = objects_read (outside p) p.classes p.objects (map line_of threads ++ end) is.class_names is.object_names is.objects is.objects_few in_threads in
-    let in_classes = classes_read (outside p) p.classes (map line_of objects ++ (map line_of threads ++ end)) is.class_names is.class_slots is.classes_few in_objects in
+    let in_objects = objects_read (outside p) p.classes p.objects
+    (map line_of threads ++ end) is.class_names is.object_names is.objects is.objects_few in_threads in
+    let in_classes = classes_read (outside p) p.classes
+    (map line_of objects ++ (map line_of threads ++ end)) is.class_names is.class_slots is.classes_few in_objects in
     let joined = lines-append (classes ++ objects) threads end ∙ lines-append classes objects (map line_of threads ++ end) in
     subst (λ lines. ReadsAs (outside p) nothing lines) (sym joined) in_classes
 
 -- all lines are lines of words
-pub lines_behind : (xs ys : List (List (List ℕ))) → AreLines xs → AreLines ys → AreLines (xs ++ ys)
-lines_behind [] ys h k = k
-lines_behind (x ∷ xs) ys h k = (h.0, lines_behind xs ys h.1 k)
+pub lines_after : (xs ys : List (List (List ℕ))) → AreLines xs → AreLines ys → AreLines (xs ++ ys)
+lines_after [] ys h k = k
+lines_after (x ∷ xs) ys h k = (h.0, lines_after xs ys h.1 k)
 
-pub class_lines : (classes : List ClassDef) → AreNames (map (λ c. c.name) classes) → AllByRecursion (λ c. c.slots ≤ most_slots) classes → AreLines (map class_words classes)
+pub class_lines : (classes : List ClassDef) → AreNames (map (λ c. c.name) classes)
+    → AllByRecursion (λ c. c.slots ≤ most_slots) classes → AreLines (map class_words classes)
 class_lines [] names slots = tt
 class_lines (c ∷ cs) names slots = (class_is_words c names.0 slots.0, class_lines cs names.2 slots.1)
 
@@ -88,7 +93,7 @@ instruction_lines : (classes : List ClassDef) (ds : List ObjectDef) (t : ThreadD
     → AllByRecursion (IsInstruction (length classes) (length t.locals) (length ds) t.labels) cs → AreLines (code_lines classes ds t n cs)
 instruction_lines classes ds t named n [] h = tt
 instruction_lines classes ds t named n (c ∷ cs) h =
-    lines_behind (map label_words (labels_at n t.labels)) (instruction_words classes ds t c ∷ code_lines classes ds t (n + 1) cs)
+    lines_after (map label_words (labels_at n t.labels)) (instruction_words classes ds t c ∷ code_lines classes ds t (n + 1) cs)
     (label_lines n (labels_at n t.labels) (labels_at_are n t.labels named.label_names))
     (instruction_is_words classes ds t named c h.0, instruction_lines classes ds t named (n + 1) cs h.1)
 
@@ -96,21 +101,22 @@ section_lines : (classes : List ClassDef) (ds : List ObjectDef) (t : ThreadDef) 
     → is_name t.name ≡ true → IsThread (length classes) (length ds) t → AreLines (thread_lines classes ds t)
 section_lines classes ds t class_names names name is = (
   opening_is_words t name,
-  lines_behind (map local_words t.locals) (code_lines classes ds t 1 t.code) (local_lines t.locals is.locals)
+  lines_after (map local_words t.locals) (code_lines classes ds t 1 t.code) (local_lines t.locals is.locals)
       (instruction_lines classes ds t (named_by classes ds t class_names names is) 1 t.code is.code),
 )
 
 all_section_lines : (classes : List ClassDef) (ds : List ObjectDef) (ts : List ThreadDef) → AreNames (map (λ c. c.name) classes)
-    → AreNames (map (λ d. d.name) ds) → AreNames (map (λ t. t.name) ts) → AllByRecursion (IsThread (length classes) (length ds)) ts → AreLines (flat_map (thread_lines classes ds) ts)
+    → AreNames (map (λ d. d.name) ds) → AreNames (map (λ t. t.name) ts)
+    → AllByRecursion (IsThread (length classes) (length ds)) ts → AreLines (flat_map (thread_lines classes ds) ts)
 all_section_lines classes ds [] class_names names thread_names h = tt
 all_section_lines classes ds (t ∷ ts) class_names names thread_names h =
-    lines_behind (thread_lines classes ds t) (flat_map (thread_lines classes ds) ts) (section_lines classes ds t class_names names thread_names.0 h.0)
+    lines_after (thread_lines classes ds t) (flat_map (thread_lines classes ds) ts) (section_lines classes ds t class_names names thread_names.0 h.0)
     (all_section_lines classes ds ts class_names names thread_names.2 h.1)
 
 all_lines : (p : ProgramText) → IsProgram p → AreLines (program_lines p)
 all_lines p is =
-    lines_behind (map class_words p.classes ++ map (object_words p.classes) p.objects) (flat_map (thread_lines p.classes p.objects) p.threads)
-    (lines_behind (map class_words p.classes) (map (object_words p.classes) p.objects) (class_lines p.classes is.class_names is.class_slots)
+    lines_after (map class_words p.classes ++ map (object_words p.classes) p.objects) (flat_map (thread_lines p.classes p.objects) p.threads)
+    (lines_after (map class_words p.classes) (map (object_words p.classes) p.objects) (class_lines p.classes is.class_names is.class_slots)
     (object_lines p.classes 0 p.objects is.class_names is.object_names is.objects is.objects_few))
     (all_section_lines p.classes p.objects p.threads is.class_names is.object_names is.thread_names is.threads)
 

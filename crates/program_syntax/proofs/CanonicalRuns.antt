@@ -1,5 +1,6 @@
 -- Lines of one kind in a row, each of which declares one thing more.
-use Rattle.std.proofs.Common.{◌≡◌, ℕ, ◌+◌, ◌<◌, ◌≤◌, Bool, true, false, List, [], ◌∷◌, ◌++◌, length, map, refl, ap, sym, subst, ◌∙◌, arith, append_assoc, append-nil, length-append, Some, None, pos, codes, le-ltb}
+use Rattle.std.proofs.Common.{◌≡◌, ℕ, ◌+◌, ◌<◌, ◌≤◌, Bool, true, false, List, [], ◌∷◌, ◌++◌, length, map, refl, ap, sym}
+use Rattle.std.proofs.Common.{subst, ◌∙◌, arith, append_assoc, append-nil, length-append, Some, None, pos, codes, le-ltb}
 use Rattle.std.specs.Prelude.{decimal, nat_abs, unwrap_or}
 use Rattle.std.specs.List.{AllByRecursion}
 use Rattle.std.proofs.lemmas.Bool.{lt-leb}
@@ -19,7 +20,7 @@ use Rattle.object_program.specs.declared.program.ThreadDef.{ThreadDef}
 use Rattle.program_syntax.specs.declared.operand.Space.TheVariants.{Classes, Objects, Locals, Labels}
 use Rattle.program_syntax.specs.declared.keyword.Keyword.TheVariants.{Class, Object, Array, Local, Label}
 use Rattle.program_syntax.proofs.CanonicalText.{line_of}
-use Rattle.program_syntax.proofs.CanonicalNames.{name_behind, new_behind, nth_is_name, nth_is_among, number_among-nth}
+use Rattle.program_syntax.proofs.CanonicalNames.{name_after, new_after, nth_is_name, nth_is_among, number_among-nth}
 use Rattle.program_syntax.proofs.CanonicalNumbers.{count_of_decimal}
 use Rattle.program_syntax.proofs.CanonicalWords.{class_is_words, array_is_words, single_is_words, local_is_words, label_is_words}
 use Rattle.program_syntax.proofs.CanonicalReading.{good_new, good_known, good_decimal, no_cause, ReadsAs, read_line, IsRead, line_read}
@@ -44,7 +45,7 @@ pub record IsNew (names : List (List ℕ)) (name : List ℕ) : Type 0 where
 pub new_among : (done : List (List ℕ)) (name : List ℕ) (todo whole : List (List ℕ)) → done ++ name ∷ todo ≡ whole → AreNames whole → IsNew done name
 new_among done name todo whole e h =
     let k = subst AreNames (sym e) h in
-    record { name_is = name_behind done name todo k; new = new_behind done name todo k }
+    record { name_is = name_after done name todo k; new = new_after done name todo k }
 
 pub new_in_middle : {X : Type 0} (name_of : X → List ℕ) (done : List X) (x : X) (todo whole : List X) → done ++ x ∷ todo ≡ whole → AreNames (map name_of whole)
     → IsNew (map name_of done) (name_of x)
@@ -61,7 +62,8 @@ outside p = record { text = p; section = None }
 abbrev pub opened : ProgramText → ThreadDef → Before
 opened p t = record { text = p; section = Some t }
 
-pub class_line : (p : ProgramText) (c : ClassDef) (later : List (List ℕ)) → IsNew (map (λ c. c.name) p.classes) c.name → c.slots ≤ most_slots → length p.classes < most_classes
+pub class_line : (p : ProgramText) (c : ClassDef) (later : List (List ℕ))
+    → IsNew (map (λ c. c.name) p.classes) c.name → c.slots ≤ most_slots → length p.classes < most_classes
     → IsRead (outside p) (outside (record p { classes = p.classes ++ c ∷ [] })) later (class_words c)
 class_line p c later new slots few =
     let count = count_of_decimal c.slots (omega arith) in
@@ -70,14 +72,18 @@ class_line p c later new slots few =
       cause = no_cause (outside p) later (c.name ∷ decimal c.slots ∷ []) Class (record {
         place = refl;
         number = refl;
-        operands = (good_new (outside p) later Classes c.name new.name_is new.new, (good_decimal (outside p) later 0 most_slots c.slots (omega arith) slots (omega arith), tt));
+        operands = (
+          good_new (outside p) later Classes c.name new.name_is new.new,
+          (good_decimal (outside p) later 0 most_slots c.slots (omega arith) slots (omega arith), tt),
+        );
         limit = lt-leb most_classes (length p.classes) few;
         closed = refl;
       });
-      behind = ap (λ (n : ℕ). outside (record p { classes = p.classes ++ record { name = c.name; slots = n } ∷ [] })) count;
+      after = ap (λ (n : ℕ). outside (record p { classes = p.classes ++ record { name = c.name; slots = n } ∷ [] })) count;
     }
 
-pub classes_read : (final : Before) (classes : List ClassDef) (later : List (List ℕ)) → AreNames (map (λ c. c.name) classes) → AllByRecursion (λ c. c.slots ≤ most_slots) classes → length classes ≤ most_classes
+pub classes_read : (final : Before) (classes : List ClassDef) (later : List (List ℕ))
+    → AreNames (map (λ c. c.name) classes) → AllByRecursion (λ c. c.slots ≤ most_slots) classes → length classes ≤ most_classes
     → ReadsAs final (outside (record { classes = classes; objects = []; threads = [] })) later
     → ReadsAs final (outside (record { classes = []; objects = []; threads = [] })) (map line_of (map class_words classes) ++ later)
 classes_read final classes later names slots few h =
@@ -138,17 +144,24 @@ array_line : (classes : List ClassDef) (done : List ObjectDef) (d : ObjectDef) (
 array_line classes done d later e new class is few =
     let b = declared classes done in
     let size = count_of_decimal d.size (omega arith) in
-    let same = rebuilt d (number_among (map (λ (c : ClassDef). c.name) classes) (class_name classes d.class)) (total_of done) (count_of d.size) true class.class_found (sym is.numbered) size (sym e) in
+    let same = rebuilt d (number_among (map (λ (c : ClassDef). c.name) classes) (class_name classes d.class))
+    (total_of done) (count_of d.size) true class.class_found (sym is.numbered) size (sym e) in
     record {
       words = array_is_words classes d new.name_is class.class_name_is (omega arith);
       cause = no_cause b later (d.name ∷ class_name classes d.class ∷ decimal d.size ∷ []) Array (record {
         place = refl;
         number = refl;
-        operands = (good_new b later Objects d.name new.name_is new.new, (good_known b later Classes (class_name classes d.class) class.class_name_is class.class_known, (good_decimal b later 1 most_objects d.size is.some (omega arith) (omega arith), tt)));
+        operands = (
+          good_new b later Objects d.name new.name_is new.new,
+          (
+            good_known b later Classes (class_name classes d.class) class.class_name_is class.class_known,
+            (good_decimal b later 1 most_objects d.size is.some (omega arith) (omega arith), tt),
+          ),
+        );
         limit = let m : total_of done + count_of d.size ≤ most_objects = omega (arith, size) in le-ltb most_objects (total_of done + count_of d.size) m;
         closed = refl;
       });
-      behind = ap (λ x. declared classes (done ++ x ∷ [])) same;
+      after = ap (λ x. declared classes (done ++ x ∷ [])) same;
     }
 
 object_line : (classes : List ClassDef) (done : List ObjectDef) (d : ObjectDef) (later : List (List ℕ)) → d.array ≡ false
@@ -157,17 +170,21 @@ object_line : (classes : List ClassDef) (done : List ObjectDef) (d : ObjectDef) 
 object_line classes done d later e new class is few =
     let b = declared classes done in
     let size = is.one e in
-    let same = rebuilt d (number_among (map (λ (c : ClassDef). c.name) classes) (class_name classes d.class)) (total_of done) 1 false class.class_found (sym is.numbered) (sym size) (sym e) in
+    let same = rebuilt d (number_among (map (λ (c : ClassDef). c.name) classes) (class_name classes d.class))
+    (total_of done) 1 false class.class_found (sym is.numbered) (sym size) (sym e) in
     record {
       words = single_is_words classes d new.name_is class.class_name_is;
       cause = no_cause b later (d.name ∷ class_name classes d.class ∷ []) Object (record {
         place = refl;
         number = refl;
-        operands = (good_new b later Objects d.name new.name_is new.new, (good_known b later Classes (class_name classes d.class) class.class_name_is class.class_known, tt));
+        operands = (
+          good_new b later Objects d.name new.name_is new.new,
+          (good_known b later Classes (class_name classes d.class) class.class_name_is class.class_known, tt),
+        );
         limit = le-ltb most_objects (total_of done + 1) (omega arith);
         closed = refl;
       });
-      behind = ap (λ x. declared classes (done ++ x ∷ [])) same;
+      after = ap (λ x. declared classes (done ++ x ∷ [])) same;
     }
 
 declaration_line : (classes : List ClassDef) (done : List ObjectDef) (d : ObjectDef) (later : List (List ℕ)) (b : Bool) → d.array ≡ b
@@ -189,22 +206,26 @@ each_unit [] = tt
 each_unit (x ∷ xs) = (tt, each_unit xs)
 
 -- a declaration of objects in the middle of these declarations
-pub object_line_among : (classes : List ClassDef) (objects done : List ObjectDef) (d : ObjectDef) (todo : List ObjectDef) (later : List (List ℕ)) → done ++ d ∷ todo ≡ objects
+pub object_line_among : (classes : List ClassDef) (objects done : List ObjectDef)
+    (d : ObjectDef) (todo : List ObjectDef) (later : List (List ℕ)) → done ++ d ∷ todo ≡ objects
     → AreNames (map (λ c. c.name) classes) → AreNames (map (λ d. d.name) objects) → AreObjects (length classes) 0 objects → total_of objects ≤ most_objects
     → IsRead (declared classes done) (declared classes (done ++ d ∷ [])) later (object_words classes d)
 object_line_among classes objects done d todo later e class_names names are few =
     let is = object_in_middle (length classes) 0 done d todo (subst (AreObjects (length classes) 0) (sym e) are) in
     let total : total_of (done ++ d ∷ todo) ≤ most_objects = rw e few in
     declaration_line classes done d later d.array refl
-    (new_in_middle (λ (d : ObjectDef). d.name) done d todo objects e names) (class_is classes d class_names is.known) (at_zero (length classes) (total_of done) d is)
+    (new_in_middle (λ (d : ObjectDef). d.name) done d todo objects e names) (class_is classes d class_names is.known)
+    (at_zero (length classes) (total_of done) d is)
     (omega (arith, total_of-middle done d todo))
 
-pub objects_read : (final : Before) (classes : List ClassDef) (objects : List ObjectDef) (later : List (List ℕ)) → AreNames (map (λ c. c.name) classes) → AreNames (map (λ d. d.name) objects)
+pub objects_read : (final : Before) (classes : List ClassDef) (objects : List ObjectDef) (later : List (List ℕ))
+    → AreNames (map (λ c. c.name) classes) → AreNames (map (λ d. d.name) objects)
     → AreObjects (length classes) 0 objects → total_of objects ≤ most_objects → ReadsAs final (declared classes objects) later
     → ReadsAs final (declared classes []) (map line_of (map (object_words classes) objects) ++ later)
 objects_read final classes objects later class_names names are few h =
     each_adds (ReadsAs final) (λ done. declared classes done) (object_words classes) (λ d. Unit {0}) objects
-    (λ done d todo rest e q k. line_read final _ _ rest (object_words classes d) (object_line_among classes objects done d todo rest e class_names names are few) k)
+    (λ done d todo rest e q k. line_read final _ _ rest (object_words classes d)
+    (object_line_among classes objects done d todo rest e class_names names are few) k)
     [] objects later refl (each_unit objects) h
 
 -- a local, and a label of the next instruction
@@ -219,10 +240,11 @@ local_line p t name later new few = record {
     limit = lt-leb most_locals (length t.locals) few;
     closed = refl;
   });
-  behind = refl;
+  after = refl;
 }
 
-pub label_read : (final : Before) (p : ProgramText) (t : ThreadDef) (l : LabelDef) (later : List (List ℕ)) → IsNew (map (λ l. l.name) t.labels) l.name → l.index ≡ length t.code + 1
+pub label_read : (final : Before) (p : ProgramText) (t : ThreadDef) (l : LabelDef) (later : List (List ℕ))
+    → IsNew (map (λ l. l.name) t.labels) l.name → l.index ≡ length t.code + 1
     → ReadsAs final (opened p (record t { labels = t.labels ++ l ∷ [] })) later → ReadsAs final (opened p t) (line_of (label_words l) ∷ later)
 label_read final p t l later new index h =
     read_line final (opened p t) (opened p (record t { labels = t.labels ++ l ∷ [] })) later (label_words l)

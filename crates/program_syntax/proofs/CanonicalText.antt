@@ -33,15 +33,15 @@ each_byte P (b ∷ bs) f h =
 word_bytes : (P : ℕ → Type 0) (w : List ℕ) → ((b : ℕ) → is_word_byte b ≡ true → P b) → is_word w ≡ true → AllByRecursion P w
 word_bytes P w f h = each_byte P w f (and_parts (not (is_empty w)) (list_all is_word_byte w) h).1
 
-all_behind : (P : ℕ → Type 0) (xs ys : List ℕ) → AllByRecursion P xs → AllByRecursion P ys → AllByRecursion P (xs ++ ys)
-all_behind P [] ys h k = k
-all_behind P (x ∷ xs) ys h k = (h.0, all_behind P xs ys h.1 k)
+all_after : (P : ℕ → Type 0) (xs ys : List ℕ) → AllByRecursion P xs → AllByRecursion P ys → AllByRecursion P (xs ++ ys)
+all_after P [] ys h k = k
+all_after P (x ∷ xs) ys h k = (h.0, all_after P xs ys h.1 k)
 
 -- what holds of a space and of the bytes of words holds of all bytes of the line
 line_bytes : (P : ℕ → Type 0) (ws : List (List ℕ)) → P 32 → ((b : ℕ) → is_word_byte b ≡ true → P b) → AreWords ws → AllByRecursion P (line_of ws)
 line_bytes P [] s f h = tt
 line_bytes P (w ∷ []) s f h = word_bytes P w f h.0
-line_bytes P (w ∷ v ∷ ws) s f h = all_behind P w (32 ∷ line_of (v ∷ ws)) (word_bytes P w f h.0) (s, line_bytes P (v ∷ ws) s f h.1)
+line_bytes P (w ∷ v ∷ ws) s f h = all_after P w (32 ∷ line_of (v ∷ ws)) (word_bytes P w f h.0) (s, line_bytes P (v ∷ ws) s f h.1)
 
 passes_all : (p : ℕ → Bool) (bs : List ℕ) → AllByRecursion (λ b. p b ≡ true) bs → list_all p bs ≡ true
 passes_all p [] h = refl
@@ -98,7 +98,8 @@ split_words w (v ∷ ws) h =
 pub words_of_line : (ws : List (List ℕ)) → AreWords ws → words_of (line_of ws) ≡ ws
 words_of_line [] h = refl
 words_of_line (w ∷ ws) h =
-    ap (λ line. filter (λ w. not (is_empty w)) (slice_split is_blank line)) (no_comment (line_of (w ∷ ws)) (line_bytes (λ b. (b == 35) ≡ false) (w ∷ ws) refl not_sign h))
+    ap (λ line. filter (λ w. not (is_empty w)) (slice_split is_blank line))
+    (no_comment (line_of (w ∷ ws)) (line_bytes (λ b. (b == 35) ≡ false) (w ∷ ws) refl not_sign h))
     ∙ ap (λ parts. filter (λ w. not (is_empty w)) parts) (split_words w ws h)
     ∙ kept_words (w ∷ ws) h
 
@@ -114,7 +115,7 @@ split_line ws rest h =
     slice_split_at (λ b. b == 10) (line_of ws) 10 rest
     (All-from_recursion (λ b. (b == 10) ≡ false) (line_of ws) (line_bytes (λ b. (b == 10) ≡ false) ws refl not_feed h)) refl
 
--- the lines of a text that is written are the lines, and the empty one behind the last line feed
+-- the lines of a text that is written are the lines, and the empty one after the last line feed
 pub lines_of_text : (lines : List (List (List ℕ))) → AreLines lines → lines_of (flat_map line_text lines) ≡ map line_of lines ++ [] ∷ []
 lines_of_text [] h = refl
 lines_of_text (ws ∷ lines) h =

@@ -25,7 +25,8 @@ pub single_is_words : (classes : List ClassDef) (d : ObjectDef) → is_name d.na
 single_is_words classes d name class =
     (refl, (name_word d.name name, (name_word (class_name classes d.class) class, tt)))
 
-object_is_words_by : (classes : List ClassDef) (d : ObjectDef) (b : Bool) → d.array ≡ b → is_name d.name ≡ true → is_name (class_name classes d.class) ≡ true → d.size ≤ most_objects
+object_is_words_by : (classes : List ClassDef) (d : ObjectDef) (b : Bool) → d.array ≡ b
+    → is_name d.name ≡ true → is_name (class_name classes d.class) ≡ true → d.size ≤ most_objects
     → AreWords (object_words classes d)
 object_is_words_by classes d true e name class size = rw e (array_is_words classes d name class size)
 object_is_words_by classes d false e name class size = rw e (single_is_words classes d name class)

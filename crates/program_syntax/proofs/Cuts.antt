@@ -1,5 +1,6 @@
 -- A list cut at the first element that passes a test.
-use Rattle.std.proofs.Common.{◌≡◌, ℕ, ◌+◌, ◌<◌, ◌≤◌, ◌==◌, Bool, true, false, not, cond, if◌then◌else◌, ltb, List, [], ◌∷◌, ◌++◌, length, take, drop, filter, map, refl, ap, ◌∙◌, arith, Some, None, get_or, length-drop, add-one, drop-cons}
+use Rattle.std.proofs.Common.{◌≡◌, ℕ, ◌+◌, ◌<◌, ◌≤◌, ◌==◌, Bool, true, false, not, cond, if◌then◌else◌, ltb, List, [], ◌∷◌, ◌++◌, length}
+use Rattle.std.proofs.Common.{take, drop, filter, map, refl, ap, ◌∙◌, arith, Some, None, get_or, length-drop, add-one, drop-cons}
 use Rattle.std.specs.Prelude.{position}
 use Rattle.std.specs.List.{slice_split, position_or_len, before_first}
 use Rattle.std.proofs.lemmas.List.{length-map}
@@ -72,13 +73,13 @@ cons_if : (x : ℕ) (c : Bool) (a b : List ℕ) → x ∷ (if c then a else b) �
 cons_if x true a b = refl
 cons_if x false a b = refl
 
-return_behind : (front : List ℕ) (b : ℕ) → without_return (front ++ b ∷ []) ≡ (if b == 13 then front else front ++ b ∷ [])
-return_behind [] b = refl
-return_behind (x ∷ []) b = cons_if x (b == 13) [] (b ∷ [])
-return_behind (x ∷ y ∷ ys) b = ap (λ zs. x ∷ zs) (return_behind (y ∷ ys) b) ∙ cons_if x (b == 13) (y ∷ ys) ((y ∷ ys) ++ b ∷ [])
+return_after : (front : List ℕ) (b : ℕ) → without_return (front ++ b ∷ []) ≡ (if b == 13 then front else front ++ b ∷ [])
+return_after [] b = refl
+return_after (x ∷ []) b = cons_if x (b == 13) [] (b ∷ [])
+return_after (x ∷ y ∷ ys) b = ap (λ zs. x ∷ zs) (return_after (y ∷ ys) b) ∙ cons_if x (b == 13) (y ∷ ys) ((y ∷ ys) ++ b ∷ [])
 
 pub without_return_last : (line front : List ℕ) (b : ℕ) → line ≡ front ++ b ∷ [] → without_return line ≡ (if b == 13 then front else line)
-without_return_last line front b e = rw e (return_behind front b)
+without_return_last line front b e = rw e (return_after front b)
 
 pub without_return_empty : (line : List ℕ) → length line ≡ 0 → without_return line ≡ line
 without_return_empty [] h = refl

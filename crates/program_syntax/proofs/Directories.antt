@@ -1,5 +1,6 @@
 -- Look-ups of names in a directory.
-use Rattle.std.proofs.Common.{◌≡◌, ℕ, ◌+◌, ◌<◌, Bool, true, false, cond, if◌then◌else◌, List, [], ◌∷◌, ◌++◌, length, map, refl, ap, ◌∙◌, sym, arith, Option, Some, None}
+use Rattle.std.proofs.Common.{◌≡◌, ℕ, ◌+◌, ◌<◌, Bool, true, false, cond, if◌then◌else◌, List, [], ◌∷◌}
+use Rattle.std.proofs.Common.{◌++◌, length, map, refl, ap, ◌∙◌, sym, arith, Option, Some, None}
 use Rattle.std.specs.List.{AllByRecursion}
 use Rattle.std.specs.Str.{bytes_eq}
 use Rattle.std.specs.BTreeMap.{BTreeMap, get, Updates}
@@ -22,7 +23,8 @@ use Rattle.program_syntax.specs.inner.Places.{place_from, ArePlaces}
 pub not_among : (names : List (List ℕ)) (word : List ℕ) → AllByRecursion (λ n. is_name n ≡ true) names → is_name word ≡ false → is_among names word ≡ false
 not_among [] word all other = refl
 not_among (n ∷ ns) word all other =
-    let differ : bytes_eq n word ≡ false = false_from_ne_true _ (λ e. let same : n ≡ word = (bytes_eq-Decides n word).0 e in let name = all.0 in absurd (cc (same, name, other))) in
+    let differ : bytes_eq n word ≡ false =
+    false_from_ne_true _ (λ e. let same : n ≡ word = (bytes_eq-Decides n word).0 e in let name = all.0 in absurd (cc (same, name, other))) in
     or_from _ _ differ (not_among ns word all.1 other)
 
 -- a name that isn't there has all before it
@@ -60,7 +62,8 @@ place_is xs name r h = place_by xs name r (is_among xs name) refl (h ∙ place_f
 -- one more name at the end
 push_at : (x y : List ℕ) (xs : List (List ℕ)) (name : List ℕ) (k : ℕ) (b : Bool) → bytes_eq x name ≡ b
     → ((k : ℕ) → place_from k (xs ++ y ∷ []) name ≡ (if is_among xs name then place_from k xs name else if bytes_eq y name then Some (k + length xs) else None))
-    → place_from k (x ∷ xs ++ y ∷ []) name ≡ (if is_among (x ∷ xs) name then place_from k (x ∷ xs) name else if bytes_eq y name then Some (k + length (x ∷ xs)) else None)
+    → place_from k (x ∷ xs ++ y ∷ []) name
+    ≡ (if is_among (x ∷ xs) name then place_from k (x ∷ xs) name else if bytes_eq y name then Some (k + length (x ∷ xs)) else None)
 push_at x y xs name k true e ih = rw e refl
 push_at x y xs name k false e ih =
     rw e (ih (k + 1) ∙ ap (λ n. if is_among xs name then place_from (k + 1) xs name else if bytes_eq y name then Some n else None) (omega arith))
@@ -72,7 +75,8 @@ place_from-push k (x ∷ xs) y name = push_at x y xs name k (bytes_eq x name) re
 
 -- two names are equal in the order of names just where their bytes are
 same_name : (x y : List ℕ) → is_eq (slice_cmp nat_cmp x y) ≡ bytes_eq x y
-same_name x y = same_from_slice_cmp nat_cmp is_eq bytes_eq refl (λ _ _. refl) (λ _ _. refl) (λ x y xs ys o h. grind (arith, nat_tests)) x y (slice_cmp nat_cmp x y) refl
+same_name x y = same_from_slice_cmp nat_cmp is_eq bytes_eq refl (λ _ _. refl)
+    (λ _ _. refl) (λ x y xs ys o h. grind (arith, nat_tests)) x y (slice_cmp nat_cmp x y) refl
 
 -- a name that is there already leaves the places as they are
 among_kept : (xs : List (List ℕ)) (y name : List ℕ) (b : Bool) (c : Bool) → is_among xs name ≡ b → bytes_eq y name ≡ c → is_among xs y ≡ true
@@ -90,7 +94,8 @@ ArePlaces-again xs y places h here there = record {
 }
 
 new_place : (xs : List (List ℕ)) (y name : List ℕ) (b c : Bool) → is_among xs name ≡ b → bytes_eq y name ≡ c → is_among xs y ≡ false
-    → cond (bytes_eq y name) (Some (length xs)) (place_from 0 xs name) ≡ (if is_among xs name then place_from 0 xs name else if bytes_eq y name then Some (0 + length xs) else None)
+    → cond (bytes_eq y name) (Some (length xs)) (place_from 0 xs name)
+    ≡ (if is_among xs name then place_from 0 xs name else if bytes_eq y name then Some (0 + length xs) else None)
 new_place xs y name true true e f new = let same : y ≡ name = (bytes_eq-Decides y name).0 f in absurd (cc (same, e, new))
 new_place xs y name true false e f new = rw (e, f) refl
 new_place xs y name false true e f new = rw (e, f) (ap Some (omega arith))

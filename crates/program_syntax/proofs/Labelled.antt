@@ -28,7 +28,8 @@ is_among-take f (x ∷ xs) zero name = none (is_among (map f (x ∷ xs)) name) (
 is_among-take f (x ∷ xs) (suc n) name = among_at f x xs n name (bytes_eq (f x) name) refl (is_among-take f xs n name)
 
 -- the first label with a name says what it names
-found_at : (l : LabelDef) (ls : List LabelDef) (name : List ℕ) (d : LabelDef) (b : Bool) → bytes_eq l.name name ≡ b → is_among (map (λ l. l.name) (l ∷ ls)) name ≡ true
+found_at : (l : LabelDef) (ls : List LabelDef) (name : List ℕ) (d : LabelDef) (b : Bool)
+    → bytes_eq l.name name ≡ b → is_among (map (λ l. l.name) (l ∷ ls)) name ≡ true
     → (is_among (map (λ l. l.name) ls) name ≡ true → target_among ls name ≡ (slice_index_or ls (number_among (map (λ l. l.name) ls) name) d).index)
     → target_among (l ∷ ls) name ≡ (slice_index_or (l ∷ ls) (number_among (map (λ l. l.name) (l ∷ ls)) name) d).index
 found_at l ls name d true e among ih = rw e refl

@@ -8,7 +8,7 @@ pub mod AllowedParts
 pub mod Cuts
 pub mod Directories
 pub mod Labelled
-pub mod BehindLines
+pub mod AfterLines
 pub mod Numbers
 pub mod Operands
 pub mod CanonicalAhead

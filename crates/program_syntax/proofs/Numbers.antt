@@ -5,10 +5,10 @@ use Rattle.std.proofs.Math.Seq.{drop-cons}
 use Rattle.std.proofs.Math.Nat.{pow-le-pow_right, pow-succ'}
 use Rattle.std.proofs.lemmas.Bool.Decides.{nat_tests}
 use Rattle.object_program.specs.Name.{is_digit}
-use Rattle.program_syntax.specs.Number.{number_behind}
+use Rattle.program_syntax.specs.Number.{number_after}
 
 pub digit_step : (n : ℕ) (bs : List ℕ) (i : ℕ) → i < length bs
-    → number_behind n (drop i bs) ≡ (if is_digit (get_or bs i 0) then number_behind (10 * n + (get_or bs i 0 - 48)) (drop (i + 1) bs) else None)
+    → number_after n (drop i bs) ≡ (if is_digit (get_or bs i 0) then number_after (10 * n + (get_or bs i 0 - 48)) (drop (i + 1) bs) else None)
 digit_step n bs i h = rw (add-one, drop-cons bs i 0) refl
 
 pub digit_bounds : (b : ℕ) → is_digit b ≡ true → (48 ≤ b) × (b ≤ 57)

@@ -1,5 +1,6 @@
 -- What is written piece by piece.
-use Rattle.std.proofs.Common.{◌≡◌, ℕ, ◌+◌, ◌<◌, ◌==◌, Bool, if◌then◌else◌, List, [], ◌∷◌, ◌++◌, length, map, take, drop, get_or, refl, ap, sym, ◌∙◌, arith, append_assoc, append-nil, length-take-le, ne_eqb}
+use Rattle.std.proofs.Common.{◌≡◌, ℕ, ◌+◌, ◌<◌, ◌==◌, Bool, if◌then◌else◌, List, [], ◌∷◌, ◌++◌, length, map, take, drop}
+use Rattle.std.proofs.Common.{get_or, refl, ap, sym, ◌∙◌, arith, append_assoc, append-nil, length-take-le, ne_eqb}
 use Rattle.std.specs.Prelude.{Result, Ok, Err, OnErr}
 use Rattle.std.specs.List.{join_with_byte}
 use Rattle.std.proofs.lemmas.Grind.{flat_map-append}
@@ -13,18 +14,18 @@ use Rattle.object_program.specs.declared.program.LabelDef.{LabelDef}
 use Rattle.object_program.specs.declared.program.ThreadDef.{ThreadDef}
 use Rattle.object_program.specs.declared.program.Code.{Code}
 
--- what begins with more begins with less, where memory was wanting behind it
-pub err_behind : (r : Result (Unit {0}) NoMemory) (old text mid new : List ℕ) → mid ≡ old ++ text → BeginsWith mid new → OnErr r (BeginsWith old new)
-err_behind (Ok u) old text mid new e h = tt
-err_behind (Err d) old text mid new e h =
+-- what begins with more begins with less, where memory was wanting after it
+pub err_after : (r : Result (Unit {0}) NoMemory) (old text mid new : List ℕ) → mid ≡ old ++ text → BeginsWith mid new → OnErr r (BeginsWith old new)
+err_after (Ok u) old text mid new e h = tt
+err_after (Err d) old text mid new e h =
     record { rest = text ++ h.rest; same = h.same ∙ ap (λ xs. xs ++ h.rest) e ∙ append_assoc old text h.rest }
 
 -- the same of the last call, whatever it answers
-pub call_behind : (r : Result (Unit {0}) NoMemory) (old text mid new : List ℕ) → mid ≡ old ++ text → OnErr r (BeginsWith mid new) → OnErr r (BeginsWith old new)
-call_behind (Ok u) old text mid new e h = tt
-call_behind (Err d) old text mid new e h = err_behind (Err d) old text mid new e h
+pub call_after : (r : Result (Unit {0}) NoMemory) (old text mid new : List ℕ) → mid ≡ old ++ text → OnErr r (BeginsWith mid new) → OnErr r (BeginsWith old new)
+call_after (Ok u) old text mid new e h = tt
+call_after (Err d) old text mid new e h = err_after (Err d) old text mid new e h
 
--- two pieces of text, one behind the other
+-- two pieces of text, one after the other
 pub written_more : (old a mid b new c : List ℕ) → mid ≡ old ++ a → new ≡ mid ++ b → a ++ b ≡ c → new ≡ old ++ c
 written_more old a mid b new c e f g = f ∙ ap (λ xs. xs ++ b) e ∙ append_assoc old a b ∙ ap (λ xs. old ++ xs) g
 
@@ -34,9 +35,9 @@ join-push w v [] = refl
 join-push w v (x ∷ xs) =
     ap (λ bs. w ++ 32 ∷ bs) (join-push x v xs) ∙ sym (append_assoc w (32 ∷ join_with_byte 32 (x ∷ xs)) (32 ∷ v))
 
-join_behind : (ws : List (List ℕ)) (v : List ℕ) → join_with_byte 32 ws ++ (if length ws == 0 then v else 32 ∷ v) ≡ join_with_byte 32 (ws ++ v ∷ [])
-join_behind [] v = refl
-join_behind (w ∷ ws) v =
+join_after : (ws : List (List ℕ)) (v : List ℕ) → join_with_byte 32 ws ++ (if length ws == 0 then v else 32 ∷ v) ≡ join_with_byte 32 (ws ++ v ∷ [])
+join_after [] v = refl
+join_after (w ∷ ws) v =
     ap (λ (b : Bool). join_with_byte 32 (w ∷ ws) ++ (if b then v else 32 ∷ v)) (ne_eqb (length (w ∷ ws)) 0 (λ e. omega arith)) ∙ sym (join-push w v ws)
 
 pub join_more : {X : Type 0} (f : X → List ℕ) (xs : List X) (i : ℕ) (d : X) → i < length xs
@@ -44,7 +45,7 @@ pub join_more : {X : Type 0} (f : X → List ℕ) (xs : List X) (i : ℕ) (d : X
 join_more f xs i d lt =
     let long : length (map f (take i xs)) ≡ i = omega (arith, length-map (take i xs) f, length-take-le i xs (omega arith)) in
     let same = ap (λ (n : ℕ). join_with_byte 32 (map f (take i xs)) ++ (if n == 0 then f (get_or xs i d) else 32 ∷ f (get_or xs i d))) (sym long) in
-    same ∙ join_behind (map f (take i xs)) (f (get_or xs i d))
+    same ∙ join_after (map f (take i xs)) (f (get_or xs i d))
     ∙ ap (join_with_byte 32) (sym (map-append f (take i xs) (get_or xs i d ∷ [])) ∙ ap (map f) (sym (take_more xs i d lt)))
 
 -- one more line
@@ -57,7 +58,7 @@ pub label_name_step : (labels : List LabelDef) (l i : ℕ) (d : LabelDef) → i 
     → label_name (drop i labels) l ≡ (if (get_or labels i d).index == l then (get_or labels i d).name else label_name (drop (i + 1) labels) l)
 label_name_step labels l i d lt = rw (drop_more labels i d lt) refl
 
--- one more instruction behind its labels
+-- one more instruction after its labels
 code_lines-push : (classes : List ClassDef) (ds : List ObjectDef) (t : ThreadDef) (n : ℕ) (cs : List Code) (c : Code)
     → code_lines classes ds t n (cs ++ c ∷ [])
     ≡ code_lines classes ds t n cs ++ (map label_words (labels_at (n + length cs) t.labels) ++ instruction_words classes ds t c ∷ [])

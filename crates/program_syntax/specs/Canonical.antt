@@ -8,9 +8,10 @@ use Rattle.object_program.specs.declared.program.ObjectDef.{ObjectDef}
 use Rattle.object_program.specs.declared.program.LabelDef.{LabelDef}
 use Rattle.object_program.specs.declared.program.ThreadDef.{ThreadDef}
 use Rattle.object_program.specs.declared.program.Code.{Code}
-use Rattle.object_program.specs.declared.program.Code.TheVariants.{Set, Add, Sub, Mul, Ref, Elem, Enter, Exit, Wait, Notify, NotifyAll, Get, Put, Hash, New, Print, Jump, Jlt, Jeq, Dump, End}
+use Rattle.object_program.specs.declared.program.Code.TheVariants.{Set, Add, Sub, Mul, Ref, Elem, Enter, Exit, Wait, Notify, NotifyAll}
+use Rattle.object_program.specs.declared.program.Code.TheVariants.{Get, Put, Hash, New, Print, Jump, Jlt, Jeq, Dump, End}
 
--- the words of a line as text: a space between each two, and a line feed behind the last
+-- the words of a line as text: a space between each two, and a line feed after the last
 abbrev pub line_text : List (List ℕ) → List ℕ
 line_text words = join_with_byte 32 words ++ 10 ∷ []
 
@@ -79,7 +80,7 @@ instruction_words classes ds t End = codes "end" ∷ []
 abbrev pub labels_at : ℕ → List LabelDef → List LabelDef
 labels_at n labels = filter (λ l. l.index == n) labels
 
--- these instructions of a thread, the first of which has number n, each behind its labels
+-- these instructions of a thread, the first of which has number n, each after its labels
 abbrev pub code_lines : List ClassDef → List ObjectDef → ThreadDef → ℕ → List Code → List (List (List ℕ))
 code_lines classes ds t n [] = []
 code_lines classes ds t n (c ∷ cs) =

@@ -5,7 +5,7 @@ use Rattle.program_syntax.specs.Text.{is_blank, is_empty}
 use Rattle.program_syntax.specs.Reading.{operand}
 use Rattle.program_syntax.specs.Refusal.{lines_of}
 
--- the lines of what is left; behind the last line nothing is left
+-- the lines of what is left; after the last line nothing is left
 abbrev pub lines_left : Option (List ℕ) → List (List ℕ)
 lines_left None = []
 lines_left (Some text) = lines_of text

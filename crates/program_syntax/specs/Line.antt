@@ -4,7 +4,9 @@ use Rattle.std.specs.Str.{bytes_eq}
 use Rattle.plain_monitor.specs.Numbers.{least_number, greatest_number}
 use Rattle.object_program.specs.Limits.{most_slots, most_objects}
 use Rattle.program_syntax.specs.declared.keyword.Keyword.{Keyword}
-use Rattle.program_syntax.specs.declared.keyword.Keyword.TheVariants.{Class, Object, Array, Thread, Local, Label, Set, Add, Sub, Mul, Ref, Elem, Enter, Exit, Wait, Notify, NotifyAll, Get, Put, Hash, Print, Jump, Jlt, Jeq, Dump, End}
+use Rattle.program_syntax.specs.declared.keyword.Keyword.TheVariants.{Class, Object, Array, Thread, Local, Label, Set, Add, Sub}
+use Rattle.program_syntax.specs.declared.keyword.Keyword.TheVariants.{Mul, Ref, Elem, Enter, Exit, Wait, Notify, NotifyAll, Get}
+use Rattle.program_syntax.specs.declared.keyword.Keyword.TheVariants.{Put, Hash, Print, Jump, Jlt, Jeq, Dump, End}
 use Rattle.program_syntax.specs.declared.keyword.Keyword.TheVariants as keyword
 use Rattle.program_syntax.specs.declared.operand.Space.TheVariants.{Classes, Objects, Threads, Locals, Labels}
 use Rattle.program_syntax.specs.declared.operand.Operand.{Operand}

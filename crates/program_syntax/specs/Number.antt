@@ -1,15 +1,16 @@
 -- Numbers as texts write them.
-use Rattle.std.specs.Prelude.{◌≡◌, ℕ, ℤ, pos, neg_ℤ, int_le, ◌+◌, ◌-◌, ◌*◌, Bool, true, false, ◌&&◌, ◌==◌, nat_le, if◌then◌else◌, List, [], ◌∷◌, length, Option, Some, None, option_map, MatchOption}
+use Rattle.std.specs.Prelude.{◌≡◌, ℕ, ℤ, pos, neg_ℤ, int_le, ◌+◌, ◌-◌, ◌*◌, Bool, true, false, ◌&&◌, ◌==◌, nat_le}
+use Rattle.std.specs.Prelude.{if◌then◌else◌, List, [], ◌∷◌, length, Option, Some, None, option_map, MatchOption}
 use Rattle.object_program.specs.Name.{is_digit}
 
 -- the number whose digits are those of n and then these
-abbrev pub number_behind : ℕ → List ℕ → Option ℕ
-number_behind n [] = Some n
-number_behind n (b ∷ bs) = if is_digit b then number_behind (10 * n + (b - 48)) bs else None
+abbrev pub number_after : ℕ → List ℕ → Option ℕ
+number_after n [] = Some n
+number_after n (b ∷ bs) = if is_digit b then number_after (10 * n + (b - 48)) bs else None
 
 -- 1 to 19 digits; zeros may lead
 abbrev pub digits_of : List ℕ → Option ℕ
-digits_of bs = if nat_le 1 (length bs) && nat_le (length bs) 19 then number_behind 0 bs else None
+digits_of bs = if nat_le 1 (length bs) && nat_le (length bs) 19 then number_after 0 bs else None
 
 -- a minus sign may stand before the digits
 abbrev pub number_of : List ℕ → Option ℤ

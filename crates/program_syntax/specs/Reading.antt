@@ -1,5 +1,6 @@
 -- What a line means, where it has no cause of refusal: the lines before it have declared what it uses, and labels may follow it.
-use Rattle.std.specs.Prelude.{ℕ, ℤ, pos, nat_abs, ◌+◌, Bool, true, false, if◌then◌else◌, List, [], ◌∷◌, ◌++◌, length, map, slice_index_or, Option, Some, None, unwrap_or}
+use Rattle.std.specs.Prelude.{ℕ, ℤ, pos, nat_abs, ◌+◌, Bool, true, false, if◌then◌else◌, List, [], ◌∷◌}
+use Rattle.std.specs.Prelude.{◌++◌, length, map, slice_index_or, Option, Some, None, unwrap_or}
 use Rattle.std.specs.Str.{bytes_eq}
 use Rattle.object_program.specs.Name.{is_name}
 use Rattle.program_syntax.specs.Text.{words_of}
@@ -12,7 +13,9 @@ use Rattle.object_program.specs.declared.program.ThreadDef.{ThreadDef}
 use Rattle.object_program.specs.declared.program.Code.{Code}
 use Rattle.object_program.specs.declared.program.Code.TheVariants as code
 use Rattle.program_syntax.specs.declared.keyword.Keyword.{Keyword}
-use Rattle.program_syntax.specs.declared.keyword.Keyword.TheVariants.{Class, Object, Array, Thread, Local, Label, Set, Add, Sub, Mul, Ref, Elem, Enter, Exit, Wait, Notify, NotifyAll, Get, Put, Hash, New, Print, Jump, Jlt, Jeq, Dump, End}
+use Rattle.program_syntax.specs.declared.keyword.Keyword.TheVariants.{Class, Object, Array, Thread, Local, Label, Set, Add, Sub}
+use Rattle.program_syntax.specs.declared.keyword.Keyword.TheVariants.{Mul, Ref, Elem, Enter, Exit, Wait, Notify, NotifyAll, Get}
+use Rattle.program_syntax.specs.declared.keyword.Keyword.TheVariants.{Put, Hash, New, Print, Jump, Jlt, Jeq, Dump, End}
 
 -- what the lines so far have declared, and the thread of the section that is open, as far as its lines go
 pub record Before : Type 0 where
@@ -37,7 +40,7 @@ ends_section None = false
 ends_section (Some End) = true
 ends_section (Some k) = is_outside k
 
--- the label that a line declares for the instruction with number n: a name, and nothing else behind its keyword
+-- the label that a line declares for the instruction with number n: a name, and nothing else after its keyword
 abbrev pub label_of : ℕ → List (List ℕ) → List LabelDef
 label_of n [] = []
 label_of n (l ∷ []) = if is_name l then record { name = l; index = n } ∷ [] else []
@@ -49,10 +52,10 @@ labels_on n (w ∷ ws) None = []
 labels_on n (w ∷ ws) (Some Label) = label_of n ws
 labels_on n (w ∷ ws) (Some k) = []
 
--- the number of the next instruction behind a line
-abbrev pub number_behind_line : ℕ → Option Keyword → ℕ
-number_behind_line n None = n
-number_behind_line n (Some k) = if is_instruction k then n + 1 else n
+-- the number of the next instruction after a line
+abbrev pub number_after_line : ℕ → Option Keyword → ℕ
+number_after_line n None = n
+number_after_line n (Some k) = if is_instruction k then n + 1 else n
 
 -- the labels on these lines up to the section's end, where the next instruction has number n
 abbrev pub labels_ahead : ℕ → List (List ℕ) → List LabelDef
@@ -61,9 +64,9 @@ labels_ahead n (line ∷ later) =
     let words = words_of line in
     let keyword = first_keyword words in
     if ends_section keyword then []
-    else labels_on n words keyword ++ labels_ahead (number_behind_line n keyword) later
+    else labels_on n words keyword ++ labels_ahead (number_after_line n keyword) later
 
--- all labels of the open section, for one of its instructions: those on the lines before it, and those on the lines behind it
+-- all labels of the open section, for one of its instructions: those on the lines before it, and those on the lines after it
 abbrev pub section_labels : ThreadDef → List (List ℕ) → List LabelDef
 section_labels thread later = thread.labels ++ labels_ahead (length thread.code + 2) later
 
@@ -122,49 +125,49 @@ instruction_on p t later ws Jeq = code.Jeq (local_at t ws 0) (local_at t ws 1) (
 instruction_on p t later ws Dump = code.Dump
 instruction_on p t later ws k = code.End
 
--- the objects that a declaration stands for are numbered behind those before it
+-- the objects that a declaration stands for are numbered after those before it
 abbrev pub declared_objects : ProgramText → List (List ℕ) → ℕ → Bool → ObjectDef
 declared_objects p ws size array =
     record { name = operand ws 0; class = class_at p ws 1; first = total_of p.objects; size = size; array = array }
 
 -- a line of an open section
-abbrev pub thread_behind : ProgramText → ThreadDef → List (List ℕ) → List (List ℕ) → Keyword → ThreadDef
-thread_behind p t later ws Local = record t { locals = t.locals ++ operand ws 0 ∷ [] }
-thread_behind p t later ws Label =
+abbrev pub thread_after : ProgramText → ThreadDef → List (List ℕ) → List (List ℕ) → Keyword → ThreadDef
+thread_after p t later ws Local = record t { locals = t.locals ++ operand ws 0 ∷ [] }
+thread_after p t later ws Label =
     record t { labels = t.labels ++ record { name = operand ws 0; index = length t.code + 1 } ∷ [] }
-thread_behind p t later ws k = record t { code = t.code ++ instruction_on p t later ws k ∷ [] }
+thread_after p t later ws k = record t { code = t.code ++ instruction_on p t later ws k ∷ [] }
 
 -- an `end` closes the section
-abbrev pub section_behind : ProgramText → ThreadDef → Keyword → Before
-section_behind p t End = record { text = record p { threads = p.threads ++ t ∷ [] }; section = None }
-section_behind p t k = record { text = p; section = Some t }
+abbrev pub section_after : ProgramText → ThreadDef → Keyword → Before
+section_after p t End = record { text = record p { threads = p.threads ++ t ∷ [] }; section = None }
+section_after p t k = record { text = p; section = Some t }
 
 abbrev pub in_section : ProgramText → Option ThreadDef → List (List ℕ) → List (List ℕ) → Keyword → Before
 in_section p None later ws k = record { text = p; section = None }
-in_section p (Some t) later ws k = section_behind p (thread_behind p t later ws k) k
+in_section p (Some t) later ws k = section_after p (thread_after p t later ws k) k
 
--- what stands behind a line with this keyword and these operands
-abbrev pub behind_keyword : Before → List (List ℕ) → List (List ℕ) → Keyword → Before
-behind_keyword b later ws Class =
+-- what stands after a line with this keyword and these operands
+abbrev pub after_keyword : Before → List (List ℕ) → List (List ℕ) → Keyword → Before
+after_keyword b later ws Class =
     record b {
       text = record b.text
           { classes = b.text.classes ++ record { name = operand ws 0; slots = count_at ws 1 } ∷ [] };
     }
-behind_keyword b later ws Object =
+after_keyword b later ws Object =
     record b { text = record b.text { objects = b.text.objects ++ declared_objects b.text ws 1 false ∷ [] } }
-behind_keyword b later ws Array =
+after_keyword b later ws Array =
     record b {
       text = record b.text
           { objects = b.text.objects ++ declared_objects b.text ws (count_at ws 2) true ∷ [] };
     }
-behind_keyword b later ws Thread = record b { section = Some (new_thread (operand ws 0)) }
-behind_keyword b later ws k = in_section b.text b.section later ws k
+after_keyword b later ws Thread = record b { section = Some (new_thread (operand ws 0)) }
+after_keyword b later ws k = in_section b.text b.section later ws k
 
-abbrev pub behind_words : Before → List (List ℕ) → List (List ℕ) → Option Keyword → Before
-behind_words b later [] k = b
-behind_words b later (w ∷ ws) None = b
-behind_words b later (w ∷ ws) (Some k) = behind_keyword b later ws k
+abbrev pub after_words : Before → List (List ℕ) → List (List ℕ) → Option Keyword → Before
+after_words b later [] k = b
+after_words b later (w ∷ ws) None = b
+after_words b later (w ∷ ws) (Some k) = after_keyword b later ws k
 
--- what stands behind the line; a line without words changes nothing
-abbrev pub behind_line : Before → List (List ℕ) → List ℕ → Before
-behind_line b later line = behind_words b later (words_of line) (first_keyword (words_of line))
+-- what stands after the line; a line without words changes nothing
+abbrev pub after_line : Before → List (List ℕ) → List ℕ → Before
+after_line b later line = after_words b later (words_of line) (first_keyword (words_of line))

@@ -1,5 +1,6 @@
 -- Which texts have a program, and which cause the others are refused for: the first line that has one, and its lowest-numbered.
-use Rattle.std.specs.Prelude.{ℕ, ◌+◌, Bool, true, false, not, ◌||◌, ◌==◌, nat_le, nat_lt, if◌then◌else◌, List, [], ◌∷◌, length, map, Option, Some, None, is_some, Result, Ok, Err}
+use Rattle.std.specs.Prelude.{ℕ, ◌+◌, Bool, true, false, not, ◌||◌, ◌==◌, nat_le, nat_lt, if◌then◌else◌}
+use Rattle.std.specs.Prelude.{List, [], ◌∷◌, length, map, Option, Some, None, is_some, Result, Ok, Err}
 use Rattle.std.specs.List.{list_all}
 use Rattle.object_program.specs.Name.{is_name}
 use Rattle.program_syntax.specs.Text.{most_bytes, raw_lines, without_return, is_text_byte, words_of}
@@ -12,13 +13,14 @@ use Rattle.program_syntax.specs.declared.operand.Space.TheVariants.{Classes, Obj
 use Rattle.program_syntax.specs.declared.operand.Operand.{Operand}
 use Rattle.program_syntax.specs.declared.operand.Operand.TheVariants.{New, Known, Number}
 use Rattle.object_program.specs.Limits.{most_classes, most_objects, most_threads, most_locals, most_code}
-use Rattle.program_syntax.specs.Reading.{Before, nothing, first_keyword, ends_section, section_labels, count_at, behind_line}
+use Rattle.program_syntax.specs.Reading.{Before, nothing, first_keyword, ends_section, section_labels, count_at, after_line}
 use Rattle.object_program.specs.declared.program.ThreadDef.{ThreadDef}
 use Rattle.program_syntax.specs.declared.keyword.Keyword.{Keyword}
 use Rattle.program_syntax.specs.declared.keyword.Keyword.TheVariants.{Class, Object, Array, Thread, Local, Label, End}
 use Rattle.program_syntax.specs.declared.error.ProgramError.{ProgramError}
-use Rattle.program_syntax.specs.declared.error.Why.{Why}
-use Rattle.program_syntax.specs.declared.error.Why.TheVariants.{NotAscii, UnknownWord, Operands, BadName, Twice, Undeclared, BadNumber, Limit, NoThread, NoEnd}
+use Rattle.program_syntax.specs.declared.error.RefusalCause.{RefusalCause}
+use Rattle.program_syntax.specs.declared.error.RefusalCause.TheVariants.{NotAscii, UnknownWord, Operands, BadName, Twice}
+use Rattle.program_syntax.specs.declared.error.RefusalCause.TheVariants.{Undeclared, BadNumber, Limit, NoThread, NoEnd}
 
 abbrev pub local_names : Option ThreadDef → List (List ℕ)
 local_names None = []
@@ -107,7 +109,7 @@ opens_unclosed later Thread = not (is_closed later)
 opens_unclosed later k = false
 
 -- the cause of a line whose operands are there
-abbrev pub operand_cause : Before → List (List ℕ) → List (List ℕ) → Keyword → Option Why
+abbrev pub operand_cause : Before → List (List ℕ) → List (List ℕ) → Keyword → Option RefusalCause
 operand_cause b later ws k =
     if some_operand is_bad_name (operands_of k) ws then Some BadName
     else if some_operand (is_twice b) (operands_of k) ws then Some Twice
@@ -121,30 +123,30 @@ operand_cause b later ws k =
 abbrev pub is_in_place : Before → Keyword → Bool
 is_in_place b k = is_outside k || is_some b.section
 
-abbrev pub keyword_cause : Before → List (List ℕ) → List (List ℕ) → Option Keyword → Option Why
+abbrev pub keyword_cause : Before → List (List ℕ) → List (List ℕ) → Option Keyword → Option RefusalCause
 keyword_cause b later ws None = Some UnknownWord
 keyword_cause b later ws (Some k) =
     if not (is_in_place b k) then Some UnknownWord
     else if not (length ws == length (operands_of k)) then Some Operands
     else operand_cause b later ws k
 
-abbrev pub words_cause : Before → List (List ℕ) → List (List ℕ) → Option Why
+abbrev pub words_cause : Before → List (List ℕ) → List (List ℕ) → Option RefusalCause
 words_cause b later [] = None
 words_cause b later (w ∷ ws) = keyword_cause b later ws (keyword_of w)
 
 -- the lowest-numbered cause of a line, between those before it and those after it
-abbrev pub line_cause : Before → List (List ℕ) → List ℕ → Option Why
+abbrev pub line_cause : Before → List (List ℕ) → List ℕ → Option RefusalCause
 line_cause b later line = if list_all is_text_byte line then words_cause b later (words_of line) else Some NotAscii
 
 -- a cause refuses the line with this number
-abbrev pub read_on : Option Why → ℕ → Result Before ProgramError → Result Before ProgramError
+abbrev pub read_on : Option RefusalCause → ℕ → Result Before ProgramError → Result Before ProgramError
 read_on None n rest = rest
 read_on (Some why) n rest = Err (record { line = n; why = why })
 
 -- the first refusal of these lines, or what they declare, where the first has this number
 abbrev pub read_from : ℕ → Before → List (List ℕ) → Result Before ProgramError
 read_from n b [] = Ok b
-read_from n b (line ∷ later) = read_on (line_cause b later line) n (read_from (n + 1) (behind_line b later line) later)
+read_from n b (line ∷ later) = read_on (line_cause b later line) n (read_from (n + 1) (after_line b later line) later)
 
 abbrev pub with_thread : ProgramText → Result ProgramText ProgramError
 with_thread p = if length p.threads == 0 then Err (record { line = 0; why = NoThread }) else Ok p

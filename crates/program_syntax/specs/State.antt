@@ -1,7 +1,7 @@
 -- What the reader knows between two lines, as contracts see it.
 use Rattle.std.specs.Prelude.{◌≡◌, ◌+◌, ℕ, true, if◌then◌else◌, List, [], ◌∷◌, ◌++◌, length, take, Option, Some, None, option_map}
 use Rattle.object_program.specs.Program.{ProgramText}
-use Rattle.program_syntax.specs.Reading.{Before, ends_section, labels_on, labels_ahead, number_behind_line, instruction_on, behind_keyword}
+use Rattle.program_syntax.specs.Reading.{Before, ends_section, labels_on, labels_ahead, number_after_line, instruction_on, after_keyword}
 use Rattle.program_syntax.specs.Refusal.{is_closed, is_end, keyword_cause}
 use Rattle.object_program.specs.declared.program.LabelDef.{LabelDef}
 use Rattle.object_program.specs.declared.program.ThreadDef.{ThreadDef}
@@ -10,18 +10,18 @@ use Rattle.program_syntax.specs.declared.state.Declared.{Declared}
 use Rattle.program_syntax.specs.declared.state.Section.{Section}
 use Rattle.program_syntax.specs.declared.state.Reader.{Reader}
 use Rattle.program_syntax.specs.declared.keyword.Keyword.{Keyword}
-use Rattle.program_syntax.specs.declared.error.Why.{Why}
+use Rattle.program_syntax.specs.declared.error.RefusalCause.{RefusalCause}
 
 -- all labels of an open section, before these lines
 abbrev pub labels_from : ThreadDef → List (List ℕ) → List LabelDef
 labels_from t lines = t.labels ++ labels_ahead (length t.code + 1) lines
 
--- all its labels, before a line with this keyword and these operands, and the lines behind it
+-- all its labels, before a line with this keyword and these operands, and the lines after it
 abbrev pub labels_at : ThreadDef → List (List ℕ) → List (List ℕ) → Keyword → List LabelDef
 labels_at t later ws k =
     let n = length t.code + 1 in
     t.labels ++ (if ends_section (Some k) then []
-    else labels_on n ([] ∷ ws) (Some k) ++ labels_ahead (number_behind_line n (Some k)) later)
+    else labels_on n ([] ∷ ws) (Some k) ++ labels_ahead (number_after_line n (Some k)) later)
 
 -- the classes, objects and threads of the lines so far
 abbrev pub text_of : Declared → ProgramText
@@ -62,10 +62,10 @@ abbrev pub IsInstructionOn : Declared → Section → List (List ℕ) → Keywor
 IsInstructionOn d s ws k code =
     (later : List (List ℕ)) → IsAheadOf s later ws k → code ≡ instruction_on (text_of d) (thread_of s) later ws k
 
--- a line with this keyword and these operands, with these lines behind it: why it is refused, what stands behind it, and what
+-- a line with this keyword and these operands, with these lines after it: why it is refused, what stands after it, and what
 -- reading it answers
-abbrev pub cause_of : Reader → List (List ℕ) → List (List ℕ) → Keyword → Option Why
+abbrev pub cause_of : Reader → List (List ℕ) → List (List ℕ) → Keyword → Option RefusalCause
 cause_of r later ws k = keyword_cause (before_of r) later ws (Some k)
 
-abbrev pub IsBehindKeyword : Reader → List (List ℕ) → List (List ℕ) → Keyword → Reader → Type 0
-IsBehindKeyword r later ws k behind = before_of behind ≡ behind_keyword (before_of r) later ws k
+abbrev pub IsAfterKeyword : Reader → List (List ℕ) → List (List ℕ) → Keyword → Reader → Type 0
+IsAfterKeyword r later ws k after = before_of after ≡ after_keyword (before_of r) later ws k

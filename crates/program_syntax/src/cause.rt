@@ -9,7 +9,7 @@ ghost use Rattle.program_syntax.specs.Refusal.{passes_limit, opens_unclosed, is_
 ghost use Rattle.program_syntax.specs.State.{before_of, HasAheadOf, cause_of};
 ghost use Rattle.program_syntax.specs.inner.Steps.{names_collected, is_unknown, fails};
 
-use crate::error::Why;
+use crate::error::RefusalCause;
 use crate::keyword::Keyword;
 use crate::labels::is_closed;
 use crate::limits::{CLASSES, CODE, LOCALS, OBJECTS, THREADS};
@@ -21,41 +21,41 @@ use crate::state::Reader;
 use crate::words::Words;
 use object_program::Name;
 
-/// The cause of a line with this keyword and these operands, with these lines behind it. Where the line uses a label, the reader has
+/// The cause of a line with this keyword and these operands, with these lines after it. Where the line uses a label, the reader has
 /// collected the labels of the section.
 pub fn keyword_cause(
     reader: &Reader,
     keyword: Keyword,
     operands: &Words<'_>,
     later: &Lines<'_>,
-) -> Option<Why>
+) -> Option<RefusalCause>
     requires { uses_label keyword ≡ true → HasAheadOf reader.now.section later.now operands.now keyword }
     ensures { result ≡ cause_of reader.now later.now operands.now keyword }
 {
     if !is_in_place(reader, keyword) {
-        return Some(Why::UnknownWord);
+        return Some(RefusalCause::UnknownWord);
     }
     let kinds = operands_of(keyword);
     if !operands.count_is(kinds.len()) {
-        return Some(Why::Operands);
+        return Some(RefusalCause::Operands);
     }
     if some_operand(Test::BadName, reader, kinds, operands) {
-        return Some(Why::BadName);
+        return Some(RefusalCause::BadName);
     }
     if some_operand(Test::Twice, reader, kinds, operands) {
-        return Some(Why::Twice);
+        return Some(RefusalCause::Twice);
     }
     if some_operand(Test::Undeclared, reader, kinds, operands) {
-        return Some(Why::Undeclared);
+        return Some(RefusalCause::Undeclared);
     }
     if some_operand(Test::BadNumber, reader, kinds, operands) {
-        return Some(Why::BadNumber);
+        return Some(RefusalCause::BadNumber);
     }
     if passes_limit(reader, keyword, operands) {
-        return Some(Why::Limit);
+        return Some(RefusalCause::Limit);
     }
     if opens_unclosed(keyword, later) {
-        return Some(Why::NoEnd);
+        return Some(RefusalCause::NoEnd);
     }
     None
 }

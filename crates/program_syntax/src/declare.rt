@@ -110,7 +110,7 @@ pub fn with_thread(declared: Declared, thread: ThreadDef) -> Result<Declared, No
     })
 }
 
-/// The section that a `thread` line with these operands opens, with these lines behind it.
+/// The section that a `thread` line with these operands opens, with these lines after it.
 ///
 /// # Errors
 ///

@@ -5,7 +5,7 @@ use thiserror::Error;
 /// The cause of a refusal, numbered from 1 in this order: of the causes that a line has, the lowest-numbered is named.
 /// `specs/Refusal.antt` says of each where it comes.
 #[derive(Clone, Copy, Debug, PartialEq, Eq)]
-pub enum Why {
+pub enum RefusalCause {
     /// The line has a byte that is neither a tab nor printing ASCII.
     NotAscii,
     /// The line's first word isn't a word of this place.
@@ -37,5 +37,5 @@ pub enum Why {
 #[error("line {line}: {why:?}")]
 pub struct ProgramError {
     pub line: u32,
-    pub why: Why,
+    pub why: RefusalCause,
 }

@@ -2,7 +2,7 @@
 
 ghost use Rattle.std.specs.Prelude.{◌≡◌, ◌≤◌, ◌+◌, ◌++◌, IfOk, option_to_list};
 ghost use Rattle.program_syntax.specs.Text.{most_bytes, words_of};
-ghost use Rattle.program_syntax.specs.Reading.{first_keyword, label_of, labels_ahead, number_behind_line};
+ghost use Rattle.program_syntax.specs.Reading.{first_keyword, label_of, labels_ahead, number_after_line};
 ghost use Rattle.program_syntax.specs.Refusal.{is_closed};
 ghost use Rattle.program_syntax.specs.inner.Labels.{labels_of_line};
 
@@ -46,7 +46,7 @@ pub fn labels_ahead(alloc: Global, lines: &Lines<'_>) -> Result<Directory<LabelD
             return Ok(labels);
         }
         labels = with_labels_on(labels, line, number)?;
-        number = number_behind_line(number, keyword);
+        number = number_after_line(number, keyword);
     }
     Ok(labels)
 }
@@ -88,10 +88,10 @@ fn label_of(operands: &Words<'_>, number: u32) -> Option<LabelDef>
     })
 }
 
-/// The number of the next instruction behind a line with this keyword.
-fn number_behind_line(number: u32, keyword: Option<Keyword>) -> u32
+/// The number of the next instruction after a line with this keyword.
+fn number_after_line(number: u32, keyword: Option<Keyword>) -> u32
     requires { number ≤ most_bytes + 1 }
-    ensures { result ≡ number_behind_line number keyword }
+    ensures { result ≡ number_after_line number keyword }
 {
     match keyword {
         Some(keyword) if is_instruction(keyword) => number + 1,

@@ -59,7 +59,7 @@ impl<'a> Lines<'a> {
     }
 }
 
-/// The first line of a text, and what stands behind its line feed; `None` where it has none.
+/// The first line of a text, and what stands after its line feed; `None` where it has none.
 fn first_line(text: &[u8]) -> (&[u8], Option<&[u8]>)
     ensures { lines_of text.now ≡ result.0.now ∷ lines_left (option_copied result.1) }
 {

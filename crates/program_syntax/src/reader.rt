@@ -6,7 +6,7 @@ ghost use Rattle.program_syntax.specs.Reading.{nothing};
 ghost use Rattle.program_syntax.specs.Refusal.{read_from, program_of, lines_of};
 ghost use Rattle.program_syntax.specs.Text.{most_bytes};
 ghost use Rattle.program_syntax.specs.State.{before_of, text_of, HasAhead, HasAheadOf};
-ghost use Rattle.program_syntax.specs.State.{cause_of, IsBehindKeyword};
+ghost use Rattle.program_syntax.specs.State.{cause_of, IsAfterKeyword};
 ghost use Rattle.program_syntax.specs.inner.Steps.{IsKeywordStep, IsLineStep};
 ghost use Rattle.program_syntax.specs.inner.Steps.{no_memory, refusal};
 ghost use Rattle.program_syntax.specs.Canonical.{canonical};
@@ -15,7 +15,7 @@ ghost use Rattle.object_program.specs.Valid.{IsProgram};
 use crate::cause::keyword_cause;
 use crate::declare::{new_section, with_class, with_objects, with_thread};
 use crate::directory::Directory;
-use crate::error::{ProgramError, Why};
+use crate::error::{ProgramError, RefusalCause};
 use crate::keyword::Keyword;
 use crate::laws::canonical_texts_are_read_back;
 use crate::limits::BYTES;
@@ -29,8 +29,8 @@ use object_program::{Code, Program};
 use plain_monitor::{List, NoMemory};
 use std::alloc::Global;
 
-/// What a line without a cause leaves, which has this keyword and these operands, with these lines behind it.
-fn behind_keyword(
+/// What a line without a cause leaves, which has this keyword and these operands, with these lines after it.
+fn after_keyword(
     alloc: Global,
     reader: Reader,
     keyword: Keyword,
@@ -39,14 +39,14 @@ fn behind_keyword(
 ) -> Result<Reader, NoMemory>
     requires clean { cause_of reader later.now operands.now keyword ≡ None }
     requires ahead { HasAheadOf reader.section later.now operands.now keyword }
-    ensures behind { IfOk result (IsBehindKeyword reader later.now operands.now keyword) }
+    ensures after { IfOk result (IsAfterKeyword reader later.now operands.now keyword) }
     ensures ahead { IfOk result (λ r. HasAhead r.section later.now) }
 {
     let Reader { declared, section } = reader;
     // A declaration stands in no section: an open one is closed by its `end` first, as else its `thread` line was refused. The definition
     // of a single line allows an open section there.
     let Some(section) = section else {
-        return behind_declaration(alloc, declared, keyword, operands, later);
+        return after_declaration(alloc, declared, keyword, operands, later);
     };
     match keyword {
         Keyword::Local => Ok(Reader {
@@ -71,12 +71,12 @@ fn behind_keyword(
     }
 }
 
-/// What a line without a cause leaves where no section is open, behind these declarations.
+/// What a line without a cause leaves where no section is open, after these declarations.
 ///
 /// # Errors
 ///
 /// `NoMemory` where an allocation fails.
-pub fn behind_declaration(
+pub fn after_declaration(
     alloc: Global,
     declared: Declared,
     keyword: Keyword,
@@ -85,8 +85,8 @@ pub fn behind_declaration(
 ) -> Result<Reader, NoMemory>
     requires outside { is_outside keyword ≡ true }
     requires clean { cause_of (record { declared = declared; section = None }) later.now operands.now keyword ≡ None }
-    ensures behind { IfOk result
-        (IsBehindKeyword (record { declared = declared; section = None }) later.now operands.now keyword) }
+    ensures after { IfOk result
+        (IsAfterKeyword (record { declared = declared; section = None }) later.now operands.now keyword) }
     ensures ahead { IfOk result (λ r. HasAhead r.section later.now) }
 {
     match keyword {
@@ -110,14 +110,14 @@ pub fn behind_declaration(
     }
 }
 
-/// A line with this keyword and these operands, with these lines behind it.
+/// A line with this keyword and these operands, with these lines after it.
 fn keyword_line(
     alloc: Global,
     reader: Reader,
     keyword: Keyword,
     operands: &Words<'_>,
     later: &Lines<'_>,
-) -> Result<Reader, Why>
+) -> Result<Reader, RefusalCause>
     requires { HasAheadOf reader.section later.now operands.now keyword }
     ensures step { IsKeywordStep reader later.now operands.now keyword result }
     ensures ahead { IfOk result (λ r. HasAhead r.section later.now) }
@@ -125,27 +125,32 @@ fn keyword_line(
     if let Some(why) = keyword_cause(&reader, keyword, operands, later) {
         return Err(why);
     }
-    match behind_keyword(alloc, reader, keyword, operands, later) {
+    match after_keyword(alloc, reader, keyword, operands, later) {
         Ok(reader) => Ok(reader),
-        Err(NoMemory) => Err(Why::NoMemory),
+        Err(NoMemory) => Err(RefusalCause::NoMemory),
     }
 }
 
-/// A line, between those before it and those behind it.
-fn read_line(alloc: Global, reader: Reader, line: &[u8], later: &Lines<'_>) -> Result<Reader, Why>
+/// A line, between those before it and those after it.
+fn read_line(
+    alloc: Global,
+    reader: Reader,
+    line: &[u8],
+    later: &Lines<'_>,
+) -> Result<Reader, RefusalCause>
     requires { HasAhead reader.section (line.now ∷ later.now) }
     ensures step { IsLineStep reader later.now line.now result }
     ensures ahead { IfOk result (λ r. HasAhead r.section later.now) }
 {
     if !is_text(line) {
-        return Err(Why::NotAscii);
+        return Err(RefusalCause::NotAscii);
     }
     let mut words = Words::of(line);
     let Some(word) = words.next() else {
         return Ok(reader);
     };
     let Some(keyword) = keyword_of(word) else {
-        return Err(Why::UnknownWord);
+        return Err(RefusalCause::UnknownWord);
     };
     keyword_line(alloc, reader, keyword, &words, later)
 }
@@ -194,41 +199,41 @@ fn read_lines(alloc: Global, bytes: &[u8]) -> Result<Reader, ProgramError>
 /// # Errors
 ///
 /// `Limit` at line 0 where the text has more than 1,048,576 bytes. Else the first line that has a cause of refusal, lines
-/// counted from 1, with its lowest-numbered cause, as `Why` numbers them. Else `NoThread` at line 0 where no line opens a
+/// counted from 1, with its lowest-numbered cause, as `RefusalCause` numbers them. Else `NoThread` at line 0 where no line opens a
 /// section. `NoMemory` at line 0 where an allocation fails, whatever the text. Nothing is kept.
 ///
 /// The canonical text of the program is read as the same program, unless it is too long for a text.
 pub fn read_program(alloc: Global, bytes: &[u8]) -> Result<Program, ProgramError>
     ensures ok { IfOk result (λ p. program_of bytes.now ≡ Ok p) }
-    ensures err { IfErr result (λ e. (program_of bytes.now ≡ Err e) ⊎ (e ≡ record { line = 0; why = Why.NoMemory })) }
+    ensures err { IfErr result (λ e. (program_of bytes.now ≡ Err e) ⊎ (e ≡ record { line = 0; why = RefusalCause.NoMemory })) }
     ensures again { IfOk result (λ p. length (canonical p) ≤ most_bytes → program_of (canonical p) ≡ Ok p) }
 {
     canonical_texts_are_read_back();
     if bytes.len() > BYTES {
-        return Err(of_text(Why::Limit));
+        return Err(of_text(RefusalCause::Limit));
     }
     let Reader {
         declared,
         section: _,
     } = read_lines(alloc, bytes)?;
     if declared.threads.items().is_empty() {
-        return Err(of_text(Why::NoThread));
+        return Err(of_text(RefusalCause::NoThread));
     }
     Ok(program(declared))
 }
 
 /// A refusal of the line with this number. Want of memory is no line's.
-fn refusal(line: u32, why: Why) -> ProgramError
+fn refusal(line: u32, why: RefusalCause) -> ProgramError
     ensures { result ≡ refusal line why }
 {
     match why {
-        Why::NoMemory => of_text(Why::NoMemory),
+        RefusalCause::NoMemory => of_text(RefusalCause::NoMemory),
         why => ProgramError { line, why },
     }
 }
 
 /// A refusal of the text as a whole.
-fn of_text(why: Why) -> ProgramError
+fn of_text(why: RefusalCause) -> ProgramError
     ensures { result ≡ record { line = 0; why = why } }
 {
     ProgramError { line: 0, why }

@@ -5,7 +5,7 @@ ghost use Rattle.std.specs.List.{before_first};
 ghost use Rattle.program_syntax.specs.Text.{is_blank, words_of};
 ghost use Rattle.program_syntax.specs.Reading.{operand};
 ghost use Rattle.program_syntax.specs.Left.{words_in, IsOnlyWord};
-ghost use Rattle.program_syntax.specs.inner.Left.{words_from, words_behind};
+ghost use Rattle.program_syntax.specs.inner.Left.{words_from, words_after};
 
 use std::marker::Model;
 
@@ -120,7 +120,7 @@ fn blank(text: &[u8]) -> Option<usize>
     text.iter().position(|b| *b == b' ' || *b == b'\t')
 }
 
-/// What stands before the first blank, and what stands behind that blank, or `None` where there is none.
+/// What stands before the first blank, and what stands after that blank, or `None` where there is none.
 fn next_part(text: &[u8]) -> (&[u8], Option<&[u8]>)
     ensures words { words_in text.now ≡ words_from result.0.now (option_copied result.1) }
     ensures shorter { IfSome (option_copied result.1) (λ rest. length rest < length text.now) }
@@ -133,7 +133,7 @@ fn next_part(text: &[u8]) -> (&[u8], Option<&[u8]>)
 
 /// What is left, or nothing.
 fn rest_of(rest: Option<&[u8]>) -> &[u8]
-    ensures { words_in result.now ≡ words_behind (option_copied rest.entry) }
+    ensures { words_in result.now ≡ words_after (option_copied rest.entry) }
 {
     match rest {
         None => &[],
@@ -141,7 +141,7 @@ fn rest_of(rest: Option<&[u8]>) -> &[u8]
     }
 }
 
-/// The first word, and what stands behind it; `None` where no word is left.
+/// The first word, and what stands after it; `None` where no word is left.
 fn first_word(text: &[u8]) -> Option<(&[u8], &[u8])>
     ensures { MatchOption result (words_in text.now ≡ []) (λ w. words_in text.now ≡ w.0.now ∷ words_in w.1.now) }
 {

@@ -40,7 +40,7 @@ pub fn write_program(program: &Program, out: &mut Vec<u8>) -> Result<(), NoMemor
 }
 
 /// Writes the lines of the program, part by part.
-#[tactic(auto, using(crate::proofs::Written::err_behind))]
+#[tactic(auto, using(crate::proofs::Written::err_after))]
 fn write_parts(program: &Program, out: &mut Vec<u8>) -> Result<(), NoMemory>
     ensures ok { OnOk result (out.new.items ≡ out.old.items ++ lines_text (program_lines program.now)) }
     ensures err { OnErr result (BeginsWith out.old.items out.new.items) }
@@ -57,7 +57,7 @@ fn write_parts(program: &Program, out: &mut Vec<u8>) -> Result<(), NoMemory>
 /// # Errors
 ///
 /// `NoMemory` where an allocation fails.
-#[tactic(auto, using(crate::proofs::Written::err_behind))]
+#[tactic(auto, using(crate::proofs::Written::err_after))]
 pub fn write_line(out: &mut Vec<u8>, words: &[&[u8]]) -> Result<(), NoMemory>
     ensures ok { OnOk result (out.new.items ≡ out.old.items ++ line_text (map (λ w. w.now) words.now)) }
     ensures err { OnErr result (BeginsWith out.old.items out.new.items) }
@@ -77,7 +77,7 @@ fn write_words(out: &mut Vec<u8>, words: &[&[u8]]) -> Result<(), NoMemory>
     Ok(())
 }
 
-/// Writes a word, behind a space unless it is the first of its line.
+/// Writes a word, after a space unless it is the first of its line.
 fn write_word(out: &mut Vec<u8>, first: bool, word: &[u8]) -> Result<(), NoMemory>
     ensures ok { OnOk result (out.new.items ≡ out.old.items ++ (if first then word.now else 32 ∷ word.now)) }
     ensures err { OnErr result (BeginsWith out.old.items out.new.items) }
@@ -228,7 +228,7 @@ fn write_local(local: &Name, out: &mut Vec<u8>) -> Result<(), NoMemory>
     write_line(out, &words)
 }
 
-/// Writes these instructions of a thread, from the first on, each behind its labels.
+/// Writes these instructions of a thread, from the first on, each after its labels.
 fn write_code(
     classes: &[ClassDef],
     objects: &[ObjectDef],
@@ -245,8 +245,8 @@ fn write_code(
     Ok(())
 }
 
-/// Writes instruction `n` of a thread behind its labels.
-#[tactic(auto, using(crate::proofs::Written::err_behind))]
+/// Writes instruction `n` of a thread after its labels.
+#[tactic(auto, using(crate::proofs::Written::err_after))]
 fn write_step(
     classes: &[ClassDef],
     objects: &[ObjectDef],

@@ -41,7 +41,7 @@ end
     Ok(text)
 }
 
-/// The machine behind a round of turns after the other, where nobody can go on or many rounds are over.
+/// The machine after one round of turns and the next, where nobody can go on or many rounds are over.
 fn stand_still(alloc: Global, program: &Program) -> Result<Machine, Fail>
     ensures { IfOk result (λ m. length m.threads ≡ length program.now.threads) }
 {

@@ -88,7 +88,7 @@ impl<K: Sink> Sink for BufferedSink<K> {
 
     ghost faults = { λ s. K.faults s.inner };
 
-    /// Takes what there is room for. A piece that there is no room for goes behind a `flush`, so it stands whole in
+    /// Takes what there is room for. A piece that there is no room for goes after a `flush`, so it stands whole in
     /// one write of the sink behind, unless it is longer than all of the room. `Failed` is that of the `flush`.
     ///
     /// The sink behind gets nothing while the pieces fit.

@@ -30,7 +30,7 @@ pub as_course : (ch : HeapSeen) (cp : ProgramText) (cf ct : ℕ) (h : HeapSeen) 
 as_course ch cp cf ct h p fuel tick w i r is lies = as_called h p fuel tick ch cp cf ct w i r
     (record { heap = sym is.heap; program = sym is.program; fuel_is = sym is.fuel_is; tick_is = sym is.tick_is }) lies
 
--- behind turns it may lie in its slot again
+-- after turns it may lie in its slot again
 pub lies_on : (h : HeapSeen) (p : ProgramText) (fuel tick : ℕ) (u w : Word) (i : ℕ) (r q : RunnerSeen) → MayLie h p fuel tick u i r
     → HasGoneOn h p tick r q → StandsUnder w q → MayLie h p fuel tick w i q
 lies_on h p fuel tick u w i r q lies gone stands = record {

@@ -1,9 +1,9 @@
 -- The runner of a thread stays it.
 use Rattle.std.proofs.Common.{◌≡◌, ℕ, true, ◌∙◌, refl, false}
-use Rattle.core_world.specs.Threads.Known.{Known}
-use Rattle.core_world.specs.declared.answer.Why.{Why}
-use Rattle.core_world.specs.declared.answer.Why.TheVariants as why
-use Rattle.core_world.specs.declared.answer.Turn.TheVariants.{Pending}
+use Rattle.core_world.specs.Threads.ThreadView.{ThreadView}
+use Rattle.core_world.specs.declared.answer.PendingCause.{PendingCause}
+use Rattle.core_world.specs.declared.answer.PendingCause.TheVariants as why
+use Rattle.core_world.specs.declared.answer.Progress.TheVariants.{Pending}
 use Rattle.heap_table.specs.Seen.{HeapSeen}
 use Rattle.object_program.specs.Program.{ProgramText}
 use Rattle.thread_interp.specs.Checks.{StandsAfterCheck}
@@ -20,8 +20,8 @@ stays_at h p fuel t r q at runner same unchecked =
 pub not_gone : (h : HeapSeen) (p : ProgramText) (tick : ℕ) (r : RunnerSeen) → MayGo h p r → HasGoneOn h p tick r r
 not_gone h p tick r may = record { may = may; same = record { thread = refl; fuel = refl }; timed = λ timed. timed }
 
--- a check that is unfinished behind a pending call asks
-pub still_asks : (k : Known) (w : Why) → StandsAfterCheck k (Pending w) → k.checking ≡ true → k.requesting ≡ true
+-- a check that is unfinished after a pending call asks
+pub still_asks : (k : ThreadView) (w : PendingCause) → StandsAfterCheck k (Pending w) → k.checking ≡ true → k.requesting ≡ true
 still_asks k (why.Stopping word) s unfinished = s.asking.asks
 still_asks k (why.Owned word) s unfinished = absurd (cc (s.over, unfinished))
 still_asks k (why.NotNotified word) s unfinished = absurd (cc (s.over, unfinished))

@@ -2,7 +2,7 @@
 
 ghost use Rattle.std.specs.Prelude.{◌≡◌, ◌≤◌, [], map, IfOk, vec_len, vec_capacity};
 ghost use Rattle.thread_calls.specs.Between.{IsHeapOf};
-ghost use Rattle.run_rounds.specs.Outcome.{HasRun};
+ghost use Rattle.run_rounds.specs.Outcome.{IsRunOutcome};
 ghost use Rattle.run_rounds.specs.Rounds.{AreReady};
 
 use crate::workers::serve_until_over;
@@ -31,7 +31,7 @@ fn into_passes(runners: Vec<Runner>, mut passes: Vec<Pass>) -> Vec<Pass>
 /// Runs the threads of a program on workers, and closes its heap.
 ///
 /// The runners are those of this heap, one for each thread in the order of the threads, all with one fuel, in
-/// instructions, and no check of theirs is unfinished: as `Runner::new` gives them, or behind turns of their own.
+/// instructions, and no check of theirs is unfinished: as `Runner::new` gives them, or after turns of their own.
 /// Each of `workers` workers, or of as many as there are threads where these are fewer, takes runners that are ready,
 /// one after the other, and gives each a turn of at most `quantum` instructions. It returns when all threads have
 /// ended, or when the run was halted because it is stuck, and it may wait for workers.
@@ -59,7 +59,7 @@ pub fn run<R: Threads + Wait + Sync, C: Clock + Sync, G: Gate + Sync>(
     requires quantum { 1 ≤ quantum }
     requires program { IsHeapOf heap program.now }
     requires runners { AreReady heap program.now fuel tick runners }
-    ensures { IfOk result (HasRun heap.heap program.now fuel tick) }
+    ensures { IfOk result (IsRunOutcome heap.heap program.now fuel tick) }
 {
     let passes = Vec::with_capacity(alloc, runners.items().len()).map_err(|_| NoMemory)?;
     let room = Vec::with_capacity(alloc, runners.items().len()).map_err(|_| NoMemory)?;

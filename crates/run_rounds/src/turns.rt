@@ -11,7 +11,7 @@ ghost use Rattle.run_rounds.specs.inner.Slots.{IsCourse, MayLie, StandsUnder};
 ghost use Rattle.run_rounds.specs.inner.Turns.{HasGoneOn};
 
 use crate::course::{Course, RunnerPool, RunnerSeat};
-use core_world::{Turn, Why};
+use core_world::{PendingCause, Progress};
 use heap_table::Heap;
 use object_program::Program;
 use run_io::{Clock, Gate};
@@ -31,7 +31,7 @@ pub enum Outcome {
 }
 
 // A turn of the runner, unless its thread has ended.
-fn turn<K: Clock, G: Gate>(
+fn turn_unless_ended<K: Clock, G: Gate>(
     program: &Program,
     heap: &Heap,
     runner: &mut Runner,
@@ -54,7 +54,7 @@ fn turn<K: Clock, G: Gate>(
         return Outcome::Moved;
     }
     match turn.state {
-        RunState::Blocked(Why::Raced { .. }) => Outcome::Raced,
+        RunState::Blocked(PendingCause::Raced { .. }) => Outcome::Raced,
         _ => Outcome::Stalled,
     }
 }
@@ -94,7 +94,7 @@ pub fn give_turn<C: Course, K: Clock, G: Gate>(
     ensures free { mine.new.me ≡ (seat_view 1 None false, []) }
 {
     let runner = mine.slot_mut(&pool.slots.shared, place as usize);
-    let outcome = turn(program, heap, runner, quantum, clock, tick, gate);
+    let outcome = turn_unless_ended(program, heap, runner, quantum, clock, tick, gate);
     let word = word_after_turn(runner);
     pool.give(mine, place, word);
     outcome
@@ -113,7 +113,7 @@ fn check<R: Wait>(rt: &R, program: &Program, heap: &Heap, runner: &mut Runner) -
     ensures timed { (tick : ℕ) → StaysTimed tick runner.old.pass runner.new.pass }
 {
     for _ in rt.forever() {
-        if let Turn::Done(stuck) = runner.check(program, heap) {
+        if let Progress::Done(stuck) = runner.check(program, heap) {
             return stuck;
         }
         if !runner.checking() {

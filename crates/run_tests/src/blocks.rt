@@ -160,15 +160,15 @@ while i < n
 sync o
 ";
 
-/// Both commands refuse the text of these lines behind `FRONT`, so.
+/// Both commands refuse the text of these lines after `FRONT`, so.
 fn expect_refused<R: Threads + Wait + Abort + AllocGlobal + Sync>(
     rt: &R,
-    behind: &[u8],
+    after: &[u8],
     held: &str,
 ) -> Result<(), Fail> {
     for words in [SYNC, COMPILE] {
         let call = Call {
-            behind,
+            after,
             ..calling(words, FRONT)
         };
         expect(rt, call, 3, false, held)?;
@@ -188,8 +188,8 @@ fn what_has_no_blocks_is_refused(rt: HostRuntime) -> Result<(), Fail> {
         (b"done\ndone\nenter o\nend\n", "line 16: UnknownWord\n"),
         (b"done\ndone\n", "line 3: NoEnd\n"),
     ];
-    for (behind, held) in rows {
-        expect_refused(&rt, behind, held)?;
+    for (after, held) in rows {
+        expect_refused(&rt, after, held)?;
     }
     for words in [SYNC, COMPILE] {
         expect(&rt, calling(words, ""), 3, false, "program: NoThread\n")?;

@@ -8,14 +8,14 @@ use std::sync::Wait;
 use std::test::Fail;
 use std::thread::Threads;
 
-/// What a call is made with: the words behind the program's name, the text and what stands behind it, then how many empty lines, the
+/// What a call is made with: the words after the program's name, the text and what stands after it, then how many empty lines, the
 /// read and the write that fail, by number from 1 or 0 for none, the most bytes that a read gives and a write takes, and from what number the
 /// clock counts, and by which steps.
 #[derive(Clone, Copy)]
 pub struct Call<'a> {
     pub words: &'a [&'a str],
     pub text: &'a str,
-    pub behind: &'a [u8],
+    pub after: &'a [u8],
     pub empty_lines: u32,
     pub read_fails: u32,
     pub write_fails: u32,
@@ -28,7 +28,7 @@ pub fn calling<'a>(words: &'a [&'a str], text: &'a str) -> Call<'a> {
     Call {
         words,
         text,
-        behind: b"",
+        after: b"",
         empty_lines: 0,
         read_fails: 0,
         write_fails: 0,
@@ -37,7 +37,7 @@ pub fn calling<'a>(words: &'a [&'a str], text: &'a str) -> Call<'a> {
     }
 }
 
-/// What became of a call: its status, whether it has a record, its closed heap, whether the machine behind the record is stuck, and what
+/// What became of a call: its status, whether it has a record, its closed heap, whether the machine under the record is stuck, and what
 /// the sink holds then.
 #[derive(Drop)]
 pub struct Made {
@@ -66,10 +66,10 @@ fn words_of(alloc: Global, words: &[&str]) -> Result<Vec<String>, AllocError> {
     Ok(all)
 }
 
-/// The call's text, with all that stands behind it.
+/// The call's text, with all that stands after it.
 fn text_of(alloc: Global, call: &Call) -> Result<Vec<u8>, AllocError> {
     let mut text = Vec::from_slice(alloc, call.text.as_bytes())?;
-    text.extend_from_slice(call.behind)?;
+    text.extend_from_slice(call.after)?;
     for _ in 0..call.empty_lines {
         text.push(b'\n')?;
     }

@@ -10,16 +10,16 @@ use std::thread::Threads;
 
 const CHECK: &[&str] = &["check"];
 
-/// A check of this text, behind which this stands.
-fn checking<'a>(text: &'a str, behind: &'a [u8]) -> Call<'a> {
+/// A check of this text, after which this stands.
+fn checking<'a>(text: &'a str, after: &'a [u8]) -> Call<'a> {
     Call {
-        behind,
+        after,
         ..calling(CHECK, text)
     }
 }
 
 #[test]
-fn journals_of_one_program(rt: HostRuntime) -> Result<(), Fail> {
+fn journals_of_one_program_are_answered(rt: HostRuntime) -> Result<(), Fail> {
     let rows: [(&[u8], u8, &str); 11] = [
         (
             b"%journal\n@1 t1 enter a stack-first\n@2 t1 print 42\n@3 t1 exit a\n@4 t1 done\n",
@@ -57,14 +57,14 @@ fn journals_of_one_program(rt: HostRuntime) -> Result<(), Fail> {
         (b"%journal", 3, "program: NoJournal\n"),
         (b" %journal\n%journal\r\n", 3, "program: NoJournal\n"),
     ];
-    for (behind, status, held) in rows {
-        expect(&rt, checking(ANSWER, behind), status, false, held)?;
+    for (after, status, held) in rows {
+        expect(&rt, checking(ANSWER, after), status, false, held)?;
     }
     Ok(())
 }
 
 #[test]
-fn other_programs(rt: HostRuntime) -> Result<(), Fail> {
+fn journals_of_other_programs_are_answered(rt: HostRuntime) -> Result<(), Fail> {
     let rows: [(&str, &[u8], u8, &str); 5] = [
         (
             HASH,
@@ -87,8 +87,8 @@ fn other_programs(rt: HostRuntime) -> Result<(), Fail> {
         ("class C 17\n", b"%journal\n@1\n", 3, "line 1: BadNumber\n"),
         ("", b"%journal\n", 3, "program: NoThread\n"),
     ];
-    for (text, behind, status, held) in rows {
-        expect(&rt, checking(text, behind), status, false, held)?;
+    for (text, after, status, held) in rows {
+        expect(&rt, checking(text, after), status, false, held)?;
     }
     Ok(())
 }
@@ -125,10 +125,10 @@ fn words_choose_fuel_and_generators(rt: HostRuntime) -> Result<(), Fail> {
             "words refused\n",
         ),
     ];
-    for (words, text, behind, status, held) in rows {
+    for (words, text, after, status, held) in rows {
         let call = Call {
             words,
-            ..checking(text, behind)
+            ..checking(text, after)
         };
         expect(&rt, call, status, false, held)?;
     }
@@ -149,7 +149,7 @@ fn faults_end_a_check(rt: HostRuntime) -> Result<(), Fail> {
     expect(&rt, write_fails, 6, false, "")
 }
 
-/// What a run writes of its journal, behind its program and the marker, is legal.
+/// What a run writes of its journal, after its program and the marker, is legal.
 #[test]
 fn journals_of_runs_are_legal(rt: HostRuntime) -> Result<(), Fail> {
     for (_, text) in EXAMPLES {
@@ -164,7 +164,7 @@ fn expect_legal<R: Threads + Wait + Abort + AllocGlobal + Sync>(
     text: &str,
 ) -> Result<(), Fail> {
     let run = make(rt, calling(&["run", "--journal"], text))?;
-    let mut behind = Vec::from_slice(rt.alloc(), b"%journal\n")?;
+    let mut after = Vec::from_slice(rt.alloc(), b"%journal\n")?;
     let mut entries = 0u32;
     let mut is_journal = false;
     for byte in run.held.iter() {
@@ -173,11 +173,11 @@ fn expect_legal<R: Threads + Wait + Abort + AllocGlobal + Sync>(
             entries = entries.saturating_add(1);
         }
         if is_journal {
-            behind.push(*byte)?;
+            after.push(*byte)?;
         }
     }
     let state = if run.status == 4 { "stuck" } else { "ended" };
     let held = format!(in rt.alloc(); "legal {entries} {state}\n")?;
-    let check = checking(text, behind.as_slice());
+    let check = checking(text, after.as_slice());
     expect(rt, check, 0, false, held.as_str())
 }

@@ -28,7 +28,7 @@ pub struct Due<'a> {
     pub held: Held<'a>,
 }
 
-/// Whether the machine behind the record has to be stuck.
+/// Whether the machine under the record has to be stuck.
 fn is_to_be_stuck(due: &Due) -> bool {
     due.has_record && due.status == 4
 }
@@ -94,7 +94,7 @@ fn program_of(alloc: Global, text: &str) -> Result<String, AllocError> {
     }
 }
 
-/// The call for whom a test fails: its words, its program and what stands behind it, and what of its reads and writes is special.
+/// The call for whom a test fails: its words, its program and what stands after it, and what of its reads and writes is special.
 fn told(alloc: Global, call: &Call) -> Result<String, AllocError> {
     let mut line = String::from_str(alloc, "biasrun")?;
     for word in call.words {
@@ -102,7 +102,7 @@ fn told(alloc: Global, call: &Call) -> Result<String, AllocError> {
         line.push_str(word)?;
     }
     let program = program_of(alloc, call.text)?;
-    let behind = String::from_utf8_lossy(alloc, call.behind)?;
+    let after = String::from_utf8_lossy(alloc, call.after)?;
     let (from, by) = call.clock;
     let rest = format!(in alloc;
         " < {program}\n{behind}(empty_lines {}, read_fails {}, write_fails {}, cut {}, clock {from} by {by})",

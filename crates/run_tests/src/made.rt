@@ -215,9 +215,9 @@ fn journals_of_made_objects_are_checked(rt: HostRuntime) -> Result<(), Fail> {
             "journal 1: unreadable\n",
         ),
     ];
-    for (behind, status, held) in rows {
+    for (after, status, held) in rows {
         let call = Call {
-            behind,
+            after,
             ..calling(&["check"], MADE)
         };
         expect(&rt, call, status, false, held)?;

@@ -8,7 +8,7 @@ use std::test::Fail;
 const MAKE_40: &[&str] = &["make", "40"];
 
 #[test]
-fn forty_items(rt: HostRuntime) -> Result<(), Fail> {
+fn the_program_for_40_items_is_written(rt: HostRuntime) -> Result<(), Fail> {
     let all_goes_well = calling(MAKE_40, "");
     expect(&rt, all_goes_well, 0, false, HANDOVER_40)?;
     // Writes of one byte each change nothing.
@@ -57,12 +57,12 @@ fn faults_end_the_writing(rt: HostRuntime) -> Result<(), Fail> {
 /// The program for the most items runs to its end within the fuel that is there without words. Its items are biased as those of the
 /// program for 40 are.
 #[test]
-fn made_1500(rt: HostRuntime) -> Result<(), Fail> {
+fn the_program_for_1500_items_runs_to_its_end(rt: HostRuntime) -> Result<(), Fail> {
     let making = calling(&["make", "1500"], "");
     let made = make(&rt, making)?;
     same(&rt, &making, made.status, 0)?;
     let run = Call {
-        behind: made.held.as_slice(),
+        after: made.held.as_slice(),
         ..calling(&["run", "--stats"], "")
     };
     let front = "\
@@ -85,14 +85,14 @@ class Flag single ";
 /// Of the 40 items, which the first thread has first, the second one takes 20 one by one and 20 more at once, when the class is biased
 /// anew, and after 40 the class has no biases any more.
 #[test]
-fn biases_of_forty_items(rt: HostRuntime) -> Result<(), Fail> {
+fn biases_of_40_items_are_renewed_and_then_revoked_in_bulk(rt: HostRuntime) -> Result<(), Fail> {
     let run = calling(&["run", "--stats"], HANDOVER_40);
     expect_around(&rt, run, 0, FORTY_ITEMS, &["\n"])
 }
 
 /// The same by a clock that stands at its greatest count, with the longest tick: every moment is the same one.
 #[test]
-fn biases_of_forty_items_where_the_clock_stands(rt: HostRuntime) -> Result<(), Fail> {
+fn biases_of_40_items_end_the_same_where_the_clock_stands(rt: HostRuntime) -> Result<(), Fail> {
     let run = Call {
         clock: (u64::MAX, 0),
         ..calling(&["run", "--stats", "--tick", "4294967295"], HANDOVER_40)
@@ -100,10 +100,10 @@ fn biases_of_forty_items_where_the_clock_stands(rt: HostRuntime) -> Result<(), F
     expect_around(&rt, run, 0, FORTY_ITEMS, &["\n"])
 }
 
-/// Where time goes on by 25 seconds with each look at the clock, the count of a class decays behind a bulk rebias: the first thread takes
+/// Where time goes on by 25 seconds with each look at the clock, the count of a class decays after a bulk rebias: the first thread takes
 /// 19 items back one by one, and the class is biased anew for the 20th, in place of a bulk revoke.
 #[test]
-fn biases_of_forty_items_as_time_goes_on(rt: HostRuntime) -> Result<(), Fail> {
+fn the_count_of_40_items_decays_as_time_goes_on(rt: HostRuntime) -> Result<(), Fail> {
     let front = "\
 t1: 40
 thread t1 done

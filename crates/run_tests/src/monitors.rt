@@ -193,7 +193,7 @@ thread t14 done
 thread t15 done
 ";
 
-/// How many ring positions were claimed in the run, each by an inflation, and the position behind the last monitor that stands in the
+/// How many ring positions were claimed in the run, each by an inflation, and the position after the last monitor that stands in the
 /// ring after it: so many monitors there are, and so often one was given back.
 fn ring(made: &Made) -> Option<(u64, u64)> {
     let closed = made.closed.as_ref()?;
@@ -207,7 +207,7 @@ fn ring(made: &Made) -> Option<(u64, u64)> {
 /// which the others ask still, and this one at the dump of the last thread. Those of the second round stay, so that 16 are left in the
 /// ring.
 #[test]
-fn more_inflations_than_monitors(rt: HostRuntime) -> Result<(), Fail> {
+fn monitors_given_back_serve_later_inflations(rt: HostRuntime) -> Result<(), Fail> {
     let words: &[&str] = &[
         "run",
         "--workers",

@@ -108,7 +108,7 @@ fn ends_are_counted(rt: HostRuntime) -> Result<(), Fail> {
     Ok(())
 }
 
-/// Behind the counts stands a journal that leads to the stuck end, else to the one with a fault, where there is one.
+/// After the counts stands a journal that leads to the stuck end, else to the one with a fault, where there is one.
 #[test]
 fn ways_to_ends_are_shown(rt: HostRuntime) -> Result<(), Fail> {
     let rows: [(&str, u8, &str); 3] = [
@@ -152,7 +152,7 @@ fn states_are_limited(rt: HostRuntime) -> Result<(), Fail> {
 
 /// A text without a program, and a read or a write that fails.
 #[test]
-fn searches_that_are_not_made(rt: HostRuntime) -> Result<(), Fail> {
+fn searches_that_cannot_be_made_are_refused(rt: HostRuntime) -> Result<(), Fail> {
     let words = ["outcomes"];
     let call = calling(&words, ANSWER);
     let read = Call {

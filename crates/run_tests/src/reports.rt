@@ -9,7 +9,7 @@ use std::test::Fail;
 const REPORT: &[&str] = &["run", "--report"];
 
 #[test]
-fn reports_of_one_thread(rt: HostRuntime) -> Result<(), Fail> {
+fn reports_of_one_thread_are_written(rt: HostRuntime) -> Result<(), Fail> {
     let rows: [(&str, u8, &str); 3] = [
         (
             WAIT_FOREVER,
@@ -44,7 +44,7 @@ object h 0 1 ";
 
 /// By which paths the second thread gets a lock depends on where the first one is.
 #[test]
-fn reports_of_two_threads(rt: HostRuntime) -> Result<(), Fail> {
+fn reports_of_two_threads_are_written(rt: HostRuntime) -> Result<(), Fail> {
     let rows: [(&str, u8, &str, &[&str]); 2] = [
         (CROSSWISE, 4, CROSSWISE_REPORT, &[" handovers 2\n"]),
         (
@@ -61,7 +61,7 @@ fn reports_of_two_threads(rt: HostRuntime) -> Result<(), Fail> {
 }
 
 #[test]
-fn a_report_stands_behind_all_others(rt: HostRuntime) -> Result<(), Fail> {
+fn a_report_stands_after_all_others(rt: HostRuntime) -> Result<(), Fail> {
     let words: &[&str] = &["run", "--report", "--journal", "--stats"];
     let held = "\
 t1: 42
@@ -169,7 +169,7 @@ object g 0 1 ";
 
 /// Each cycle is told once, from its least thread on, and the cycles by rising first thread.
 #[test]
-fn three_cycles_at_once(rt: HostRuntime) -> Result<(), Fail> {
+fn three_cycles_are_told_once_each(rt: HostRuntime) -> Result<(), Fail> {
     let text = three_cycles(rt.alloc())?;
     let call = calling(REPORT, text.as_str());
     expect_around(&rt, call, 4, THREE_CYCLES, &["\n"])

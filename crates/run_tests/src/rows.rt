@@ -37,7 +37,7 @@ fn running(text: &str) -> Call {
 
 /// Programs whose output no order of steps changes, under each of the settings.
 #[test]
-fn programs_run(rt: HostRuntime) -> Result<(), Fail> {
+fn programs_write_the_same_under_each_setting(rt: HostRuntime) -> Result<(), Fail> {
     let rows: [(&'static str, u8, &str); 15] = [
         (ANSWER, 0, "t1: 42\nthread t1 done\n"),
         (

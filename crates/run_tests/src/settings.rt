@@ -21,7 +21,7 @@ pub fn settings() -> [&'static [&'static str]; 7] {
     ]
 }
 
-/// Makes the call under each of the settings, with its own words behind theirs, and compares what became of it.
+/// Makes the call under each of the settings, with its own words after theirs, and compares what became of it.
 pub fn expect_under_each<R: Threads + Wait + Abort + AllocGlobal + Sync>(
     rt: &R,
     call: Call,

@@ -22,7 +22,7 @@ impl Gate for Counting {
     }
 }
 
-/// The thread of the program executes six instructions, and then ends, which is no instruction. A turn is over behind as many instructions
+/// The thread of the program executes six instructions, and then ends, which is no instruction. A turn is over after as many instructions
 /// as are asked for: so with six to a turn it has a second one, in which it ends, and with seven it hasn't.
 #[test]
 fn a_quantum_is_how_long_a_turn_is(rt: HostRuntime) -> Result<(), Fail> {

@@ -3,7 +3,7 @@ ghost use Rattle.std.specs.Prelude.{◌≡◌, ◌==◌, ◌+◌, ◌≤◌, ◌
 ghost use Rattle.std.specs.Prelude.{is_none, length};
 ghost use Rattle.std.specs.List.{list_all};
 ghost use Rattle.core_world.specs.Clauses.Lengths.{log_limit};
-ghost use Rattle.core_world.specs.declared.task.Task.TheVariants.{Check};
+ghost use Rattle.core_world.specs.declared.heap_call.HeapCall.TheVariants.{Check};
 ghost use Rattle.core_world.specs.Threads.References.{tells_of, is_told, has_reference, has_value};
 ghost use Rattle.core_world.specs.Trees.Calls.{has_made_numbers, may_operate, may_begin, most_logged};
 ghost use Rattle.core_world.specs.Trees.Operations.{same_op, goes_on_with};
@@ -11,30 +11,30 @@ ghost use Rattle.core_world.specs.Words.Forms.{says_ended, waits_on};
 ghost use Rattle.core_world.specs.Words.Shape.{slots_of};
 ghost use Rattle.heap_table.specs.Resting.{Rests, MayCall, MayOperate};
 
-use core_world::{Op, Task};
+use core_world::{HeapCall, Operation};
 use heap_table::{Heap, Pass, wait_of_word};
 use mark_word::WaitForm;
 use plain_monitor::limits::MADE;
 use plain_monitor::{Entry, Logged, Value};
 
-fn same_op(one: Op, other: Op) -> bool
+fn same_op(one: Operation, other: Operation) -> bool
     ensures { result ≡ same_op one other }
 {
     match (one, other) {
-        (Op::Enter, Op::Enter) => true,
-        (Op::Exit, Op::Exit) => true,
-        (Op::Wait, Op::Wait) => true,
-        (Op::Notify, Op::Notify) => true,
-        (Op::NotifyAll, Op::NotifyAll) => true,
-        (Op::Hash, Op::Hash) => true,
-        (Op::Dump, Op::Dump) => true,
-        (Op::Create, Op::Create) => true,
+        (Operation::Enter, Operation::Enter) => true,
+        (Operation::Exit, Operation::Exit) => true,
+        (Operation::Wait, Operation::Wait) => true,
+        (Operation::Notify, Operation::Notify) => true,
+        (Operation::NotifyAll, Operation::NotifyAll) => true,
+        (Operation::Hash, Operation::Hash) => true,
+        (Operation::Dump, Operation::Dump) => true,
+        (Operation::Create, Operation::Create) => true,
         _ => false,
     }
 }
 
 // Whether this operation on the object is unfinished.
-fn goes_on(pass: &Pass, op: Op, object: u32) -> bool
+fn goes_on(pass: &Pass, op: Operation, object: u32) -> bool
     ensures { result ≡ goes_on_with op object pass.now.known.unfinished }
 {
     match pass.unfinished() {
@@ -88,12 +88,12 @@ fn waits_on(word: u64, object: u32) -> bool
 }
 
 // How many entries the call logs at most.
-fn most_logged(pass: &Pass, task: Task) -> u32
+fn most_logged(pass: &Pass, task: HeapCall) -> u32
     ensures most { result ≡ most_logged pass.now.known task }
     ensures few { result ≤ 2 }
 {
     match task {
-        Task::Wait { object, .. } => {
+        HeapCall::Wait { object, .. } => {
             if waits_on(pass.wait_word(), object) {
                 1
             } else {
@@ -202,7 +202,7 @@ fn has_value(heap: &Heap, pass: &Pass, value: Value) -> bool
     }
 }
 
-fn may_take(heap: &Heap, pass: &Pass, op: Op, object: u32) -> bool
+fn may_take(heap: &Heap, pass: &Pass, op: Operation, object: u32) -> bool
     requires { Rests heap.now pass.now }
     ensures { result ≡ true → (has_reference heap.now.heap.shape pass.now.known object
         && may_operate pass.now.known (goes_on_with op object pass.now.known.unfinished)) ≡ true }
@@ -245,23 +245,24 @@ fn may_check(heap: &Heap, pass: &Pass) -> bool
 }
 
 // Whether the call of this task may begin.
-fn may_begin(heap: &Heap, pass: &Pass, task: Task) -> bool
+fn may_begin(heap: &Heap, pass: &Pass, task: HeapCall) -> bool
     requires { Rests heap.now pass.now }
     ensures { result ≡ true → may_begin heap.now.heap.shape heap.now.heap.biasing pass.now.known task ≡ true }
 {
     match task {
-        Task::Enter { object, .. } => may_take(heap, pass, Op::Enter, object),
-        Task::Exit { object } => may_take(heap, pass, Op::Exit, object),
-        Task::Wait { object, .. } => {
-            may_take(heap, pass, Op::Wait, object) && is_short_for(pass, most_logged(pass, task))
+        HeapCall::Enter { object, .. } => may_take(heap, pass, Operation::Enter, object),
+        HeapCall::Exit { object } => may_take(heap, pass, Operation::Exit, object),
+        HeapCall::Wait { object, .. } => {
+            may_take(heap, pass, Operation::Wait, object)
+                && is_short_for(pass, most_logged(pass, task))
         }
-        Task::Notify { object, .. } => may_take(heap, pass, Op::Notify, object),
-        Task::NotifyAll { object, .. } => may_take(heap, pass, Op::NotifyAll, object),
-        Task::Hash { object, .. } => may_take(heap, pass, Op::Hash, object),
-        Task::Get { object, slot } => {
+        HeapCall::Notify { object, .. } => may_take(heap, pass, Operation::Notify, object),
+        HeapCall::NotifyAll { object, .. } => may_take(heap, pass, Operation::NotifyAll, object),
+        HeapCall::Hash { object, .. } => may_take(heap, pass, Operation::Hash, object),
+        HeapCall::Get { object, slot } => {
             has_slot(heap, pass, object, slot) && may_operate(heap, pass, false)
         }
-        Task::Put {
+        HeapCall::Put {
             object,
             slot,
             value,
@@ -270,26 +271,26 @@ fn may_begin(heap: &Heap, pass: &Pass, task: Task) -> bool
                 && has_value(heap, pass, value)
                 && may_operate(heap, pass, false)
         }
-        Task::Print { value } => has_value(heap, pass, value) && may_operate(heap, pass, false),
-        Task::Dump => may_operate(heap, pass, goes_on(pass, Op::Dump, 0)),
-        Task::Create { class } => may_create(heap, pass, class),
-        Task::Finish { .. } => may_finish(heap, pass),
-        Task::Poll => pass.running(),
-        Task::Stop => pass.running(),
-        Task::Resume => !pass.running() && !pass.requesting(),
-        Task::Check => may_check(heap, pass),
+        HeapCall::Print { value } => has_value(heap, pass, value) && may_operate(heap, pass, false),
+        HeapCall::Dump => may_operate(heap, pass, goes_on(pass, Operation::Dump, 0)),
+        HeapCall::Create { class } => may_create(heap, pass, class),
+        HeapCall::Finish { .. } => may_finish(heap, pass),
+        HeapCall::Poll => pass.running(),
+        HeapCall::Stop => pass.running(),
+        HeapCall::Resume => !pass.running() && !pass.requesting(),
+        HeapCall::Check => may_check(heap, pass),
         _ => false,
     }
 }
 
-fn has_room(pass: &Pass, task: Task) -> bool
+fn has_room(pass: &Pass, task: HeapCall) -> bool
     ensures { result ≡ true → length pass.now.known.log + most_logged pass.now.known task ≤ pass.now.limit }
 {
     pass.room() >= most_logged(pass, task)
 }
 
 /// Whether a call of this task may begin that makes no operation.
-pub fn may_call(heap: &Heap, pass: &Pass, task: Task) -> bool
+pub fn may_call(heap: &Heap, pass: &Pass, task: HeapCall) -> bool
     requires { Rests heap.now pass.now }
     ensures { result ≡ true → MayCall heap.now pass.now task }
 {
@@ -297,7 +298,7 @@ pub fn may_call(heap: &Heap, pass: &Pass, task: Task) -> bool
 }
 
 /// Whether an operation of this task may begin.
-pub fn may_make(heap: &Heap, pass: &Pass, task: Task) -> bool
+pub fn may_make(heap: &Heap, pass: &Pass, task: HeapCall) -> bool
     requires { Rests heap.now pass.now }
     ensures { result ≡ true → MayOperate heap.now pass.now task }
 {

@@ -7,7 +7,7 @@ use crate::calls::{
 };
 use crate::compare::{holds, same};
 use crate::last::{closed, count, displaced, has_stamps, mark, monitor, prototype};
-use core_world::{Turn, Why};
+use core_world::{PendingCause, Progress};
 use heap_table::{Heap, Pass};
 use plain_monitor::Path;
 use std::process::Abort;
@@ -32,7 +32,7 @@ fn revoke(rt: &impl Abort, heap: &Heap, p0: &mut Pass, p1: &mut Pass)
 {
     bias(rt, heap, p0, p1);
     holds(rt, stop(heap, p0));
-    let owned = Why::Owned { word: 4096 };
+    let owned = PendingCause::Owned { word: 4096 };
     same(rt, enter(heap, p1, 0, 1), not_entered(owned));
     holds(rt, stop(heap, p1));
 }
@@ -75,10 +75,14 @@ fn a_revocation_waits_until_the_others_stop(rt: HostRuntime) -> Result<(), Fail>
     let (heap, mut p0, mut p1) = begin(rt.alloc(), true)?;
     bias(&rt, &heap, &mut p0, &mut p1);
     let word = 8589934593;
-    let stopping = Why::Stopping { word };
-    let owned = Why::Owned { word: 4096 };
+    let stopping = PendingCause::Stopping { word };
+    let owned = PendingCause::Owned { word: 4096 };
     same(&rt, enter(&heap, &mut p1, 0, 1), not_entered(stopping));
-    same(&rt, poll(&heap, &mut p0), pending(Why::Requested { word }));
+    same(
+        &rt,
+        poll(&heap, &mut p0),
+        pending(PendingCause::Requested { word }),
+    );
     holds(&rt, stop(&heap, &mut p0));
     same(&rt, enter(&heap, &mut p1, 0, 1), not_entered(owned));
     Ok(())
@@ -93,7 +97,7 @@ fn visit(heap: &Heap, pass: &mut Pass, from: u32, to: u32, now: u64) -> bool
         return false;
     }
     for object in from..to {
-        let Some(Ok(Turn::Done(_))) = enter(heap, pass, object, now) else {
+        let Some(Ok(Progress::Done(_))) = enter(heap, pass, object, now) else {
             return false;
         };
         if exit(heap, pass, object) != LEFT {
@@ -114,7 +118,7 @@ fn round(heap: &Heap, p0: &mut Pass, p1: &mut Pass, round: u32) -> bool
     visit(heap, p0, from, from + 20, now) && visit(heap, p1, from, from + 20, now)
 }
 
-// Whether the first thread visited the last object, behind the first round.
+// Whether the first thread visited the last object, after the first round.
 fn first_round(heap: &Heap, p0: &mut Pass, p1: &mut Pass) -> bool
     requires { Rests heap.now p0.old × Rests heap.now p1.old }
     ensures { Rests heap.now p0.new × Rests heap.now p1.new }

@@ -4,7 +4,10 @@ ghost use Rattle.heap_table.specs.Fresh.{IsFresh};
 ghost use Rattle.heap_table.specs.Resting.{Rests};
 
 use crate::asked::{may_call, may_make};
-use core_world::{IllegalMonitorState, Task, TooDeep, TooMany, TooManyDumps, Turn, Unguarded, Why};
+use core_world::{
+    HeapCall, IllegalMonitorState, PendingCause, Progress, TooDeep, TooMany, TooManyDumps,
+    Unguarded,
+};
 use heap_table::{Heap, HeapShape, Pass};
 use lawful_heap::new_heap;
 use plain_monitor::{Ending, NoMemory, Path, Value};
@@ -57,11 +60,11 @@ pub fn begin_to_make(alloc: Global, biasing: bool) -> Result<(Heap, Pass, Pass),
     fresh_to_make(alloc, biasing)
 }
 
-pub fn poll(heap: &Heap, pass: &mut Pass) -> Option<Turn<()>>
+pub fn poll(heap: &Heap, pass: &mut Pass) -> Option<Progress<()>>
     requires { Rests heap.now pass.old }
     ensures { Rests heap.now pass.new }
 {
-    if may_call(heap, pass, Task::Poll) {
+    if may_call(heap, pass, HeapCall::Poll) {
         Some(lock_runtime::poll(heap, pass))
     } else {
         None
@@ -72,7 +75,7 @@ pub fn stop(heap: &Heap, pass: &mut Pass) -> bool
     requires { Rests heap.now pass.old }
     ensures { Rests heap.now pass.new }
 {
-    if may_call(heap, pass, Task::Stop) {
+    if may_call(heap, pass, HeapCall::Stop) {
         lock_runtime::stop(heap, pass);
         true
     } else {
@@ -80,11 +83,11 @@ pub fn stop(heap: &Heap, pass: &mut Pass) -> bool
     }
 }
 
-pub fn resume(heap: &Heap, pass: &mut Pass) -> Option<Turn<()>>
+pub fn resume(heap: &Heap, pass: &mut Pass) -> Option<Progress<()>>
     requires { Rests heap.now pass.old }
     ensures { Rests heap.now pass.new }
 {
-    if may_call(heap, pass, Task::Resume) {
+    if may_call(heap, pass, HeapCall::Resume) {
         Some(lock_runtime::resume(heap, pass))
     } else {
         None
@@ -96,11 +99,11 @@ pub fn enter(
     pass: &mut Pass,
     object: u32,
     now: u64,
-) -> Option<Result<Turn<Path>, TooDeep>>
+) -> Option<Result<Progress<Path>, TooDeep>>
     requires { Rests heap.now pass.old }
     ensures { Rests heap.now pass.new }
 {
-    if may_make(heap, pass, Task::Enter { object, now }) {
+    if may_make(heap, pass, HeapCall::Enter { object, now }) {
         Some(lock_runtime::enter(heap, pass, object, now))
     } else {
         None
@@ -111,11 +114,11 @@ pub fn exit(
     heap: &Heap,
     pass: &mut Pass,
     object: u32,
-) -> Option<Result<Turn<()>, IllegalMonitorState>>
+) -> Option<Result<Progress<()>, IllegalMonitorState>>
     requires { Rests heap.now pass.old }
     ensures { Rests heap.now pass.new }
 {
-    if may_make(heap, pass, Task::Exit { object }) {
+    if may_make(heap, pass, HeapCall::Exit { object }) {
         Some(lock_runtime::exit(heap, pass, object))
     } else {
         None
@@ -126,7 +129,7 @@ pub fn get(heap: &Heap, pass: &mut Pass, object: u32, slot: u32) -> Option<Resul
     requires { Rests heap.now pass.old }
     ensures { Rests heap.now pass.new }
 {
-    if may_make(heap, pass, Task::Get { object, slot }) {
+    if may_make(heap, pass, HeapCall::Get { object, slot }) {
         Some(lock_runtime::get(heap, pass, object, slot))
     } else {
         None
@@ -143,7 +146,7 @@ pub fn put(
     requires { Rests heap.now pass.old }
     ensures { Rests heap.now pass.new }
 {
-    let task = Task::Put {
+    let task = HeapCall::Put {
         object,
         slot,
         value,
@@ -159,7 +162,7 @@ pub fn print(heap: &Heap, pass: &mut Pass, value: Value) -> bool
     requires { Rests heap.now pass.old }
     ensures { Rests heap.now pass.new }
 {
-    if may_make(heap, pass, Task::Print { value }) {
+    if may_make(heap, pass, HeapCall::Print { value }) {
         lock_runtime::print(heap, pass, value);
         true
     } else {
@@ -171,7 +174,7 @@ pub fn finish(heap: &Heap, pass: &mut Pass, ending: Ending) -> bool
     requires { Rests heap.now pass.old }
     ensures { Rests heap.now pass.new }
 {
-    if may_make(heap, pass, Task::Finish { ending }) {
+    if may_make(heap, pass, HeapCall::Finish { ending }) {
         lock_runtime::finish(heap, pass, ending);
         true
     } else {
@@ -184,11 +187,11 @@ pub fn wait(
     pass: &mut Pass,
     object: u32,
     now: u64,
-) -> Option<Result<Turn<()>, IllegalMonitorState>>
+) -> Option<Result<Progress<()>, IllegalMonitorState>>
     requires { Rests heap.now pass.old }
     ensures { Rests heap.now pass.new }
 {
-    if may_make(heap, pass, Task::Wait { object, now }) {
+    if may_make(heap, pass, HeapCall::Wait { object, now }) {
         Some(lock_runtime::wait(heap, pass, object, now))
     } else {
         None
@@ -200,11 +203,11 @@ pub fn notify(
     pass: &mut Pass,
     object: u32,
     now: u64,
-) -> Option<Result<Turn<Option<u32>>, IllegalMonitorState>>
+) -> Option<Result<Progress<Option<u32>>, IllegalMonitorState>>
     requires { Rests heap.now pass.old }
     ensures { Rests heap.now pass.new }
 {
-    if may_make(heap, pass, Task::Notify { object, now }) {
+    if may_make(heap, pass, HeapCall::Notify { object, now }) {
         Some(lock_runtime::notify(heap, pass, object, now))
     } else {
         None
@@ -216,44 +219,44 @@ pub fn notify_all(
     pass: &mut Pass,
     object: u32,
     now: u64,
-) -> Option<Result<Turn<u32>, IllegalMonitorState>>
+) -> Option<Result<Progress<u32>, IllegalMonitorState>>
     requires { Rests heap.now pass.old }
     ensures { Rests heap.now pass.new }
 {
-    if may_make(heap, pass, Task::NotifyAll { object, now }) {
+    if may_make(heap, pass, HeapCall::NotifyAll { object, now }) {
         Some(lock_runtime::notify_all(heap, pass, object, now))
     } else {
         None
     }
 }
 
-pub fn check_stuck(heap: &Heap, pass: &mut Pass) -> Option<Turn<bool>>
+pub fn check_stuck(heap: &Heap, pass: &mut Pass) -> Option<Progress<bool>>
     requires { Rests heap.now pass.old }
     ensures { Rests heap.now pass.new }
 {
-    if may_call(heap, pass, Task::Check) {
+    if may_call(heap, pass, HeapCall::Check) {
         Some(lock_runtime::check_stuck(heap, pass))
     } else {
         None
     }
 }
 
-pub fn hash(heap: &Heap, pass: &mut Pass, object: u32, now: u64) -> Option<Turn<u32>>
+pub fn hash(heap: &Heap, pass: &mut Pass, object: u32, now: u64) -> Option<Progress<u32>>
     requires { Rests heap.now pass.old }
     ensures { Rests heap.now pass.new }
 {
-    if may_make(heap, pass, Task::Hash { object, now }) {
+    if may_make(heap, pass, HeapCall::Hash { object, now }) {
         Some(lock_runtime::hash(heap, pass, object, now))
     } else {
         None
     }
 }
 
-pub fn dump(heap: &Heap, pass: &mut Pass) -> Option<Result<Turn<u32>, TooManyDumps>>
+pub fn dump(heap: &Heap, pass: &mut Pass) -> Option<Result<Progress<u32>, TooManyDumps>>
     requires { Rests heap.now pass.old }
     ensures { Rests heap.now pass.new }
 {
-    if may_make(heap, pass, Task::Dump) {
+    if may_make(heap, pass, HeapCall::Dump) {
         Some(lock_runtime::dump(heap, pass))
     } else {
         None
@@ -264,7 +267,7 @@ pub fn create(heap: &Heap, pass: &mut Pass, class: u32) -> Option<Result<u32, To
     requires { Rests heap.now pass.old }
     ensures { Rests heap.now pass.new }
 {
-    if may_make(heap, pass, Task::Create { class }) {
+    if may_make(heap, pass, HeapCall::Create { class }) {
         Some(lock_runtime::create(heap, pass, class))
     } else {
         None
@@ -272,18 +275,18 @@ pub fn create(heap: &Heap, pass: &mut Pass, class: u32) -> Option<Result<u32, To
 }
 
 /// What a call answers that is done, or pending.
-pub const DONE: Option<Turn<()>> = Some(Turn::Done(()));
+pub const DONE: Option<Progress<()>> = Some(Progress::Done(()));
 
-pub fn pending(why: Why) -> Option<Turn<()>> {
-    Some(Turn::Pending(why))
+pub fn pending(why: PendingCause) -> Option<Progress<()>> {
+    Some(Progress::Pending(why))
 }
 
-pub fn entered(path: Path) -> Option<Result<Turn<Path>, TooDeep>> {
-    Some(Ok(Turn::Done(path)))
+pub fn entered(path: Path) -> Option<Result<Progress<Path>, TooDeep>> {
+    Some(Ok(Progress::Done(path)))
 }
 
-pub fn not_entered(why: Why) -> Option<Result<Turn<Path>, TooDeep>> {
-    Some(Ok(Turn::Pending(why)))
+pub fn not_entered(why: PendingCause) -> Option<Result<Progress<Path>, TooDeep>> {
+    Some(Ok(Progress::Pending(why)))
 }
 
-pub const LEFT: Option<Result<Turn<()>, IllegalMonitorState>> = Some(Ok(Turn::Done(())));
+pub const LEFT: Option<Result<Progress<()>, IllegalMonitorState>> = Some(Ok(Progress::Done(())));

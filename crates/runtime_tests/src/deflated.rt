@@ -7,7 +7,7 @@ use crate::calls::{
 };
 use crate::compare::{holds, same};
 use crate::last::{claim, closed, end, mark, monitor, ring};
-use core_world::{Turn, Why};
+use core_world::{PendingCause, Progress};
 use heap_table::{Heap, Pass};
 use plain_monitor::Path;
 use std::process::Abort;
@@ -21,16 +21,16 @@ fn inflate_and_dump(rt: &impl Abort, heap: &Heap, p0: &mut Pass, p1: &mut Pass)
     same(rt, resume(heap, p0), DONE);
     same(rt, resume(heap, p1), DONE);
     same(rt, enter(heap, p0, 0, 1), entered(Path::StackFirst));
-    let owned = Why::Owned { word: 4096 };
+    let owned = PendingCause::Owned { word: 4096 };
     same(rt, enter(heap, p1, 0, 1), not_entered(owned));
     same(rt, exit(heap, p0, 0), LEFT);
     same(rt, enter(heap, p1, 0, 1), entered(Path::MonitorFirst));
     same(rt, exit(heap, p1, 0), LEFT);
     holds(rt, stop(heap, p1));
-    same(rt, dump(heap, p0), Some(Ok(Turn::Done(1))));
+    same(rt, dump(heap, p0), Some(Ok(Progress::Done(1))));
 }
 
-// The first claim gave monitor 0. It stands behind the 103 positions of the beginning again.
+// The first claim gave monitor 0. It stands after the 103 positions of the beginning again.
 #[test]
 fn an_idle_monitor_stands_in_the_ring_again(rt: HostRuntime) -> Result<(), Fail> {
     let (heap, mut p0, mut p1) = begin(rt.alloc(), false)?;
@@ -52,7 +52,7 @@ fn the_next_inflation_has_the_next_monitor(rt: HostRuntime) -> Result<(), Fail> 
     inflate_and_dump(&rt, &heap, &mut p0, &mut p1);
     same(&rt, resume(&heap, &mut p1), DONE);
     same(&rt, enter(&heap, &mut p0, 1, 1), entered(Path::StackFirst));
-    let owned = Why::Owned { word: 4096 };
+    let owned = PendingCause::Owned { word: 4096 };
     same(&rt, enter(&heap, &mut p1, 1, 1), not_entered(owned));
     holds(&rt, stop(&heap, &mut p0));
     holds(&rt, stop(&heap, &mut p1));
@@ -70,10 +70,10 @@ fn an_object_with_a_waiter_keeps_its_monitor(rt: HostRuntime) -> Result<(), Fail
     same(&rt, resume(&heap, &mut p0), DONE);
     same(&rt, resume(&heap, &mut p1), DONE);
     same(&rt, enter(&heap, &mut p0, 0, 1), entered(Path::StackFirst));
-    let unheard = Turn::Pending(Why::NotNotified { word: 524290 });
+    let unheard = Progress::Pending(PendingCause::NotNotified { word: 524290 });
     same(&rt, wait(&heap, &mut p0, 0, 1), Some(Ok(unheard)));
     holds(&rt, stop(&heap, &mut p0));
-    same(&rt, dump(&heap, &mut p1), Some(Ok(Turn::Done(1))));
+    same(&rt, dump(&heap, &mut p1), Some(Ok(Progress::Done(1))));
     holds(&rt, stop(&heap, &mut p1));
     let closed = closed(&rt, heap, p0, p1);
     same(&rt, mark(&closed, 0), Some(10));

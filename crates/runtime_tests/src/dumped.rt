@@ -1,7 +1,7 @@
 //! Dumps of who has which object.
 use crate::calls::{DONE, begin, dump, enter, entered, resume, stop};
 use crate::compare::{holds, same};
-use core_world::{TooManyDumps, Turn};
+use core_world::{Progress, TooManyDumps};
 use heap_table::Cell;
 use plain_monitor::Path;
 use std::test::Fail;
@@ -29,7 +29,7 @@ fn a_dump_shows_the_owner_by_a_bias(rt: HostRuntime) -> Result<(), Fail> {
     same(&rt, enter(&heap, &mut p0, 3, 1), entered(Path::BiasOwn));
     holds(&rt, stop(&heap, &mut p0));
     same(&rt, resume(&heap, &mut p1), DONE);
-    same(&rt, dump(&heap, &mut p1), Some(Ok(Turn::Done(1))));
+    same(&rt, dump(&heap, &mut p1), Some(Ok(Progress::Done(1))));
     let Some(shot) = p1.shots().first() else {
         panic!(rt; "it was taken")
     };
@@ -37,9 +37,9 @@ fn a_dump_shows_the_owner_by_a_bias(rt: HostRuntime) -> Result<(), Fail> {
     holds(&rt, matches!(shot.cut.items(), [2, 0]));
     same(&rt, shot.cells.items().len(), 101);
     holds(&rt, owns_alone(shot.cells.items(), 3, 0, 2));
-    same(&rt, dump(&heap, &mut p1), Some(Ok(Turn::Done(2))));
-    same(&rt, dump(&heap, &mut p1), Some(Ok(Turn::Done(3))));
-    same(&rt, dump(&heap, &mut p1), Some(Ok(Turn::Done(4))));
+    same(&rt, dump(&heap, &mut p1), Some(Ok(Progress::Done(2))));
+    same(&rt, dump(&heap, &mut p1), Some(Ok(Progress::Done(3))));
+    same(&rt, dump(&heap, &mut p1), Some(Ok(Progress::Done(4))));
     same(&rt, dump(&heap, &mut p1), Some(Err(TooManyDumps)));
     Ok(())
 }

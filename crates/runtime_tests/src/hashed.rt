@@ -2,7 +2,7 @@
 use crate::calls::{DONE, LEFT, begin, enter, entered, exit, hash, resume, stop};
 use crate::compare::{holds, same};
 use crate::last::{closed, mark, monitor};
-use core_world::Turn;
+use core_world::Progress;
 use plain_monitor::{Entry, Logged, Path};
 use std::test::Fail;
 
@@ -27,9 +27,17 @@ fn a_hash_is_drawn_once(rt: HostRuntime) -> Result<(), Fail> {
     let (heap, mut p0, mut p1) = begin(rt.alloc(), false)?;
     same(&rt, resume(&heap, &mut p0), DONE);
     same(&rt, resume(&heap, &mut p1), DONE);
-    same(&rt, hash(&heap, &mut p1, 5, 1), Some(Turn::Done(273331126)));
+    same(
+        &rt,
+        hash(&heap, &mut p1, 5, 1),
+        Some(Progress::Done(273331126)),
+    );
     same(&rt, last(p1.log()), hashed(5, 273331126, Some(1)));
-    same(&rt, hash(&heap, &mut p0, 5, 1), Some(Turn::Done(273331126)));
+    same(
+        &rt,
+        hash(&heap, &mut p0, 5, 1),
+        Some(Progress::Done(273331126)),
+    );
     same(&rt, last(p0.log()), hashed(5, 273331126, None));
     holds(&rt, stop(&heap, &mut p0));
     holds(&rt, stop(&heap, &mut p1));
@@ -43,7 +51,11 @@ fn a_hash_under_a_bias_is_kept_in_the_monitor(rt: HostRuntime) -> Result<(), Fai
     let (heap, mut p0, p1) = begin(rt.alloc(), true)?;
     same(&rt, resume(&heap, &mut p0), DONE);
     same(&rt, enter(&heap, &mut p0, 0, 1), entered(Path::BiasTaken));
-    same(&rt, hash(&heap, &mut p0, 0, 1), Some(Turn::Done(273329069)));
+    same(
+        &rt,
+        hash(&heap, &mut p0, 0, 1),
+        Some(Progress::Done(273329069)),
+    );
     same(&rt, p0.held(0), 1);
     let Some(counts) = p0.counts().first() else {
         panic!(rt; "there is a class")
@@ -61,8 +73,16 @@ fn a_hash_in_the_monitor_is_found_again(rt: HostRuntime) -> Result<(), Fail> {
     let (heap, mut p0, _) = begin(rt.alloc(), true)?;
     same(&rt, resume(&heap, &mut p0), DONE);
     same(&rt, enter(&heap, &mut p0, 0, 1), entered(Path::BiasTaken));
-    same(&rt, hash(&heap, &mut p0, 0, 1), Some(Turn::Done(273329069)));
-    same(&rt, hash(&heap, &mut p0, 0, 1), Some(Turn::Done(273329069)));
+    same(
+        &rt,
+        hash(&heap, &mut p0, 0, 1),
+        Some(Progress::Done(273329069)),
+    );
+    same(
+        &rt,
+        hash(&heap, &mut p0, 0, 1),
+        Some(Progress::Done(273329069)),
+    );
     same(&rt, last(p0.log()), hashed(0, 273329069, None));
     same(&rt, exit(&heap, &mut p0, 0), LEFT);
     Ok(())

@@ -129,7 +129,7 @@ pub fn claim(closed: &Closed) -> Option<u64> {
     word(closed, closed.shape().claim_at())
 }
 
-/// The ring position behind the last monitor that stands there.
+/// The ring position after the last monitor that stands there.
 pub fn end(closed: &Closed) -> Option<u64> {
     word(closed, closed.shape().end_at())
 }

@@ -6,7 +6,7 @@ use crate::calls::{
 };
 use crate::compare::{holds, same};
 use crate::last::{class, closed, mark};
-use core_world::{TooMany, Turn, Unguarded};
+use core_world::{Progress, TooMany, Unguarded};
 use heap_table::{Heap, Pass};
 use plain_monitor::{Entry, Logged, Path, Value};
 use std::process::Abort;
@@ -124,7 +124,7 @@ fn hash_inside(rt: &impl Abort, heap: &Heap, p1: &mut Pass, path: Path)
     same(rt, get(heap, p1, 1, 0), Some(Err(Unguarded)));
     same(rt, enter(heap, p1, 1, 1), entered(path));
     same(rt, get(heap, p1, 1, 0), Some(Ok(Value::Int(0))));
-    same(rt, hash(heap, p1, 1, 1), Some(Turn::Done(273331126)));
+    same(rt, hash(heap, p1, 1, 1), Some(Progress::Done(273331126)));
     same(rt, exit(heap, p1, 1), LEFT);
 }
 
@@ -141,7 +141,11 @@ fn a_made_object_is_handed_over(rt: HostRuntime) -> Result<(), Fail> {
         take_over(&rt, &heap, &mut p1);
         hash_inside(&rt, &heap, &mut p1, first);
         same(&rt, resume(&heap, &mut p0), DONE);
-        same(&rt, hash(&heap, &mut p0, 1, 1), Some(Turn::Done(273331126)));
+        same(
+            &rt,
+            hash(&heap, &mut p0, 1, 1),
+            Some(Progress::Done(273331126)),
+        );
     }
     Ok(())
 }

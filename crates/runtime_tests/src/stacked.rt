@@ -6,7 +6,7 @@ use crate::calls::{
 };
 use crate::compare::{holds, same};
 use crate::last::{closed, displaced, has_stamps, mark, monitor, stamp, waiting};
-use core_world::{IllegalMonitorState, TooDeep, Turn, Unguarded, Why};
+use core_world::{IllegalMonitorState, PendingCause, Progress, TooDeep, Unguarded};
 use heap_table::{Heap, Pass};
 use plain_monitor::{Entry, Path, Value};
 use std::process::Abort;
@@ -44,7 +44,7 @@ fn contend(rt: &impl Abort, heap: &Heap, p0: &mut Pass, p1: &mut Pass)
     same(rt, enter(heap, p0, 0, 1), entered(Path::StackFirst));
     same(rt, enter(heap, p0, 0, 1), entered(Path::StackAgain));
     same(rt, enter(heap, p0, 0, 1), entered(Path::StackAgain));
-    let owned = Why::Owned { word: 4096 };
+    let owned = PendingCause::Owned { word: 4096 };
     same(rt, enter(heap, p1, 0, 1), not_entered(owned));
     same(rt, enter(heap, p0, 0, 1), entered(Path::MonitorAgain));
 }
@@ -90,7 +90,7 @@ fn enter_times(heap: &Heap, pass: &mut Pass, object: u32, times: u32) -> bool
     ensures { Rests heap.now pass.new }
 {
     for _ in 0..times {
-        let Some(Ok(Turn::Done(_))) = enter(heap, pass, object, 1) else {
+        let Some(Ok(Progress::Done(_))) = enter(heap, pass, object, 1) else {
             return false;
         };
     }

@@ -7,7 +7,7 @@ use crate::calls::{
 };
 use crate::compare::{holds, same};
 use crate::last::{closed, count, has_stamps, mark};
-use core_world::{IllegalMonitorState, Turn, Why};
+use core_world::{IllegalMonitorState, PendingCause, Progress};
 use heap_table::{Heap, Pass};
 use plain_monitor::{Ending, Path, Value};
 use std::test::Fail;
@@ -18,7 +18,7 @@ fn a_notified_thread_waits_for_the_monitor(rt: HostRuntime) -> Result<(), Fail> 
     same(&rt, resume(&heap, &mut p0), DONE);
     same(&rt, resume(&heap, &mut p1), DONE);
     same(&rt, enter(&heap, &mut p0, 0, 1), entered(Path::StackFirst));
-    let unheard = Turn::Pending(Why::NotNotified { word: 524290 });
+    let unheard = Progress::Pending(PendingCause::NotNotified { word: 524290 });
     same(&rt, wait(&heap, &mut p0, 0, 1), Some(Ok(unheard)));
     same(
         &rt,
@@ -29,10 +29,10 @@ fn a_notified_thread_waits_for_the_monitor(rt: HostRuntime) -> Result<(), Fail> 
     same(
         &rt,
         notify(&heap, &mut p1, 0, 1),
-        Some(Ok(Turn::Done(Some(0)))),
+        Some(Ok(Progress::Done(Some(0)))),
     );
     holds(&rt, has_stamps(p1.log(), &[3, 4]));
-    let owned = Turn::Pending(Why::Owned { word: 17 });
+    let owned = Progress::Pending(PendingCause::Owned { word: 17 });
     same(&rt, wait(&heap, &mut p0, 0, 1), Some(Ok(owned)));
     same(&rt, exit(&heap, &mut p1, 0), LEFT);
     holds(&rt, has_stamps(p1.log(), &[3, 4, 5]));
@@ -41,12 +41,12 @@ fn a_notified_thread_waits_for_the_monitor(rt: HostRuntime) -> Result<(), Fail> 
     same(
         &rt,
         notify(&heap, &mut p0, 0, 1),
-        Some(Ok(Turn::Done(None))),
+        Some(Ok(Progress::Done(None))),
     );
     same(
         &rt,
         notify_all(&heap, &mut p0, 0, 1),
-        Some(Ok(Turn::Done(0))),
+        Some(Ok(Progress::Done(0))),
     );
     Ok(())
 }
@@ -73,7 +73,10 @@ fn a_wait_that_has_room_to_begin_has_room_to_end(rt: HostRuntime) -> Result<(), 
     same(&rt, enter(&heap, &mut p0, 0, 1), entered(Path::StackFirst));
     holds(&rt, fill(&heap, &mut p0, 2));
     let waits = wait(&heap, &mut p0, 0, 1);
-    let unheard = matches!(waits, Some(Ok(Turn::Pending(Why::NotNotified { .. }))));
+    let unheard = matches!(
+        waits,
+        Some(Ok(Progress::Pending(PendingCause::NotNotified { .. })))
+    );
     holds(&rt, unheard);
     same(&rt, p0.room(), 1);
     same(
@@ -84,7 +87,7 @@ fn a_wait_that_has_room_to_begin_has_room_to_end(rt: HostRuntime) -> Result<(), 
     same(
         &rt,
         notify(&heap, &mut p1, 0, 1),
-        Some(Ok(Turn::Done(Some(0)))),
+        Some(Ok(Progress::Done(Some(0)))),
     );
     same(&rt, exit(&heap, &mut p1, 0), LEFT);
     same(&rt, wait(&heap, &mut p0, 0, 1), LEFT);
@@ -113,7 +116,7 @@ fn a_notify_revokes_its_own_bias(rt: HostRuntime) -> Result<(), Fail> {
     same(
         &rt,
         notify(&heap, &mut p0, 0, 1),
-        Some(Ok(Turn::Done(None))),
+        Some(Ok(Progress::Done(None))),
     );
     holds(&rt, stop(&heap, &mut p0));
     let Some(counts) = p0.counts().first() else {
@@ -159,14 +162,18 @@ fn a_run_of_waiting_threads_alone_is_halted(rt: HostRuntime) -> Result<(), Fail>
     same(&rt, resume(&heap, &mut p0), DONE);
     same(&rt, resume(&heap, &mut p1), DONE);
     same(&rt, enter(&heap, &mut p0, 0, 1), entered(Path::StackFirst));
-    let unheard = Turn::Pending(Why::NotNotified { word: 524290 });
+    let unheard = Progress::Pending(PendingCause::NotNotified { word: 524290 });
     same(&rt, wait(&heap, &mut p0, 0, 1), Some(Ok(unheard)));
     holds(&rt, stop(&heap, &mut p1));
-    same(&rt, check_stuck(&heap, &mut p0), Some(Turn::Done(false)));
+    same(
+        &rt,
+        check_stuck(&heap, &mut p0),
+        Some(Progress::Done(false)),
+    );
     same(&rt, resume(&heap, &mut p1), DONE);
     holds(&rt, finish(&heap, &mut p1, Ending::Done));
     holds(&rt, stop(&heap, &mut p1));
-    same(&rt, check_stuck(&heap, &mut p0), Some(Turn::Done(true)));
-    same(&rt, resume(&heap, &mut p1), pending(Why::Halted));
+    same(&rt, check_stuck(&heap, &mut p0), Some(Progress::Done(true)));
+    same(&rt, resume(&heap, &mut p1), pending(PendingCause::Halted));
     Ok(())
 }

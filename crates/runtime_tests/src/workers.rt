@@ -3,7 +3,7 @@ ghost use Rattle.heap_table.specs.Resting.{Rests};
 
 use crate::calls::{LEFT, begin, enter, exit, poll, resume, stop};
 use crate::compare::{holds, same};
-use core_world::Turn;
+use core_world::Progress;
 use heap_table::{Heap, Pass};
 use plain_monitor::{Entry, Logged};
 use std::test::Fail;
@@ -19,7 +19,7 @@ fn go_on(heap: &Heap, pass: &mut Pass, inside: bool) -> bool
     requires { Rests heap.now pass.old }
     ensures { Rests heap.now pass.new }
 {
-    if let Some(Turn::Pending(_)) = poll(heap, pass) {
+    if let Some(Progress::Pending(_)) = poll(heap, pass) {
         stop(heap, pass);
         return inside;
     }
@@ -31,7 +31,7 @@ fn go_on(heap: &Heap, pass: &mut Pass, inside: bool) -> bool
         return exit(heap, pass, 0) != LEFT;
     }
     match enter(heap, pass, 0, 1) {
-        Some(Ok(Turn::Done(_))) => true,
+        Some(Ok(Progress::Done(_))) => true,
         _ => false,
     }
 }
@@ -90,8 +90,8 @@ fn comes_first(first: &[Logged], second: &[Logged]) -> bool {
     }
 }
 
-// Who has the object behind this entry of the thread: `None` where it may not come there.
-fn owner_behind(entry: Entry, thread: u32, owner: Option<u32>) -> Option<Option<u32>> {
+// Who has the object after this entry of the thread: `None` where it may not come there.
+fn owner_after(entry: Entry, thread: u32, owner: Option<u32>) -> Option<Option<u32>> {
     match entry {
         Entry::Enter { object: 0, .. } if owner.is_none() => Some(Some(thread)),
         Entry::Exit { object: 0 } if owner == Some(thread) => Some(None),
@@ -115,10 +115,10 @@ fn exclude(first: &[Logged], second: &[Logged]) -> bool {
             return false;
         }
         last = next.stamp;
-        let Some(behind) = owner_behind(next.entry, thread, owner) else {
+        let Some(after) = owner_after(next.entry, thread, owner) else {
             return false;
         };
-        owner = behind;
+        owner = after;
         if thread == 0 {
             first = rest;
         } else {

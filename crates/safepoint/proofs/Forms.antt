@@ -7,10 +7,10 @@ use Rattle.mark_word.specs.Safe.{IsSafeInRange, read_safe, safe_of, requester_of
 use Rattle.mark_word.proofs.ReadingSafepoints.{read_safe-spells}
 use Rattle.core_world.specs.Words.Forms.{requester_form, is_still, still_form}
 use Rattle.core_world.specs.Trees.SafepointSteps.{has_requester, running_too}
-use Rattle.core_world.specs.Trees.Todo.{Todo}
+use Rattle.core_world.specs.Trees.StepTree.{StepTree}
 
 -- what a test picks of two parts of a tree
-pub picks : {A : Type 0} {b c : Bool} (x y : Todo A) → b ≡ c → cond b x y ≡ cond c x y
+pub picks : {A : Type 0} {b c : Bool} (x y : StepTree A) → b ≡ c → cond b x y ≡ cond c x y
 picks x y e = ap (λ b. cond b x y) e
 
 module _ (word : ℕ) (form : Option SafeForm) (read : form ≡ read_safe word) where

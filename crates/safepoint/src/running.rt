@@ -1,14 +1,14 @@
 //! Threads that poll, stop and go on.
 ghost use Rattle.std.specs.Prelude.{◌≡◌};
 ghost use Rattle.mark_word.specs.Safe.{read_safe};
-ghost use Rattle.core_world.specs.Threads.Known.{local_of};
+ghost use Rattle.core_world.specs.Threads.ThreadView.{local_of};
 ghost use Rattle.core_world.specs.Trees.SafepointSteps.{poll_steps, stop_steps, resume_steps, resume_swap_steps};
-ghost use Rattle.heap_table.specs.Parts.{IsDueOn, HasRun};
+ghost use Rattle.heap_table.specs.Parts.{IsDueOn, HasMadeSteps};
 ghost use Rattle.heap_table.specs.Seen.{IsOf};
 
 use crate::words::{all_but, bar, has_requester, running_too};
-use core_world::{Name, Stage, Turn, Why};
-use heap_table::{Heap, Pass, Purpose, safe_of_word};
+use core_world::{PendingCause, Progress, Stage, WordId};
+use heap_table::{CallContext, Heap, Pass, safe_of_word};
 use mark_word::SafeForm;
 
 /// Looks whether a thread asks for a safepoint.
@@ -17,16 +17,16 @@ use mark_word::SafeForm;
 /// thread runs on either way; where it is pending, it is to stop.
 ///
 /// In OpenJDK 8: the polling page, and the look of `SafepointSynchronize::block` (`safepoint.cpp`).
-pub fn poll(heap: &Heap, pass: &mut Pass, why: &Purpose) -> Turn<()>
+pub fn poll(heap: &Heap, pass: &mut Pass, call: &CallContext) -> Progress<()>
     requires heap { IsOf heap.now pass.old }
-    requires due { IsDueOn heap.now pass.old why.now.task (poll_steps why.now) }
-    ensures { HasRun heap.now (poll_steps why.now) pass.old pass.new result }
+    requires due { IsDueOn heap.now pass.old call.now.task (poll_steps call.now) }
+    ensures { HasMadeSteps heap.now (poll_steps call.now) pass.old pass.new result }
 {
-    let (word, form) = heap.look(pass, why);
+    let (word, form) = heap.look(pass, call);
     if has_requester(form) {
-        Turn::Pending(Why::Requested { word })
+        Progress::Pending(PendingCause::Requested { word })
     } else {
-        Turn::Done(())
+        Progress::Done(())
     }
 }
 
@@ -35,16 +35,16 @@ pub fn poll(heap: &Heap, pass: &mut Pass, why: &Purpose) -> Turn<()>
 ///
 /// In OpenJDK 8: `SafepointSynchronize::block` (`safepoint.cpp`), where it counts its thread as safe.
 #[inline]
-pub fn stop(heap: &Heap, pass: &mut Pass, why: &Purpose)
+pub fn stop(heap: &Heap, pass: &mut Pass, call: &CallContext)
     requires heap { IsOf heap.now pass.old }
-    requires due { IsDueOn heap.now pass.old why.now.task (stop_steps why.now (local_of pass.old.known)) }
-    ensures { HasRun heap.now (stop_steps why.now (local_of pass.old.known)) pass.old pass.new result }
+    requires due { IsDueOn heap.now pass.old call.now.task (stop_steps call.now (local_of pass.old.known)) }
+    ensures { HasMadeSteps heap.now (stop_steps call.now (local_of pass.old.known)) pass.old pass.new result }
 {
     let thread = pass.thread();
     let length = pass.length();
-    let published = Name::Length { thread };
-    heap.store(pass, why, Stage::Calm, published, length);
-    heap.mask(pass, why, Name::Safepoint, all_but(thread));
+    let published = WordId::Length { thread };
+    heap.store(pass, call, Stage::Settled, published, length);
+    heap.mask(pass, call, WordId::Safepoint, all_but(thread));
 }
 
 /// Sets the bit of a thread that is stopped, where nobody asks for a safepoint and the run isn't halted.
@@ -54,15 +54,15 @@ pub fn stop(heap: &Heap, pass: &mut Pass, why: &Purpose)
 /// exchange found another word with neither.
 ///
 /// In OpenJDK 8: `SafepointSynchronize::block` (`safepoint.cpp`), where its thread goes on.
-pub fn resume(heap: &Heap, pass: &mut Pass, why: &Purpose) -> Turn<()>
+pub fn resume(heap: &Heap, pass: &mut Pass, call: &CallContext) -> Progress<()>
     requires heap { IsOf heap.now pass.old }
-    requires due { IsDueOn heap.now pass.old why.now.task (resume_steps why.now (local_of pass.old.known)) }
-    ensures { HasRun heap.now (resume_steps why.now (local_of pass.old.known)) pass.old pass.new result }
+    requires due { IsDueOn heap.now pass.old call.now.task (resume_steps call.now (local_of pass.old.known)) }
+    ensures { HasMadeSteps heap.now (resume_steps call.now (local_of pass.old.known)) pass.old pass.new result }
 {
-    let (word, form) = heap.look(pass, why);
+    let (word, form) = heap.look(pass, call);
     match bar(word, form) {
-        Some(cause) => Turn::Pending(cause),
-        None => resume_from(heap, pass, why, word, form),
+        Some(cause) => Progress::Pending(cause),
+        None => resume_from(heap, pass, call, word, form),
     }
 }
 
@@ -70,23 +70,24 @@ pub fn resume(heap: &Heap, pass: &mut Pass, why: &Purpose) -> Turn<()>
 fn resume_from(
     heap: &Heap,
     pass: &mut Pass,
-    why: &Purpose,
+    call: &CallContext,
     word: u64,
     form: Option<SafeForm>,
-) -> Turn<()>
+) -> Progress<()>
     requires form { form ≡ read_safe word }
     requires heap { IsOf heap.now pass.old }
-    requires due { IsDueOn heap.now pass.old why.now.task (resume_swap_steps why.now (local_of pass.old.known) word) }
-    ensures { HasRun heap.now (resume_swap_steps why.now (local_of pass.old.known) word) pass.old pass.new result }
+    requires due { IsDueOn heap.now pass.old call.now.task (resume_swap_steps call.now (local_of pass.old.known) word) }
+    ensures { HasMadeSteps heap.now (resume_swap_steps call.now (local_of pass.old.known) word)
+        pass.old pass.new result }
 {
     let left = running_too(word, form, pass.thread());
-    let found = heap.exchange(pass, why, Stage::Calm, Name::Safepoint, word, left);
+    let found = heap.exchange(pass, call, Stage::Settled, WordId::Safepoint, word, left);
     if found == word {
-        return Turn::Done(());
+        return Progress::Done(());
     }
     match bar(found, safe_of_word(found)) {
-        Some(cause) => Turn::Pending(cause),
-        None => Turn::Pending(Why::Raced {
+        Some(cause) => Progress::Pending(cause),
+        None => Progress::Pending(PendingCause::Raced {
             expected: word,
             found,
         }),

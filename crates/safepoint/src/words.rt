@@ -6,7 +6,7 @@ ghost use Rattle.core_world.specs.Words.Forms.{requester_form, still_form};
 ghost use Rattle.core_world.specs.Trees.SafepointSteps.{all_but, bar, running_too, requested_by};
 ghost use Rattle.core_world.specs.Trees.SafepointSteps.{reached_word, released_word, halted_word};
 
-use core_world::Why;
+use core_world::PendingCause;
 use mark_word::{SafeForm, encode_safe};
 
 /// Whether a thread asks for a safepoint.
@@ -30,7 +30,7 @@ pub fn is_still(form: Option<SafeForm>) -> bool
 }
 
 /// What stands in the way of a resume, by the word of this form.
-pub fn bar(word: u64, form: Option<SafeForm>) -> Option<Why>
+pub fn bar(word: u64, form: Option<SafeForm>) -> Option<PendingCause>
     requires { form ≡ read_safe word }
     ensures { result ≡ bar word }
 {
@@ -38,9 +38,9 @@ pub fn bar(word: u64, form: Option<SafeForm>) -> Option<Why>
         None => None,
         Some(form) => {
             if form.halted {
-                Some(Why::Halted)
+                Some(PendingCause::Halted)
             } else if form.requester.is_some() {
-                Some(Why::Requested { word })
+                Some(PendingCause::Requested { word })
             } else {
                 None
             }

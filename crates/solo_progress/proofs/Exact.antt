@@ -5,54 +5,55 @@ use Rattle.plain_monitor.specs.Objects.{PlainObject}
 use Rattle.plain_monitor.specs.declared.entry.Path.{Path}
 use Rattle.core_world.specs.declared.answer.BiasTry.{BiasTry}
 use Rattle.core_world.specs.declared.answer.BiasTry.TheVariants.{Took, Unbiased, Valid, Raced}
-use Rattle.core_world.specs.declared.answer.Turn.{Turn}
-use Rattle.core_world.specs.declared.answer.Turn.TheVariants.{Done, Pending}
-use Rattle.core_world.specs.declared.task.Op.TheVariants as op
-use Rattle.core_world.specs.declared.task.Task.TheVariants as task
+use Rattle.core_world.specs.declared.answer.Progress.{Progress}
+use Rattle.core_world.specs.declared.answer.Progress.TheVariants.{Done, Pending}
+use Rattle.core_world.specs.declared.heap_call.Operation.TheVariants as op
+use Rattle.core_world.specs.declared.heap_call.HeapCall.TheVariants as task
 use Rattle.core_world.specs.Locks.{monitor_of}
-use Rattle.core_world.specs.Threads.Known.{StepMade, Start}
+use Rattle.core_world.specs.Threads.ThreadView.{StepMade, Start}
 use Rattle.core_world.specs.Threads.Stages.{Revocation}
 use Rattle.core_world.specs.Trees.BiasSteps.{bias_enter_steps, bias_after_steps}
-use Rattle.core_world.specs.Trees.Operations.{and_then, answer, goes_on_with, revocation_steps, enter_unbiased, enter_revoked, enter_tried, enter_going, enter_steps}
-use Rattle.core_world.specs.Trees.Plans.{Purpose, purpose, free_place}
+use Rattle.core_world.specs.Trees.Operations.{and_then, answer, goes_on_with, revocation_steps, enter_unbiased}
+use Rattle.core_world.specs.Trees.Operations.{enter_revoked, enter_tried, enter_going, enter_steps}
+use Rattle.core_world.specs.Trees.Plans.{CallContext, call_context, free_place}
 use Rattle.core_world.specs.Trees.SafepointSteps.{released_word}
-use Rattle.core_world.specs.Trees.Todo.{Todo, done, never, step, ◌>>=◌}
+use Rattle.core_world.specs.Trees.StepTree.{StepTree, done, unreachable, step, ◌>>=◌}
 use Rattle.core_world.specs.World.{World}
 use Rattle.core_calls.specs.CallsSay.{EnterCause, unfinished_on, is_full}
 use Rattle.core_calls.specs.Paths.{made, Always}
-use Rattle.core_calls.proofs.BiasSay.{TrySays, bias_enter_says}
-use Rattle.core_calls.proofs.OperationsSay.{PartTurn, revocation_says}
+use Rattle.core_calls.proofs.bias.BiasSay.{TrySays, bias_enter_says}
+use Rattle.core_calls.proofs.OperationsSay.{PartProgress, revocation_says}
 use Rattle.core_calls.proofs.Paths.{always_then, always_so, either_way, Still, still}
 use Rattle.core_calls.proofs.Reasons.{enter_reasons}
 use Rattle.core_calls.proofs.Runs.{on_path}
 use Rattle.core_law.specs.Logic.{Heap}
 use Rattle.solo_progress.specs.Alone.{FoundAlone, words_left, Quiet, word_of_one}
 use Rattle.solo_progress.specs.Answers.{is_other, is_anothers, PendsWhere, RefusedWhere}
-use Rattle.solo_progress.specs.LeftAlone.{IsReady, start_in}
+use Rattle.solo_progress.specs.LeftAlone.{MayCallAlone, start_in}
 use Rattle.solo_progress.specs.Moves.{Moves, goes, GetsThrough}
 use Rattle.solo_progress.proofs.OneRun.{Alone, QuietAt, quiet_at, always_left}
 use Rattle.solo_progress.proofs.Enters.{Tried, bias_enter_alone, unbiased_alone, after_alone, few_free, new_full}
 use Rattle.solo_progress.proofs.Laws.{fits, mine, low_own, low, quiet_words, enters_any}
 use Rattle.solo_progress.proofs.Mids.{anothers_then}
 use Rattle.solo_progress.proofs.Runs.{moves_found}
-use Rattle.solo_progress.proofs.Safe.{IsQuietTurn, revocation_alone}
+use Rattle.solo_progress.proofs.Safe.{IsQuietProgress, revocation_alone}
 use Rattle.solo_progress.proofs.Worlds.{who_is_owner}
 
-always_both : {A : Type 0} (P Q : List StepMade → A → Type 0) (d : Todo A) (ms : List StepMade) → Always P ms d → Always Q ms d
+always_both : {A : Type 0} (P Q : List StepMade → A → Type 0) (d : StepTree A) (ms : List StepMade) → Always P ms d → Always Q ms d
     → Always (λ ms a. P ms a × Q ms a) ms d
 always_both P Q (done a) ms h g = (h, g)
-always_both P Q never ms h g = tt
+always_both P Q unreachable ms h g = tt
 always_both P Q (step p f) ms h g = λ n. always_both P Q (f n) (made p n ∷ ms) (h n) (g n)
 
-module _ (heap : Heap) (w : World) (objects : List PlainObject) (t o now : ℕ) (ready : IsReady heap w objects t (task.Enter o now)) where
+module _ (heap : Heap) (w : World) (objects : List PlainObject) (t o now : ℕ) (ready : MayCallAlone heap w objects t (task.Enter o now)) where
   abbrev k : Start
   k = start_in w t
 
   abbrev u : ℕ
   u = k.local.thread
 
-  abbrev e : Purpose
-  e = purpose (task.Enter o now) op.Enter o
+  abbrev e : CallContext
+  e = call_context (task.Enter o now) op.Enter o
 
   abbrev b : Revocation
   b = record { object = o; rebias = true; now = now }
@@ -62,36 +63,36 @@ module _ (heap : Heap) (w : World) (objects : List PlainObject) (t o now : ℕ) 
   anothers = is_other (monitor_of objects o).owner t
 
   -- these steps are those of a run of the thread alone
-  pub record HasRun (ms : List StepMade) : Type 0 where
+  pub record IsRunAlone (ms : List StepMade) : Type 0 where
     pub last : World
     pub moved : Moves w t ms last
 
-  before_last : (m : StepMade) (ms : List StepMade) → HasRun (m ∷ ms) → HasRun ms
+  before_last : (m : StepMade) (ms : List StepMade) → IsRunAlone (m ∷ ms) → IsRunAlone ms
   before_last m ms h = from m ms h.last h.moved
     where
-      from : (m : StepMade) (ms : List StepMade) (v : World) → Moves w t (m ∷ ms) v → HasRun ms
+      from : (m : StepMade) (ms : List StepMade) (v : World) → Moves w t (m ∷ ms) v → IsRunAlone ms
       from m ms v (goes ns x p before next) = record { last = x; moved = before }
 
-  found : (ms : List StepMade) → HasRun ms → FoundAlone w.words ms
+  found : (ms : List StepMade) → IsRunAlone ms → FoundAlone w.words ms
   found ms h = (moves_found w t ms h.last h.moved).found
 
   abbrev So : {A : Type 0} → (A → Type 0) → List StepMade → A → Type 0
-  So P ms a = HasRun ms → P a
+  So P ms a = IsRunAlone ms → P a
 
   -- what a run so far shows serves for all after it
-  with_run : {A : Type 0} (P : A → Type 0) (d : Todo A) (ms : List StepMade) → (HasRun ms → Always (So P) ms d) → Always (So P) ms d
+  with_run : {A : Type 0} (P : A → Type 0) (d : StepTree A) (ms : List StepMade) → (IsRunAlone ms → Always (So P) ms d) → Always (So P) ms d
   with_run P (done a) ms h = λ run. h run run
-  with_run P never ms h = tt
+  with_run P unreachable ms h = tt
   with_run P (step p f) ms h = λ n. with_run P (f n) (made p n ∷ ms) (λ run. h (before_last (made p n) ms run) n)
 
   -- along each path by what its steps found
-  by_words : {A : Type 0} (P : A → Type 0) (d : Todo A) (ms : List StepMade) → (HasRun ms → Alone (λ g a. P a) (words_left w.words ms) d)
+  by_words : {A : Type 0} (P : A → Type 0) (d : StepTree A) (ms : List StepMade) → (IsRunAlone ms → Alone (λ g a. P a) (words_left w.words ms) d)
       → Always (So P) ms d
   by_words P d ms h =
       with_run P d ms (λ run. always_so (λ ms a. FoundAlone w.words ms → P a) (So P) d ms
       (always_left (λ g a. P a) w.words d ms (λ _. h run)) (λ ms a says run. says (found ms run)))
 
-  abbrev Turns : List StepMade → Turn Path → Type 0
+  abbrev Turns : List StepMade → Progress Path → Type 0
   Turns = So (PendsWhere anothers)
 
   same_at_first : is_anothers w.shape w.words o u ≡ anothers
@@ -100,20 +101,20 @@ module _ (heap : Heap) (w : World) (objects : List PlainObject) (t o now : ℕ) 
       (who_is_owner w objects t ready.alone (fits heap w objects t (task.Enter o now) ready) o)
 
   -- AFTER A REVOCATION, by the world there
-  abbrev Says : List StepMade → Turn Bool → Type 0
+  abbrev Says : List StepMade → Progress Bool → Type 0
   Says =
-      PartTurn w.shape k (task.Enter o now) (unfinished_on op.Enter o) o (EnterCause k.requesting u o) (enter_reasons k.requesting u o) Bool
+      PartProgress w.shape k (task.Enter o now) (unfinished_on op.Enter o) o (EnterCause k.requesting u o) (enter_reasons k.requesting u o) Bool
 
-  abbrev Quietly : List StepMade → Turn Bool → Type 0
-  Quietly ms turn = FoundAlone w.words ms → IsQuietTurn o (released_word u) (words_left w.words ms) turn
+  abbrev Quietly : List StepMade → Progress Bool → Type 0
+  Quietly ms progress = FoundAlone w.words ms → IsQuietProgress o (released_word u) (words_left w.words ms) progress
 
-  abbrev again : Bool → Todo (Turn Path)
+  abbrev again : Bool → StepTree (Progress Path)
   again took = bias_after_steps e k.local o took >>= λ tried. enter_unbiased tried w.shape e k o
 
-  turn_after : (ms : List StepMade) (turn : Turn Bool) → Says ms turn × Quietly ms turn → Always Turns ms (and_then turn again)
-  turn_after ms (Done took) h =
+  progress_after : (ms : List StepMade) (progress : Progress Bool) → Says ms progress × Quietly ms progress → Always Turns ms (and_then progress again)
+  progress_after ms (Done took) h =
       by_words (PendsWhere anothers) (again took) ms
-      (λ run. subst (λ x. Alone (λ g turn. PendsWhere x turn) (words_left w.words ms) (again took))
+      (λ run. subst (λ x. Alone (λ g progress. PendsWhere x progress) (words_left w.words ms) (again took))
       (ap (is_anothers w.shape (words_left w.words ms) o) (mine heap w objects t (task.Enter o now) ready)
       ∙ anothers_then heap ready.call.limits w objects t ready.alone (low heap w objects t (task.Enter o now) ready)
       (fits heap w objects t (task.Enter o now) ready) ready.call.reached ms run.last run.moved h.0.entries o
@@ -121,21 +122,21 @@ module _ (heap : Heap) (w : World) (objects : List PlainObject) (t o now : ℕ) 
       (h.1 (found ms run))))
       (after_alone w.shape e k o now true (low_own heap w objects t (task.Enter o now) ready) took (words_left w.words ms)
       (h.1 (found ms run))))
-  turn_after ms (Pending why) h = λ run. absurd (h.1 (found ms run))
+  progress_after ms (Pending why) h = λ run. absurd (h.1 (found ms run))
 
   revoked_exactly : (requesting : Bool) (ms : List StepMade) → k.requesting ≡ requesting → Still ms
       → (FoundAlone w.words ms → QuietAt o (word_of_one requesting u) (words_left w.words ms))
       → Always Turns ms (enter_revoked w.shape requesting e k b)
   revoked_exactly requesting ms same silent quiet =
-      always_then (λ ms turn. Says ms turn × Quietly ms turn) Turns (revocation_steps w.shape u requesting e b)
-      (λ turn. and_then turn again) ms
+      always_then (λ ms progress. Says ms progress × Quietly ms progress) Turns (revocation_steps w.shape u requesting e b)
+      (λ progress. and_then progress again) ms
       (always_both Says Quietly (revocation_steps w.shape u requesting e b) ms
       (revocation_says w.shape k (task.Enter o now) (unfinished_on op.Enter o) o (EnterCause k.requesting u o)
       (enter_reasons k.requesting u o) requesting same b ms silent)
-      (always_left (IsQuietTurn o (released_word u)) w.words (revocation_steps w.shape u requesting e b) ms
+      (always_left (IsQuietProgress o (released_word u)) w.words (revocation_steps w.shape u requesting e b) ms
       (λ run. revocation_alone u (low_own heap w objects t (task.Enter o now) ready) w.shape requesting e b (words_left w.words ms)
       (quiet run))))
-      turn_after
+      progress_after
 
   -- AFTER THE ATTEMPT on the bias
   abbrev Attempts : List StepMade → BiasTry → Type 0
@@ -147,7 +148,7 @@ module _ (heap : Heap) (w : World) (objects : List PlainObject) (t o now : ℕ) 
   try_after none ms (Unbiased mark) h =
       by_words (PendsWhere anothers) (enter_unbiased (Unbiased mark) w.shape e k o) ms
       (λ run. let x = h.1 (found ms run) in
-      subst (λ y. Alone (λ g turn. PendsWhere y turn) (words_left w.words ms) (enter_unbiased (Unbiased mark) w.shape e k o)) same_at_first
+      subst (λ y. Alone (λ g progress. PendsWhere y progress) (words_left w.words ms) (enter_unbiased (Unbiased mark) w.shape e k o)) same_at_first
       (unbiased_alone w.shape (released_word u) e k o (is_anothers w.shape w.words o u) (words_left w.words ms) mark x.0 x.1 x.2))
   try_after none ms (Valid mark) h = revoked_exactly false ms none (still h.0) (λ run. (h.1 run).0)
   try_after none ms (Raced expected found') h = λ run. absurd (h.1 (found ms run))
@@ -173,10 +174,10 @@ module _ (heap : Heap) (w : World) (objects : List PlainObject) (t o now : ℕ) 
       (λ full. either_way (So (RefusedWhere (is_full k o) (PendsWhere anothers))) [] (goes_on_with op.Enter o k.unfinished) _ _ (λ _. tt)
       (λ new run. new_full k o full new))
       (λ few. always_then Turns (So (RefusedWhere (is_full k o) (PendsWhere anothers))) (enter_going w.shape e k b) answer [] going_exactly
-      (λ ms turn h run. (few_free k o few, h run)))
+      (λ ms progress h run. (few_free k o few, h run)))
 
 -- THE LAW
-pub enters_exactly : (heap : Heap) (w : World) (objects : List PlainObject) (t o now : ℕ) → IsReady heap w objects t (task.Enter o now)
+pub enters_exactly : (heap : Heap) (w : World) (objects : List PlainObject) (t o now : ℕ) → MayCallAlone heap w objects t (task.Enter o now)
     → GetsThrough heap w t (task.Enter o now) (enter_steps w.shape (start_in w t) o now)
     (RefusedWhere (is_full (start_in w t) o) (PendsWhere (is_other (monitor_of objects o).owner t)))
 enters_exactly heap w objects t o now ready =

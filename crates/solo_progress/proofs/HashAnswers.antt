@@ -1,6 +1,7 @@
--- A hash that is done answers the hash that the logs have of the object, and where they have none the thread's next draw: the world behind the call is one to
+-- A hash that is done answers the hash that the logs have of the object, and where they have none the thread's next draw: the world after the call is one to
 -- which the heap comes, in which every hash entry says its object's hash, and an object with a hash has one draw.
-use Rattle.std.proofs.Common.{◌≡◌, ◌≢◌, ℕ, zero, suc, ◌<◌, ◌==◌, cond, Bool, false, List, [], ◌∷◌, ◌++◌, length, slice_get, Option, Some, None, refl, sym, ap, ◌∙◌, subst, arith, inl, inr, ne_eqb}
+use Rattle.std.proofs.Common.{◌≡◌, ◌≢◌, ℕ, zero, suc, ◌<◌, ◌==◌, cond, Bool, false, List, [], ◌∷◌, ◌++◌, length}
+use Rattle.std.proofs.Common.{slice_get, Option, Some, None, refl, sym, ap, ◌∙◌, subst, arith, inl, inr, ne_eqb}
 use Rattle.std.proofs.lemmas.List.{get_or-set_same, get_or-set_other}
 use Rattle.std.proofs.lemmas.Option.{same_Some}
 use Rattle.plain_monitor.specs.declared.entry.Entry.{Entry}
@@ -8,32 +9,32 @@ use Rattle.plain_monitor.specs.declared.entry.Entry.TheVariants.{Hash}
 use Rattle.plain_monitor.specs.declared.entry.Logged.{Logged}
 use Rattle.plain_monitor.specs.History.{log_of, appended}
 use Rattle.plain_monitor.specs.Objects.{PlainObject}
-use Rattle.core_world.specs.declared.answer.Turn.{Turn}
-use Rattle.core_world.specs.declared.answer.Turn.TheVariants.{Done, Pending}
-use Rattle.core_world.specs.declared.task.Task.{Task}
+use Rattle.core_world.specs.declared.answer.Progress.{Progress}
+use Rattle.core_world.specs.declared.answer.Progress.TheVariants.{Done, Pending}
+use Rattle.core_world.specs.declared.heap_call.HeapCall.{HeapCall}
 use Rattle.core_world.specs.Clauses.Draws.{Draw, draw_in, drawn_for, all_draws}
 use Rattle.core_world.specs.Due.{Runs}
 use Rattle.core_world.specs.Locks.{object_of, hash_at, or_zero}
 use Rattle.core_world.specs.Steps.{known_along}
-use Rattle.core_world.specs.Threads.Known.{Known, Start, StepMade}
+use Rattle.core_world.specs.Threads.ThreadView.{ThreadView, Start, StepMade}
 use Rattle.core_world.specs.Trees.Operations.{hash_steps}
-use Rattle.core_world.specs.Trees.Todo.{Todo, done, never, step}
+use Rattle.core_world.specs.Trees.StepTree.{StepTree, done, unreachable, step}
 use Rattle.core_world.specs.Valid.{Fits, IsValid}
 use Rattle.core_world.specs.Words.Shape.{Shape, IsInLimits}
 use Rattle.core_world.specs.World.{World, logs, logs_from, with_known}
 use Rattle.core_world.proofs.KnowledgeParts.{by_equal, each_with_known, logs_grow, logs_length}
-use Rattle.core_world.proofs.LookWhileRevoking.{forgotten}
+use Rattle.core_world.proofs.bias.LookWhileRevoking.{forgotten}
 use Rattle.core_world.proofs.RefusedWorlds.{logs_same, revoking_logs}
 use Rattle.core_calls.specs.Paths.{made, IsPath, Tells, Leaves}
 use Rattle.core_calls.specs.CallsSay.{HashSays, IsDraw}
 use Rattle.core_calls.proofs.Runs.{tells, did, did_one}
-use Rattle.core_calls.proofs.WaitCallsSay.{hash_says}
+use Rattle.core_calls.proofs.wait.WaitCallsSay.{hash_says}
 use Rattle.core_law.specs.WholeLaw.{LawsHold}
 use Rattle.core_law.specs.Logic.{Heap}
 use Rattle.core_locks.specs.DrawnHashes.{HashesAreDrawn}
-use Rattle.core_locks.proofs.Drawing.{all_more}
-use Rattle.core_locks.proofs.DrawnLogs.{hashes_drawn, valid_hashes}
-use Rattle.core_locks.proofs.PlainHashes.{above_after}
+use Rattle.core_locks.proofs.hash.Drawing.{all_more}
+use Rattle.core_locks.proofs.hash.DrawnLogs.{hashes_drawn, valid_hashes}
+use Rattle.core_locks.proofs.hash.PlainHashes.{above_after}
 use Rattle.core_steps.proofs.ReachedWorlds.{reached_worlds_valid}
 use Rattle.solo_progress.specs.Answers.{IsDone, hash_due}
 use Rattle.solo_progress.specs.LeftAlone.{start_in}
@@ -41,10 +42,10 @@ use Rattle.solo_progress.specs.Moves.{GetsThrough}
 use Rattle.solo_progress.proofs.Mids.{Went, went}
 
 -- the steps of a path are a run
-path_runs : {A : Type 0} (s : Shape) (start : ℕ) (k : Known) (d : Todo A) (sofar ms : List StepMade) (a : A) → IsPath d sofar ms a
+path_runs : {A : Type 0} (s : Shape) (start : ℕ) (k : ThreadView) (d : StepTree A) (sofar ms : List StepMade) (a : A) → IsPath d sofar ms a
     → Runs s start d (known_along s start sofar k) (known_along s start ms k) a
 path_runs s start k (done b) sofar ms a h = (ap (λ x. known_along s start x k) h.0, h.1)
-path_runs s start k never sofar ms a h = absurd h
+path_runs s start k unreachable sofar ms a h = absurd h
 path_runs s start k (step p f) sofar ms a h = (h.0, path_runs s start k (f h.0) (made p h.0 ∷ sofar) ms a h.1)
 
 -- LISTS
@@ -75,7 +76,7 @@ all_drawn w P o (inl fits) = fits.draws.one o
 all_drawn w P o (inr s) = ap (all_draws o) (revoking_logs w P s) ∙ s.fits.draws.one o
 
 module _ (heap : Heap) (limits : IsInLimits heap.shape) (w : World) (P : List PlainObject) (t o now : ℕ) (fits : Fits w P) (within : t < w.shape.threads)
-    (job : Task) (r : GetsThrough heap w t job (hash_steps w.shape (start_in w t) o now) IsDone) where
+    (job : HeapCall) (r : GetsThrough heap w t job (hash_steps w.shape (start_in w t) o now) IsDone) where
   abbrev k : Start
   k = start_in w t
 
@@ -96,13 +97,13 @@ module _ (heap : Heap) (limits : IsInLimits heap.shape) (w : World) (P : List Pl
   many : t < length (logs w)
   many = let a = logs_length 0 w.shape.threads w.known in omega (arith, a, within)
 
-  -- behind an entry more of t
+  -- after an entry more of t
   module _ (y : Logged) (grows : (r.last.known t).log ≡ (w.known t).log ++ y ∷ []) where
     all : logs r.last ≡ appended (logs w) t y
     all =
         ap (λ (s : Shape). logs_from 0 s.threads last.known) by.shape
         ∙ logs_same 0 w.shape.threads last.known (with_known t (last.known t) w.known)
-        (λ u. each_with_known (λ i x. (last.known i).log ≡ x.log) t (last.known t) w.known u refl (λ d. ap (λ (x : Known). x.log) (by.others u d)))
+        (λ u. each_with_known (λ i x. (last.known i).log ≡ x.log) t (last.known t) w.known u refl (λ d. ap (λ (x : ThreadView). x.log) (by.others u d)))
         ∙ logs_grow w.shape.threads t y (last.known t) w.known within grows
 
     own : log_of (logs r.last) t ≡ log_of (logs w) t ++ y ∷ []
@@ -145,7 +146,7 @@ module _ (heap : Heap) (limits : IsInLimits heap.shape) (w : World) (P : List Pl
           ap (λ e. drawn_for o (draw_in e)) (is ∙ ap (λ n. Hash o value n) undrawn) in
           absurd (omega (arith, was, now_one, more, nothing))
 
-  due : (answer : Turn ℕ) → IsDone answer → Tells (w.known t) (r.last.known t) (λ ms. HashSays (start_in w t) o ms answer)
+  due : (answer : Progress ℕ) → IsDone answer → Tells (w.known t) (r.last.known t) (λ ms. HashSays (start_in w t) o ms answer)
       → answer ≡ Done (hash_due P o (start_in w t))
   due (Pending why) h says = absurd h
   due (Done value) h says =
@@ -188,7 +189,7 @@ module _ (heap : Heap) (limits : IsInLimits heap.shape) (w : World) (P : List Pl
           draws drawn refl (λ n. new is n)
           ∙ sym (ap (λ x. cond (or_zero x == 0) (start_in w t).draw (or_zero x)) is)
 
-  pub hash_answered : GetsThrough heap w t job (hash_steps w.shape (start_in w t) o now) (λ turn. turn ≡ Done (hash_due P o (start_in w t)))
+  pub hash_answered : GetsThrough heap w t job (hash_steps w.shape (start_in w t) o now) (λ progress. progress ≡ Done (hash_due P o (start_in w t)))
   hash_answered = record {
     steps = r.steps;
     last = r.last;

@@ -1,46 +1,50 @@
 -- In a reached world a thread that is left alone gets through each call that it may begin.
-use Rattle.std.proofs.Common.{◌≡◌, ◌≢◌, ℕ, ◌<◌, ◌==◌, ◌&&◌, ◌||◌, cond, Bool, true, false, List, Option, Some, None, Ok, refl, sym, ap, ◌∙◌, subst, arith, eqb-true, ne_eqb, inl, inr, ◌*◌, ◌+◌, not, is_none}
+use Rattle.std.proofs.Common.{◌≡◌, ◌≢◌, ℕ, ◌<◌, ◌==◌, ◌&&◌, ◌||◌, cond, Bool, true, false, List, Option, Some, None, Ok}
+use Rattle.std.proofs.Common.{refl, sym, ap, ◌∙◌, subst, arith, eqb-true, ne_eqb, inl, inr, ◌*◌, ◌+◌, not, is_none}
 use Rattle.std.proofs.lemmas.Option.{same_Some}
 use Rattle.plain_monitor.specs.Objects.{PlainObject}
 use Rattle.plain_monitor.specs.declared.entry.Value.{Value}
 use Rattle.plain_monitor.specs.ValueWords.{read_value}
-use Rattle.core_world.specs.declared.answer.Turn.{Turn}
-use Rattle.core_world.specs.declared.answer.Turn.TheVariants.{Done}
+use Rattle.core_world.specs.declared.answer.Progress.{Progress}
+use Rattle.core_world.specs.declared.answer.Progress.TheVariants.{Done}
 use Rattle.mark_word.specs.Mark.{read_mark}
 use Rattle.mark_word.specs.Wait.{wait_of, read_wait}
 use Rattle.mark_word.specs.declared.wait.WaitForm.{WaitForm}
 use Rattle.mark_word.specs.declared.wait.WaitForm.TheVariants.{Notified}
 use Rattle.mark_word.proofs.ReadingWaits.{read_wait-spells}
 use Rattle.plain_monitor.specs.Monitor.{is_listed}
-use Rattle.core_world.proofs.ObjectHolds.{sound, notified_stands}
-use Rattle.core_world.specs.declared.name.Name.TheVariants.{Safepoint, Mark, Prototype, Waiting, Slot}
-use Rattle.core_world.specs.declared.stage.Stage.TheVariants.{Calm}
-use Rattle.core_world.specs.declared.task.Op.TheVariants as op
-use Rattle.core_world.specs.declared.task.Task.{Task}
-use Rattle.core_world.specs.declared.task.Task.TheVariants as task
+use Rattle.core_world.proofs.enter_exit.ObjectHolds.{sound, notified_stands}
+use Rattle.core_world.specs.declared.word_id.WordId.TheVariants.{Safepoint, Mark, Prototype, Waiting, Slot}
+use Rattle.core_world.specs.declared.stage.Stage.TheVariants.{Settled}
+use Rattle.core_world.specs.declared.heap_call.Operation.TheVariants as op
+use Rattle.core_world.specs.declared.heap_call.HeapCall.{HeapCall}
+use Rattle.core_world.specs.declared.heap_call.HeapCall.TheVariants as task
 use Rattle.core_world.specs.Locks.{monitor_of, notified_at, hold_count}
 use Rattle.core_world.specs.Threads.AtRest.{AtRest}
-use Rattle.core_world.specs.Threads.Known.{Start, local_of}
-use Rattle.core_world.specs.Trees.Calls.{steps_of, side_purpose, end}
-use Rattle.core_world.specs.Trees.Operations.{enter_steps, exit_steps, hash_steps, wait_steps, notify_steps, notify_all_steps, get_steps, put_steps, dump_steps, create_steps, check_steps, value_found, print_steps, finish_steps, lone_purpose}
-use Rattle.core_world.specs.Trees.Plans.{Purpose, purpose}
-use Rattle.core_world.specs.Trees.SafepointSteps.{poll_steps, stop_steps, resume_steps, has_requester, request_steps, reached_steps, release_safepoint, release_plan, reached_word}
+use Rattle.core_world.specs.Threads.ThreadView.{Start, local_of}
+use Rattle.core_world.specs.Trees.Calls.{steps_of, side_context, end}
+use Rattle.core_world.specs.Trees.Operations.{enter_steps, exit_steps, hash_steps, wait_steps, notify_steps, notify_all_steps, get_steps, put_steps}
+use Rattle.core_world.specs.Trees.Operations.{dump_steps, create_steps, check_steps, value_found, print_steps, finish_steps, lone_context}
+use Rattle.core_world.specs.Trees.Plans.{CallContext, call_context}
+use Rattle.core_world.specs.Trees.SafepointSteps.{poll_steps, stop_steps, resume_steps, has_requester, request_steps}
+use Rattle.core_world.specs.Trees.SafepointSteps.{reached_steps, release_safepoint, release_plan, reached_word}
 use Rattle.core_world.specs.Trees.LockSteps.{stack_enter_steps, stack_exit_steps}
-use Rattle.core_world.specs.Trees.Todo.{Todo, done, never, step, ◌>>=◌}
+use Rattle.core_world.specs.Trees.StepTree.{StepTree, done, unreachable, step, ◌>>=◌}
 use Rattle.core_world.specs.Valid.{Fits}
 use Rattle.core_world.specs.Words.Forms.{waits_on, says_notified, notified_form, is_halted}
 use Rattle.core_world.specs.Words.Names.{class_by}
 use Rattle.core_world.specs.World.{World}
-use Rattle.core_world.proofs.LookWhileRevoking.{forgotten}
+use Rattle.core_world.proofs.bias.LookWhileRevoking.{forgotten}
 use Rattle.core_law.specs.WholeLaw.{LawsHold}
-use Rattle.core_locks.proofs.SafeFacts.{few_bits}
+use Rattle.core_locks.proofs.safepoint.SafeFacts.{few_bits}
 use Rattle.core_calls.specs.CallsSay.{has_none, is_full}
 use Rattle.core_law.specs.Logic.{Heap}
 use Rattle.core_law.proofs.Lawful.{sound_rests}
 use Rattle.core_steps.proofs.ReachedWorlds.{reached_worlds_valid, reached_worlds_sound}
 use Rattle.solo_progress.specs.Alone.{AnswersAlone, Quiet, word_of_one}
-use Rattle.solo_progress.specs.Answers.{is_other, is_anothers, is_told, is_told_form, is_pending, PendsForOwner, WaitsWhere, LetsGo, RefusedWhere, IsDone, guarded, created, hash_due, out_due, path_by}
-use Rattle.solo_progress.specs.LeftAlone.{IsReady, MayCall, start_in}
+use Rattle.solo_progress.specs.Answers.{is_other, is_anothers, is_told, is_told_form, is_pending, PendsForOwner, WaitsWhere}
+use Rattle.solo_progress.specs.Answers.{LetsGo, RefusedWhere, IsDone, guarded, created, hash_due, out_due, path_by}
+use Rattle.solo_progress.specs.LeftAlone.{MayCallAlone, MayCall, start_in}
 use Rattle.solo_progress.specs.Moves.{GetsThrough}
 use Rattle.solo_progress.proofs.Enters.{enters_through}
 use Rattle.solo_progress.proofs.Exits.{stack_exit_alone, exits_through, gets_through as gets_alone}
@@ -49,7 +53,8 @@ use Rattle.solo_progress.specs.StandsStill.{stands_still}
 use Rattle.solo_progress.proofs.Checked.{checks_so}
 use Rattle.solo_progress.proofs.Monitors.{stack_enter_alone}
 use Rattle.solo_progress.proofs.Safe.{requests_done, reaches_done}
-use Rattle.solo_progress.proofs.Operations.{hashes_through, notifies_through, notify_alls_through, waits_go, waits_end, waits_done, polls_through, resumes_through, dumps_through, puts_through, creates_through}
+use Rattle.solo_progress.proofs.Operations.{hashes_through, notifies_through, notify_alls_through, waits_go, waits_end, waits_done}
+use Rattle.solo_progress.proofs.Operations.{polls_through, resumes_through, dumps_through, puts_through, creates_through}
 use Rattle.solo_progress.proofs.Runs.{gets_through}
 use Rattle.solo_progress.proofs.OneRun.{quiet_at, answers_alone, alone_all}
 use Rattle.plain_monitor.specs.declared.entry.Ending.{Ending}
@@ -63,14 +68,14 @@ module _ (heap : Heap) (w : World) (objects : List PlainObject) (t : ℕ) where
   abbrev k : Start
   k = start_in w t
 
-  module _ (job : Task) (ready : IsReady heap w objects t job) where
+  module _ (job : HeapCall) (ready : MayCallAlone heap w objects t job) where
     pub fits : Fits w objects
     fits =
         let v = reached_worlds_valid heap w ready.call.limits ready.call.reached in
         let some = alone_fits w v.objects t ready.alone (forgotten LawsHold w v.objects v.is) in
         subst (Fits w) (same_Some v.objects objects (sym some.taken ∙ ready.history)) some
 
-    through : {A : Type 0} (d : Todo A) (P : A → Type 0) → steps_of w.shape job k ≡ (d >>= end)
+    through : {A : Type 0} (d : StepTree A) (P : A → Type 0) → steps_of w.shape job k ≡ (d >>= end)
         → AnswersAlone w.words d P → GetsThrough heap w t job d P
     through d P is says =
         gets_through heap ready.call.limits w t job ready.call.reached ready.call.within ready.call.idle ready.call.may d P is says
@@ -99,7 +104,7 @@ module _ (heap : Heap) (w : World) (objects : List PlainObject) (t : ℕ) where
     some_prototype c = prototype_some w objects t ready.alone fits c
 
   -- AN EXIT
-  pub exits : (o : ℕ) → IsReady heap w objects t (task.Exit o)
+  pub exits : (o : ℕ) → MayCallAlone heap w objects t (task.Exit o)
       → GetsThrough heap w t (task.Exit o) (exit_steps k o) (RefusedWhere (has_none k o) IsDone)
   unfolding steps_of
   exits o ready =
@@ -108,7 +113,7 @@ module _ (heap : Heap) (w : World) (objects : List PlainObject) (t : ℕ) where
       (exits_through k o w.words (some_mark job ready o))
 
   -- A GET and a PUT
-  pub gets : (o slot : ℕ) → IsReady heap w objects t (task.Get o slot)
+  pub gets : (o slot : ℕ) → MayCallAlone heap w objects t (task.Get o slot)
       → GetsThrough heap w t (task.Get o slot) (get_steps k o slot)
       (λ a. a ≡ guarded k o (value_found (read_value (w.words (Slot o slot)))))
   unfolding steps_of
@@ -116,7 +121,7 @@ module _ (heap : Heap) (w : World) (objects : List PlainObject) (t : ℕ) where
       through (task.Get o slot) ready (get_steps k o slot) _ refl
       (gets_alone k o slot w.words)
 
-  pub puts : (o slot : ℕ) (value : Value) → IsReady heap w objects t (task.Put o slot value)
+  pub puts : (o slot : ℕ) (value : Value) → MayCallAlone heap w objects t (task.Put o slot value)
       → GetsThrough heap w t (task.Put o slot value) (put_steps k o slot value) (λ a. a ≡ guarded k o tt)
   unfolding steps_of
   puts o slot value ready =
@@ -124,9 +129,9 @@ module _ (heap : Heap) (w : World) (objects : List PlainObject) (t : ℕ) where
       (puts_through k o slot value w.words)
 
   -- A HASH
-  pub hashes : (o now : ℕ) → IsReady heap w objects t (task.Hash o now)
+  pub hashes : (o now : ℕ) → MayCallAlone heap w objects t (task.Hash o now)
       → GetsThrough heap w t (task.Hash o now) (hash_steps w.shape k o now)
-      (λ turn. turn ≡ Done (hash_due objects o k))
+      (λ progress. progress ≡ Done (hash_due objects o k))
   unfolding steps_of
   hashes o now ready =
       let job = task.Hash o now in
@@ -135,7 +140,7 @@ module _ (heap : Heap) (w : World) (objects : List PlainObject) (t : ℕ) where
       (hashes_through w.shape k o now w.words (low_own job ready) (some_prototype job ready (class_by w.shape w.words o)) (quiet_words job ready)))
 
   -- AN ENTER
-  pub enters_any : (o now : ℕ) → IsReady heap w objects t (task.Enter o now)
+  pub enters_any : (o now : ℕ) → MayCallAlone heap w objects t (task.Enter o now)
       → GetsThrough heap w t (task.Enter o now) (enter_steps w.shape k o now) (RefusedWhere (is_full k o) PendsForOwner)
   unfolding steps_of
   enters_any o now ready =
@@ -144,7 +149,7 @@ module _ (heap : Heap) (w : World) (objects : List PlainObject) (t : ℕ) where
       (enters_through w.shape k o now w.words (low_own job ready) (quiet_words job ready))
 
   -- A NOTIFY and a NOTIFYALL
-  pub notifies : (o now : ℕ) → IsReady heap w objects t (task.Notify o now)
+  pub notifies : (o now : ℕ) → MayCallAlone heap w objects t (task.Notify o now)
       → GetsThrough heap w t (task.Notify o now) (notify_steps w.shape k o now) (RefusedWhere (has_none k o) IsDone)
   unfolding steps_of
   notifies o now ready =
@@ -152,7 +157,7 @@ module _ (heap : Heap) (w : World) (objects : List PlainObject) (t : ℕ) where
       through job ready (notify_steps w.shape k o now) (RefusedWhere (has_none k o) IsDone) refl
       (notifies_through w.shape k o now w.words (low_own job ready) (some_prototype job ready (class_by w.shape w.words o)) (quiet_words job ready))
 
-  pub notify_alls : (o now : ℕ) → IsReady heap w objects t (task.NotifyAll o now)
+  pub notify_alls : (o now : ℕ) → MayCallAlone heap w objects t (task.NotifyAll o now)
       → GetsThrough heap w t (task.NotifyAll o now) (notify_all_steps w.shape k o now) (RefusedWhere (has_none k o) IsDone)
   unfolding steps_of
   notify_alls o now ready =
@@ -162,7 +167,7 @@ module _ (heap : Heap) (w : World) (objects : List PlainObject) (t : ℕ) where
       (quiet_words job ready))
 
   -- A WAIT, that lets go and that goes on
-  pub waits_first : (o now : ℕ) → IsReady heap w objects t (task.Wait o now) → waits_on k.local.wait o ≡ false
+  pub waits_first : (o now : ℕ) → MayCallAlone heap w objects t (task.Wait o now) → waits_on k.local.wait o ≡ false
       → GetsThrough heap w t (task.Wait o now) (wait_steps w.shape k o now) (RefusedWhere (has_none k o) LetsGo)
   unfolding steps_of
   waits_first o now ready new =
@@ -170,10 +175,10 @@ module _ (heap : Heap) (w : World) (objects : List PlainObject) (t : ℕ) where
       through job ready (wait_steps w.shape k o now) (RefusedWhere (has_none k o) LetsGo) refl
       (waits_go w.shape k o now w.words (low_own job ready) (some_prototype job ready (class_by w.shape w.words o)) (quiet_words job ready) new)
 
-  abbrev Ends : ℕ → Bool → Turn (Unit {0}) → Type 0
+  abbrev Ends : ℕ → Bool → Progress (Unit {0}) → Type 0
   Ends u owned = WaitsWhere (is_told (w.words (Waiting u))) owned
 
-  pub waits_again : (o now : ℕ) → IsReady heap w objects t (task.Wait o now) → waits_on k.local.wait o ≡ true
+  pub waits_again : (o now : ℕ) → MayCallAlone heap w objects t (task.Wait o now) → waits_on k.local.wait o ≡ true
       → GetsThrough heap w t (task.Wait o now) (wait_steps w.shape k o now)
       (RefusedWhere (has_none k o) (Ends t (is_other (monitor_of objects o).owner t)))
   unfolding steps_of
@@ -204,7 +209,7 @@ module _ (heap : Heap) (w : World) (objects : List PlainObject) (t : ℕ) where
       by_form (Some (Notified j)) h = refl
       by_form _ h = absurd (cc h)
 
-  pub waits_told : (o now : ℕ) → IsReady heap w objects t (task.Wait o now) → is_listed (notified_at objects o) t ≡ true
+  pub waits_told : (o now : ℕ) → MayCallAlone heap w objects t (task.Wait o now) → is_listed (notified_at objects o) t ≡ true
       → (monitor_of objects o).owner ≡ None
       → GetsThrough heap w t (task.Wait o now) (wait_steps w.shape k o now) (λ a. a ≡ Ok (Done tt))
   unfolding steps_of
@@ -214,7 +219,7 @@ module _ (heap : Heap) (w : World) (objects : List PlainObject) (t : ℕ) where
       (ap (λ u. is_told (w.words (Waiting u))) (mine job ready) ∙ told_by o (w.words (Waiting t)) says)
       (ap (is_anothers w.shape w.words o) (mine job ready) ∙ ap (λ a. is_other a t) (who_is_owner w objects t ready.alone v o ∙ free)))
     where
-      job : Task
+      job : HeapCall
       job = task.Wait o now
 
       v : Fits w objects
@@ -240,72 +245,72 @@ module _ (heap : Heap) (w : World) (objects : List PlainObject) (t : ℕ) where
           ne_eqb (hold_count o (w.known t).holds) 0 (λ z. absurd (omega (arith, z, stands, number)))
 
   -- A DUMP and a CHECK
-  pub dumps : IsReady heap w objects t task.Dump
-      → GetsThrough heap w t task.Dump (dump_steps w.shape k) (RefusedWhere (k.shots == 4) (λ turn. turn ≡ Done (k.shots + 1)))
+  pub dumps : MayCallAlone heap w objects t task.Dump
+      → GetsThrough heap w t task.Dump (dump_steps w.shape k) (RefusedWhere (k.shots == 4) (λ progress. progress ≡ Done (k.shots + 1)))
   unfolding steps_of
   dumps ready =
-      through task.Dump ready (dump_steps w.shape k) (RefusedWhere (k.shots == 4) (λ turn. turn ≡ Done (k.shots + 1))) refl
+      through task.Dump ready (dump_steps w.shape k) (RefusedWhere (k.shots == 4) (λ progress. progress ≡ Done (k.shots + 1))) refl
       (dumps_through w.shape k w.words (low_own task.Dump ready) (quiet_words task.Dump ready))
 
-  pub checks : IsReady heap w objects t task.Check
-      → GetsThrough heap w t task.Check (check_steps w.shape k) (λ turn. turn ≡ Done (stands_still w.shape w.words))
+  pub checks : MayCallAlone heap w objects t task.Check
+      → GetsThrough heap w t task.Check (check_steps w.shape k) (λ progress. progress ≡ Done (stands_still w.shape w.words))
   unfolding steps_of
   checks ready =
-      through task.Check ready (check_steps w.shape k) (λ turn. turn ≡ Done (stands_still w.shape w.words)) refl
+      through task.Check ready (check_steps w.shape k) (λ progress. progress ≡ Done (stands_still w.shape w.words)) refl
       (checks_so w.shape k w.words (low_own task.Check ready) (quiet_words task.Check ready))
 
   -- THE PARTS that are calls by themselves
-  pub stack_enters : (o mark : ℕ) → IsReady heap w objects t (task.StackEnter o mark) → w.words (Mark o) ≡ mark
+  pub stack_enters : (o mark : ℕ) → MayCallAlone heap w objects t (task.StackEnter o mark) → w.words (Mark o) ≡ mark
       → GetsThrough heap w t (task.StackEnter o mark)
-      (stack_enter_steps (lone_purpose (task.StackEnter o mark)) (local_of (w.known t)) o mark) (λ turn. turn ≡ Done (path_by (read_mark mark)))
+      (stack_enter_steps (lone_context (task.StackEnter o mark)) (local_of (w.known t)) o mark) (λ progress. progress ≡ Done (path_by (read_mark mark)))
   unfolding steps_of
   stack_enters o mark ready is =
       let job = task.StackEnter o mark in
-      let d = stack_enter_steps (lone_purpose job) k.local o mark in
-      through job ready d (λ turn. turn ≡ Done (path_by (read_mark mark))) refl
-      (answers_alone (λ turn. turn ≡ Done (path_by (read_mark mark))) w.words d (stack_enter_alone (lone_purpose job) k.local o mark w.words is))
+      let d = stack_enter_steps (lone_context job) k.local o mark in
+      through job ready d (λ progress. progress ≡ Done (path_by (read_mark mark))) refl
+      (answers_alone (λ progress. progress ≡ Done (path_by (read_mark mark))) w.words d (stack_enter_alone (lone_context job) k.local o mark w.words is))
 
-  pub stack_exits : (o : ℕ) → IsReady heap w objects t (task.StackExit o)
-      → GetsThrough heap w t (task.StackExit o) (stack_exit_steps (purpose (task.StackExit o) op.Exit o) (local_of (w.known t)) o)
+  pub stack_exits : (o : ℕ) → MayCallAlone heap w objects t (task.StackExit o)
+      → GetsThrough heap w t (task.StackExit o) (stack_exit_steps (call_context (task.StackExit o) op.Exit o) (local_of (w.known t)) o)
       (λ out. out ≡ out_due (local_of (w.known t)) o w.words)
   unfolding steps_of
   stack_exits o ready =
       let job = task.StackExit o in
-      let e = purpose job op.Exit o in
+      let e = call_context job op.Exit o in
       let d = stack_exit_steps e k.local o in
       through job ready d (λ out. out ≡ out_due k.local o w.words) refl
       (answers_alone (λ out. out ≡ out_due k.local o w.words) w.words d (stack_exit_alone e k.local o (w.words (Mark o)) w.words refl (some_mark job ready o)))
 
-  pub requests : IsReady heap w objects t task.Request
-      → GetsThrough heap w t task.Request (request_steps (lone_purpose task.Request) (w.known t).thread) IsDone
+  pub requests : MayCallAlone heap w objects t task.Request
+      → GetsThrough heap w t task.Request (request_steps (lone_context task.Request) (w.known t).thread) IsDone
   unfolding steps_of
   requests ready =
-      let d = request_steps (lone_purpose task.Request) k.local.thread in
+      let d = request_steps (lone_context task.Request) k.local.thread in
       let runs = first_holds (w.known t).running (is_none (w.known t).unfinished) (not (w.known t).checking) ready.call.may in
       let none = not_asks (w.known t).requesting (sym ready.alone.runs ∙ runs) in
       through task.Request ready d IsDone refl
-      (answers_alone IsDone w.words d (requests_done k.local.thread 0 (low_own task.Request ready) (lone_purpose task.Request) w.words
+      (answers_alone IsDone w.words d (requests_done k.local.thread 0 (low_own task.Request ready) (lone_context task.Request) w.words
       (quiet_at 0 (subst (λ (r : Bool). Quiet (word_of_one r k.local.thread) w.words) none (quiet_words task.Request ready)))))
     where
       not_asks : (b : Bool) → not b ≡ true → b ≡ false
       not_asks false e = refl
       not_asks true e = absurd (cc e)
 
-  pub reaches : IsReady heap w objects t task.Reached
-      → GetsThrough heap w t task.Reached (reached_steps (lone_purpose task.Reached)) IsDone
+  pub reaches : MayCallAlone heap w objects t task.Reached
+      → GetsThrough heap w t task.Reached (reached_steps (lone_context task.Reached)) IsDone
   unfolding steps_of
   reaches ready =
-      let d = reached_steps (lone_purpose task.Reached) in
+      let d = reached_steps (lone_context task.Reached) in
       let asks = first_holds (w.known t).requesting (is_none (w.known t).unfinished) (not (w.known t).checking) ready.call.may in
       through task.Reached ready d IsDone refl
-      (answers_alone IsDone w.words d (reaches_done k.local.thread 0 (low_own task.Reached ready) (lone_purpose task.Reached) w.words
+      (answers_alone IsDone w.words d (reaches_done k.local.thread 0 (low_own task.Reached ready) (lone_context task.Reached) w.words
       (quiet_at 0 (subst (λ (r : Bool). Quiet (word_of_one r k.local.thread) w.words) asks (quiet_words task.Reached ready)))))
 
 -- CALLS THAT NEED NO OTHER THREAD. A release answers nothing.
-release_ends : (e : Purpose) (t : ℕ) → release_safepoint e t ≡ (release_safepoint e t >>= end)
-release_ends e t = λ i. step (release_plan (record e { check = false }) Calm t) (λ n. by_hit (n == reached_word t) i)
+release_ends : (e : CallContext) (t : ℕ) → release_safepoint e t ≡ (release_safepoint e t >>= end)
+release_ends e t = λ i. step (release_plan (record e { check = false }) Settled t) (λ n. by_hit (n == reached_word t) i)
   where
-    by_hit : (b : Bool) → cond {A = Todo (Unit {0})} b (done tt) never ≡ (cond {A = Todo (Unit {0})} b (done tt) never >>= end)
+    by_hit : (b : Bool) → cond {A = StepTree (Unit {0})} b (done tt) unreachable ≡ (cond {A = StepTree (Unit {0})} b (done tt) unreachable >>= end)
     by_hit true = refl
     by_hit false = refl
 
@@ -313,7 +318,7 @@ module _ (heap : Heap) (w : World) (t : ℕ) where
   abbrev now_known : Start
   now_known = start_in w t
 
-  by_itself : (job : Task) → MayCall heap w t job → {A : Type 0} (d : Todo A) (P : A → Type 0)
+  by_itself : (job : HeapCall) → MayCall heap w t job → {A : Type 0} (d : StepTree A) (P : A → Type 0)
       → steps_of w.shape job now_known ≡ (d >>= end) → AnswersAlone w.words d P → GetsThrough heap w t job d P
   by_itself job ready d P is says =
       gets_through heap ready.limits w t job ready.reached ready.within ready.idle ready.may d P is says
@@ -322,7 +327,7 @@ module _ (heap : Heap) (w : World) (t : ℕ) where
   abbrev Whatever : {A : Type 0} → A → Type 0
   Whatever a = Unit {0}
 
-  whatever : {A : Type 0} (d : Todo A) → AnswersAlone w.words d Whatever
+  whatever : {A : Type 0} (d : StepTree A) → AnswersAlone w.words d Whatever
   whatever d = answers_alone Whatever w.words d (alone_all (λ g a. Whatever a) d w.words (λ g a. tt))
 
   pub prints_itself : (value : Value) → MayCall heap w t (task.Print value)
@@ -346,33 +351,33 @@ module _ (heap : Heap) (w : World) (t : ℕ) where
       by_itself (task.Finish ending) ready d Whatever refl (whatever d)
 
   pub stops_itself : MayCall heap w t task.Stop
-      → GetsThrough heap w t task.Stop (stop_steps (side_purpose task.Stop now_known) (local_of (w.known t))) Whatever
+      → GetsThrough heap w t task.Stop (stop_steps (side_context task.Stop now_known) (local_of (w.known t))) Whatever
   unfolding steps_of
   stops_itself ready =
-      let e = side_purpose task.Stop now_known in
+      let e = side_context task.Stop now_known in
       let d = stop_steps e now_known.local in
       by_itself task.Stop ready d Whatever refl (whatever d)
 
   pub polls_itself : MayCall heap w t task.Poll
-      → GetsThrough heap w t task.Poll (poll_steps (side_purpose task.Poll now_known))
-      (λ turn. is_pending turn ≡ has_requester (w.words Safepoint))
+      → GetsThrough heap w t task.Poll (poll_steps (side_context task.Poll now_known))
+      (λ progress. is_pending progress ≡ has_requester (w.words Safepoint))
   unfolding steps_of
   polls_itself ready =
-      let e = side_purpose task.Poll now_known in
+      let e = side_context task.Poll now_known in
       by_itself task.Poll ready (poll_steps e) _ refl (polls_through e w.words)
 
   pub resumes_itself : MayCall heap w t task.Resume
-      → GetsThrough heap w t task.Resume (resume_steps (side_purpose task.Resume now_known) (local_of (w.known t)))
-      (λ turn. is_pending turn ≡ (is_halted (w.words Safepoint) || has_requester (w.words Safepoint)))
+      → GetsThrough heap w t task.Resume (resume_steps (side_context task.Resume now_known) (local_of (w.known t)))
+      (λ progress. is_pending progress ≡ (is_halted (w.words Safepoint) || has_requester (w.words Safepoint)))
   unfolding steps_of
   resumes_itself ready =
-      let e = side_purpose task.Resume now_known in
+      let e = side_context task.Resume now_known in
       by_itself task.Resume ready (resume_steps e now_known.local) _ refl
       (resumes_through e now_known.local w.words)
 
   pub releases_itself : MayCall heap w t task.Release
-      → GetsThrough heap w t task.Release (release_safepoint (lone_purpose task.Release) (w.known t).thread) Whatever
+      → GetsThrough heap w t task.Release (release_safepoint (lone_context task.Release) (w.known t).thread) Whatever
   unfolding steps_of
   releases_itself ready =
-      let d = release_safepoint (lone_purpose task.Release) now_known.local.thread in
-      by_itself task.Release ready d Whatever (release_ends (lone_purpose task.Release) now_known.local.thread) (whatever d)
+      let d = release_safepoint (lone_context task.Release) now_known.local.thread in
+      by_itself task.Release ready d Whatever (release_ends (lone_context task.Release) now_known.local.thread) (whatever d)

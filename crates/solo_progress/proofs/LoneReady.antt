@@ -7,13 +7,13 @@ use Rattle.mark_word.specs.Owner.{read_owner}
 use Rattle.mark_word.specs.Wait.{read_wait}
 use Rattle.mark_word.specs.Hold.{read_hold}
 use Rattle.plain_monitor.specs.declared.entry.Value.TheVariants.{Nil}
-use Rattle.core_world.specs.declared.task.Task.TheVariants as task
+use Rattle.core_world.specs.declared.heap_call.HeapCall.TheVariants as task
 use Rattle.core_world.specs.Due.{steps_due}
 use Rattle.core_world.specs.Steps.{is_idle}
 use Rattle.core_world.specs.Trees.Calls.{steps_of}
 use Rattle.core_world.specs.Words.Shape.{ring_bits}
 use Rattle.step_history.specs.Examples.{lone, world_of, enters}
-use Rattle.solo_progress.specs.LeftAlone.{MayCall, IsReady}
+use Rattle.solo_progress.specs.LeftAlone.{MayCall, MayCallAlone}
 use Rattle.solo_progress.specs.Witnesses.{slotted, held, reaches}
 use Rattle.solo_progress.proofs.LoneWorlds.{AllStep, Idle, Calmly, RunsOrAsks, Leaves, May, called, ready}
 
@@ -46,11 +46,11 @@ enters_may_put : May (enters 0) (task.Put 0 0 Nil)
 unfolding steps_due is_idle steps_of read_safe read_mark read_hold read_wait read_owner ring_bits
 enters_may_put = refl
 
-pub get_ready : IsReady lone (world_of lone (enters 0)) (held ∷ []) 0 (task.Get 0 0)
+pub get_ready : MayCallAlone lone (world_of lone (enters 0)) (held ∷ []) 0 (task.Get 0 0)
 get_ready =
     ready (enters 0) (task.Get 0 0) held (called (enters 0) (task.Get 0 0) enters_step enters_idle enters_may_get) refl enters_calm enters_runs enters_leave
 
-pub put_ready : IsReady lone (world_of lone (enters 0)) (held ∷ []) 0 (task.Put 0 0 Nil)
+pub put_ready : MayCallAlone lone (world_of lone (enters 0)) (held ∷ []) 0 (task.Put 0 0 Nil)
 put_ready =
     ready (enters 0) (task.Put 0 0 Nil) held (called (enters 0) (task.Put 0 0 Nil) enters_step enters_idle enters_may_put) refl
     enters_calm enters_runs enters_leave
@@ -84,7 +84,7 @@ reaches_may_release : May (reaches 0) task.Release
 unfolding steps_due is_idle steps_of read_safe read_mark read_hold read_wait read_owner ring_bits
 reaches_may_release = refl
 
-pub reached_ready : IsReady lone (world_of lone (reaches 0)) (slotted ∷ []) 0 task.Reached
+pub reached_ready : MayCallAlone lone (world_of lone (reaches 0)) (slotted ∷ []) 0 task.Reached
 reached_ready =
     ready (reaches 0) task.Reached slotted (called (reaches 0) task.Reached reaches_step reaches_idle reaches_may_look) refl
     reaches_calm reaches_runs reaches_leave

@@ -5,14 +5,14 @@ use Rattle.mark_word.specs.Safe.{read_safe}
 use Rattle.mark_word.specs.Owner.{read_owner}
 use Rattle.mark_word.specs.Wait.{read_wait}
 use Rattle.mark_word.specs.Hold.{read_hold}
-use Rattle.core_world.specs.declared.task.Task.TheVariants as task
+use Rattle.core_world.specs.declared.heap_call.HeapCall.TheVariants as task
 use Rattle.core_world.specs.Due.{steps_due}
 use Rattle.core_world.specs.Steps.{is_idle}
 use Rattle.core_world.specs.Trees.Calls.{steps_of}
 use Rattle.core_world.specs.Words.Forms.{waits_on}
 use Rattle.core_world.specs.Words.Shape.{ring_bits}
 use Rattle.step_history.specs.Examples.{lone, world_of, waits}
-use Rattle.solo_progress.specs.LeftAlone.{IsReady}
+use Rattle.solo_progress.specs.LeftAlone.{MayCallAlone}
 use Rattle.solo_progress.specs.Witnesses.{waiting}
 use Rattle.solo_progress.proofs.LoneWorlds.{knows, AllStep, Idle, Calmly, RunsOrAsks, Leaves, May, called, ready}
 
@@ -52,7 +52,7 @@ pub still_waits : waits_on (knows (waits 0)).wait 0 ≡ true
 unfolding steps_due is_idle steps_of read_safe read_mark read_hold read_wait read_owner ring_bits
 still_waits = refl
 
-pub wait_ready : (now : ℕ) → IsReady lone (world_of lone (waits 0)) (waiting ∷ []) 0 (task.Wait 0 now)
+pub wait_ready : (now : ℕ) → MayCallAlone lone (world_of lone (waits 0)) (waiting ∷ []) 0 (task.Wait 0 now)
 wait_ready now =
     ready (waits 0) (task.Wait 0 now) waiting (called (waits 0) (task.Wait 0 now) waits_step waits_idle (waits_may now)) refl
     waits_calm waits_runs waits_leave

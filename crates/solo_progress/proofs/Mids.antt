@@ -1,9 +1,12 @@
 -- A world in the middle of a call of a thread that is left alone, where it has logged nothing and released its safepoint: who has the lock of an object is its
 -- plain owner from before the call, but for the thread itself.
-use Rattle.core_locks.proofs.Prelude.{◌≡◌, ◌≢◌, ℕ, ◌<◌, ◌==◌, ◌||◌, ◌++◌, cond, not, Bool, true, false, List, [], ◌∷◌, Option, Some, None, refl, sym, ap, ◌∙◌, subst, eq-eqb, eqb-true, by_equal, or-false, same_Some, MarkForm, Inflating, read_mark, PlainObject, Logged, Entry, Name, Safepoint, Mark, Prototype, World, logs, logs_from, Fits, Shape, who, owner_words, inflations, owner_at, monitor_of, hold_count, bears, is_thread, StepMade, Known}
+use Rattle.core_locks.proofs.Prelude.{◌≡◌, ◌≢◌, ℕ, ◌<◌, ◌==◌, ◌||◌, ◌++◌, cond, not, Bool, true, false, List, [], ◌∷◌, Option, Some, None, refl}
+use Rattle.core_locks.proofs.Prelude.{sym, ap, ◌∙◌, subst, eq-eqb, eqb-true, by_equal, or-false, same_Some, MarkForm, Inflating, read_mark}
+use Rattle.core_locks.proofs.Prelude.{PlainObject, Logged, Entry, WordId, Safepoint, Mark, Prototype, World, logs, logs_from, Fits, Shape, who}
+use Rattle.core_locks.proofs.Prelude.{owner_words, inflations, owner_at, monitor_of, hold_count, bears, is_thread, StepMade, ThreadView}
 use Rattle.plain_monitor.specs.History.{objects_after}
-use Rattle.core_world.specs.declared.plan.Note.{Note}
-use Rattle.core_world.specs.declared.plan.Note.TheVariants.{Quiet as Says_nothing, Log, LogGet, LogHash}
+use Rattle.core_world.specs.declared.plan.LogEffect.{LogEffect}
+use Rattle.core_world.specs.declared.plan.LogEffect.TheVariants.{Quiet as Says_nothing, Log, LogGet, LogHash}
 use Rattle.core_world.specs.Locks.{holder, lock_form}
 use Rattle.core_world.specs.Threads.Stages.{Inflation}
 use Rattle.core_world.specs.RevocationRules.{holds_in}
@@ -13,14 +16,14 @@ use Rattle.core_world.specs.Words.Forms.{hash_in, requester_in}
 use Rattle.core_world.specs.Words.Names.{class_by}
 use Rattle.core_world.specs.Trees.SafepointSteps.{released_word}
 use Rattle.core_world.proofs.KnowledgeParts.{with_known_here, with_known_else}
-use Rattle.core_world.proofs.LookWhileRevoking.{forgotten}
+use Rattle.core_world.proofs.bias.LookWhileRevoking.{forgotten}
 use Rattle.core_world.proofs.RefusedWorlds.{logs_same}
 use Rattle.core_law.specs.WholeLaw.{LawsHold}
 use Rattle.core_bias.proofs.Places.{holds_are}
-use Rattle.core_locks.proofs.SafeFacts.{fits_unasked}
+use Rattle.core_locks.proofs.safepoint.SafeFacts.{fits_unasked}
 use Rattle.core_calls.specs.Paths.{noted, entries_of}
 use Rattle.core_law.specs.Logic.{Heap}
-use Rattle.core_law.specs.Reached.{Comes, moves}
+use Rattle.core_law.specs.Reached.{IsReachable, moves}
 use Rattle.core_steps.proofs.ReachedWorlds.{reached_worlds_valid}
 use Rattle.core_world.specs.Words.Shape.{IsInLimits}
 use Rattle.solo_progress.specs.Alone.{words_left}
@@ -37,7 +40,7 @@ both_none : {A : Type 0} (xs ys : List A) → xs ++ ys ≡ [] → (xs ≡ []) ×
 both_none [] ys e = (refl, e)
 both_none (x ∷ xs) ys e = absurd (cc e)
 
-silent_note : (note : Note) (n : ℕ) (log : List Logged) → noted note n ≡ [] → log_after note n log ≡ log
+silent_note : (note : LogEffect) (n : ℕ) (log : List Logged) → noted note n ≡ [] → log_after note n log ≡ log
 silent_note Says_nothing n log e = refl
 silent_note (Log entry) n log e = absurd (cc e)
 silent_note (LogGet o slot) n log e = absurd (cc e)
@@ -47,17 +50,18 @@ silent_note (LogHash o) n log e = cases (hash_in n == 0) _ _ e
     cases true entry x e = refl
     cases false entry x e = absurd (cc e)
 
-silent_log : (s : Shape) (start : ℕ) (ms : List StepMade) (k : Known) → entries_of ms ≡ [] → (known_along s start ms k).log ≡ k.log
+silent_log : (s : Shape) (start : ℕ) (ms : List StepMade) (k : ThreadView) → entries_of ms ≡ [] → (known_along s start ms k).log ≡ k.log
 silent_log s start [] k e = refl
 silent_log s start (m ∷ ms) k e =
     let parts = both_none (entries_of ms) (cond (hits m.plan.act m.found) (noted m.plan.note m.found) []) e in
     by_hit (hits m.plan.act m.found) parts.1 ∙ silent_log s start ms k parts.0
   where
-    l : Known
+    l : ThreadView
     l = known_along s start ms k
 
     by_hit : (b : Bool) → cond b (noted m.plan.note m.found) [] ≡ []
-        → (cond b (known_hit s start m.plan m.found (known_along s start ms k)) (known_miss s start m.plan m.found (known_along s start ms k))).log ≡ (known_along s start ms k).log
+        → (cond b (known_hit s start m.plan m.found (known_along s start ms k)) (known_miss s start m.plan m.found (known_along s start ms k))).log
+        ≡ (known_along s start ms k).log
     by_hit true h = silent_note m.plan.note m.found (known_along s start ms k).log h
     by_hit false h = refl
 
@@ -81,8 +85,8 @@ went w t ms v (goes ns x p before next) =
       others = λ u d. with_known_else t (known_after x.shape x.start p (x.words p.at) (x.known t)) x.known u d ∙ h.others u d;
     }
 
-pub moved_comes : (heap : Heap) (w : World) (t : ℕ) (ms : List StepMade) (v : World) → t < w.shape.threads → Comes heap w → Moves w t ms v
-    → Comes heap v
+pub moved_comes : (heap : Heap) (w : World) (t : ℕ) (ms : List StepMade) (v : World) → t < w.shape.threads → IsReachable heap w → Moves w t ms v
+    → IsReachable heap v
 moved_comes heap w t ms v within c stays = c
 moved_comes heap w t ms v within c (goes ns x p before next) =
     moves x t p (moved_comes heap w t ns x within c before)
@@ -107,7 +111,7 @@ unnamed (Some Inflating) p owners x d = absurd (d refl)
 unnamed _ p owners x d = refl
 
 module _ (heap : Heap) (limits : IsInLimits heap.shape) (w : World) (P : List PlainObject) (t : ℕ) (a : IsLeftAlone w t) (low : t < 32)
-    (before : Fits w P) (c : Comes heap w) (ms : List StepMade) (v : World) (m : Moves w t ms v) (silent : entries_of ms ≡ [])
+    (before : Fits w P) (c : IsReachable heap w) (ms : List StepMade) (v : World) (m : Moves w t ms v) (silent : entries_of ms ≡ [])
     (o : ℕ) (q : QuietAt o (released_word t) (words_left w.words ms)) where
   words : v.words ≡ words_left w.words ms
   words = λ i n. (moves_found w t ms v m).words n i
@@ -118,11 +122,11 @@ module _ (heap : Heap) (limits : IsInLimits heap.shape) (w : World) (P : List Pl
       ∙ logs_same 0 w.shape.threads v.known w.known
       (λ u. by_equal u t
       (λ e. subst (λ i. (v.known i).log ≡ (w.known i).log) (sym e)
-      (ap (λ (k : Known). k.log) (went w t ms v m).known ∙ silent_log w.shape w.start ms (w.known t) silent))
-      (λ d. ap (λ (k : Known). k.log) ((went w t ms v m).others u d)))
+      (ap (λ (k : ThreadView). k.log) (went w t ms v m).known ∙ silent_log w.shape w.start ms (w.known t) silent))
+      (λ d. ap (λ (k : ThreadView). k.log) ((went w t ms v m).others u d)))
 
   unasked : requester_in (v.words Safepoint) ≡ None
-  unasked = ap (λ (f : Name → ℕ). requester_in (f Safepoint)) words ∙ ap requester_in q.safepoint ∙ no_requester t low
+  unasked = ap (λ (f : WordId → ℕ). requester_in (f Safepoint)) words ∙ ap requester_in q.safepoint ∙ no_requester t low
 
   middle : Fits v P
   middle =
@@ -133,7 +137,7 @@ module _ (heap : Heap) (limits : IsInLimits heap.shape) (w : World) (P : List Pl
       (went w t ms v m).shape ∙ before.taken)) fits
 
   some : v.words (Mark o) ≢ 0
-  some z = q.mark (ap (λ (f : Name → ℕ). f (Mark o)) (sym words) ∙ z)
+  some z = q.mark (ap (λ (f : WordId → ℕ). f (Mark o)) (sym words) ∙ z)
 
   -- by the words as they are then
   held_then : (u : ℕ) → hold_count o (holds_in v.words u) ≡ hold_count o (v.known u).holds
@@ -150,7 +154,7 @@ module _ (heap : Heap) (limits : IsInLimits heap.shape) (w : World) (P : List Pl
   others_then : (u : ℕ) → u ≢ t → is_thread (who v o) u ≡ is_thread (monitor_of P o).owner u
   others_then u d =
       middle.owners.same o u
-      ∙ ap (λ (k : Known). owner_at P o u || bears k.stage o) ((went w t ms v m).others u d)
+      ∙ ap (λ (k : ThreadView). owner_at P o u || bears k.stage o) ((went w t ms v m).others u d)
       ∙ ap (λ s. owner_at P o u || bears s o) (all_calm w P t a before u)
       ∙ or-false (owner_at P o u)
 

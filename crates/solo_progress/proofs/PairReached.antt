@@ -5,72 +5,73 @@ use Rattle.mark_word.specs.Safe.{read_safe}
 use Rattle.mark_word.specs.Wait.{read_wait}
 use Rattle.mark_word.specs.Hold.{read_hold}
 use Rattle.plain_monitor.specs.declared.entry.Path.TheVariants.{BiasTaken}
-use Rattle.core_world.specs.declared.name.Name.TheVariants.{Safepoint, Mark, Prototype}
-use Rattle.core_world.specs.declared.task.Task.TheVariants as task
+use Rattle.core_world.specs.declared.word_id.WordId.TheVariants.{Safepoint, Mark, Prototype}
+use Rattle.core_world.specs.declared.heap_call.HeapCall.TheVariants as task
 use Rattle.core_world.specs.Due.{steps_due}
 use Rattle.core_world.specs.Opening.{opening, first_known}
 use Rattle.core_world.specs.Steps.{is_idle}
-use Rattle.core_world.specs.Threads.Known.{Known}
+use Rattle.core_world.specs.Threads.ThreadView.{ThreadView}
 use Rattle.core_world.specs.Trees.BiasSteps.{rebias_plan}
 use Rattle.core_world.specs.Trees.Calls.{steps_of, may_begin}
 use Rattle.core_world.specs.Trees.LockSteps.{hold_plan, log_enter_plan}
 use Rattle.core_world.specs.Trees.Plans.{load}
 use Rattle.core_world.specs.Trees.SafepointSteps.{resume_plan, publish_log_plan, stop_plan}
 use Rattle.core_world.specs.Words.Shape.{IsInLimits}
-use Rattle.core_law.specs.Reached.{Comes, opens, moves}
+use Rattle.core_law.specs.Reached.{IsReachable, opens, moves}
 use Rattle.plain_monitor.specs.History.{objects_after}
 use Rattle.core_world.specs.World.{logs}
 use Rattle.core_world.proofs.KnowledgeParts.{by_equal}
-use Rattle.core_world.proofs.LookWhileRevoking.{forgotten}
-use Rattle.core_world.proofs.OwnersShown.{fits_running}
+use Rattle.core_world.proofs.bias.LookWhileRevoking.{forgotten}
+use Rattle.core_world.proofs.enter_exit.OwnersShown.{fits_running}
 use Rattle.core_law.specs.WholeLaw.{LawsHold}
 use Rattle.core_steps.proofs.ReachedWorlds.{reached_worlds_valid}
 use Rattle.solo_progress.specs.Answers.{is_others_bias}
-use Rattle.solo_progress.specs.LeftAlone.{IsLeftAlone, IsReady}
-use Rattle.solo_progress.specs.PairWorlds.{pair, resuming, entering, stopping, anonymous, looked, running, marked, compared, biased, held, entered, published, stopped, seen, alone}
+use Rattle.solo_progress.specs.LeftAlone.{IsLeftAlone, MayCallAlone}
+use Rattle.solo_progress.specs.PairWorlds.{pair, resuming, entering, stopping, anonymous, looked, running, marked}
+use Rattle.solo_progress.specs.PairWorlds.{compared, biased, held, entered, published, stopped, seen, alone}
 use Rattle.solo_progress.specs.Witnesses.{owned}
 
-comes_looked : Comes pair looked
+comes_looked : IsReachable pair looked
 unfolding steps_due is_idle steps_of
 comes_looked = moves (opening pair.shape pair.start pair.biasing) 0 (load resuming Safepoint) opens (omega arith) refl
 
-comes_running : Comes pair running
+comes_running : IsReachable pair running
 unfolding steps_due is_idle steps_of read_safe
 comes_running = moves looked 0 (resume_plan resuming 0 0) comes_looked (omega arith) refl
 
-comes_marked : Comes pair marked
+comes_marked : IsReachable pair marked
 unfolding steps_due is_idle steps_of read_safe read_mark
 comes_marked = moves running 0 (load entering (Mark 0)) comes_running (omega arith) refl
 
-comes_compared : Comes pair compared
+comes_compared : IsReachable pair compared
 unfolding steps_due is_idle steps_of read_safe read_mark
 comes_compared = moves marked 0 (load entering (Prototype 0)) comes_marked (omega arith) refl
 
-comes_biased : Comes pair biased
+comes_biased : IsReachable pair biased
 unfolding steps_due is_idle steps_of read_safe read_mark
 comes_biased = moves compared 0 (rebias_plan entering 0 0 anonymous 0) comes_compared (omega arith) refl
 
-comes_held : Comes pair held
+comes_held : IsReachable pair held
 unfolding steps_due is_idle steps_of read_safe read_mark read_hold
 comes_held = moves biased 0 (hold_plan entering 0 0 1 0 BiasTaken) comes_biased (omega arith) refl
 
-comes_entered : Comes pair entered
+comes_entered : IsReachable pair entered
 unfolding steps_due is_idle steps_of read_safe read_mark read_hold read_wait
 comes_entered = moves held 0 (log_enter_plan entering 0 BiasTaken) comes_held (omega arith) refl
 
-comes_published : Comes pair published
+comes_published : IsReachable pair published
 unfolding steps_due is_idle steps_of read_safe read_mark read_hold read_wait
 comes_published = moves entered 0 (publish_log_plan stopping 0 1) comes_entered (omega arith) refl
 
-comes_stopped : Comes pair stopped
+comes_stopped : IsReachable pair stopped
 unfolding steps_due is_idle steps_of read_safe read_mark read_hold read_wait
 comes_stopped = moves published 0 (stop_plan stopping 0) comes_published (omega arith) refl
 
-comes_seen : Comes pair seen
+comes_seen : IsReachable pair seen
 unfolding steps_due is_idle steps_of read_safe read_mark read_hold read_wait
 comes_seen = moves stopped 1 (load resuming Safepoint) comes_stopped (omega arith) refl
 
-pub comes_alone : Comes pair alone
+pub comes_alone : IsReachable pair alone
 unfolding steps_due is_idle steps_of read_safe read_mark read_hold read_wait
 comes_alone = moves seen 1 (resume_plan resuming 1 0) comes_seen (omega arith) refl
 
@@ -102,9 +103,9 @@ left_alone = record {
   calm = refl;
   runs = refl;
   stopped = λ u d. by_equal u 0 (λ e. ap (λ i. (alone.known i).running) e ∙ thread_0_stopped)
-      (λ n. ap (λ (k : Known). k.running) (none_else u n d));
+      (λ n. ap (λ (k : ThreadView). k.running) (none_else u n d));
   unasked = λ u d. by_equal u 0 (λ e. ap (λ i. (alone.known i).requesting) e ∙ thread_0_asks_nothing)
-      (λ n. ap (λ (k : Known). k.requesting) (none_else u n d));
+      (λ n. ap (λ (k : ThreadView). k.requesting) (none_else u n d));
 }
 
 idle : is_idle alone.shape (alone.known 1) ≡ true
@@ -119,7 +120,7 @@ history : objects_after alone.shape.objects (logs alone) ≡ Some (owned ∷ [])
 unfolding read_safe read_mark read_hold read_wait
 history = refl
 
-pub ready : (now : ℕ) → IsReady pair alone (owned ∷ []) 1 (task.Enter 0 now)
+pub ready : (now : ℕ) → MayCallAlone pair alone (owned ∷ []) 1 (task.Enter 0 now)
 ready now = record {
   call = record { limits = limits; reached = comes_alone; within = omega arith; idle = idle; may = may_enter now };
   history = history;

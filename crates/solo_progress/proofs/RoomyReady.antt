@@ -4,8 +4,8 @@ use Rattle.std.proofs.lemmas.List.{length-replicate}
 use Rattle.std.specs.List.{AllByRecursion}
 use Rattle.mark_word.specs.Safe.{read_safe}
 use Rattle.plain_monitor.specs.Limits.{most_made, most_slots}
-use Rattle.core_world.specs.declared.name.Name.TheVariants.{Safepoint}
-use Rattle.core_world.specs.declared.task.Task.TheVariants as task
+use Rattle.core_world.specs.declared.word_id.WordId.TheVariants.{Safepoint}
+use Rattle.core_world.specs.declared.heap_call.HeapCall.TheVariants as task
 use Rattle.core_world.specs.Due.{steps_due}
 use Rattle.core_world.specs.Opening.{opening}
 use Rattle.core_world.specs.Steps.{is_idle}
@@ -13,7 +13,7 @@ use Rattle.core_world.specs.Trees.Calls.{may_act, may_begin, steps_of}
 use Rattle.core_world.specs.Trees.Plans.{load}
 use Rattle.core_world.specs.Trees.SafepointSteps.{resume_plan}
 use Rattle.core_world.specs.Words.Shape.{IsInLimits}
-use Rattle.core_law.specs.Reached.{Comes, opens, moves}
+use Rattle.core_law.specs.Reached.{IsReachable, opens, moves}
 use Rattle.core_steps.specs.SmallWorlds.{resuming}
 use Rattle.solo_progress.specs.LeftAlone.{MayCall}
 use Rattle.solo_progress.specs.RoomyWorlds.{roomy, roomy_looked, roomy_running}
@@ -35,11 +35,11 @@ limits =
       each = each_object most_made;
     }
 
-comes_looked : Comes roomy roomy_looked
+comes_looked : IsReachable roomy roomy_looked
 unfolding steps_due is_idle steps_of
 comes_looked = moves (opening roomy.shape roomy.start roomy.biasing) 0 (load resuming Safepoint) opens (omega arith) refl
 
-comes_running : Comes roomy roomy_running
+comes_running : IsReachable roomy roomy_running
 unfolding steps_due is_idle steps_of read_safe
 comes_running = moves roomy_looked 0 (resume_plan resuming 0 0) comes_looked (omega arith) refl
 

@@ -1,14 +1,14 @@
 -- A thread that is left alone makes the steps of its call up to its end.
 use Rattle.std.proofs.Common.{◌≡◌, ℕ, zero, suc, ◌+◌, ◌<◌, ◌≤◌, ◌&&◌, cond, Bool, true, false, List, [], ◌∷◌, length, refl, ap, ◌∙◌, subst, arith}
-use Rattle.core_world.specs.declared.name.Name.{Name}
+use Rattle.core_world.specs.declared.word_id.WordId.{WordId}
 use Rattle.core_world.specs.declared.plan.StepPlan.{StepPlan}
-use Rattle.core_world.specs.declared.task.Task.{Task}
+use Rattle.core_world.specs.declared.heap_call.HeapCall.{HeapCall}
 use Rattle.core_world.specs.Due.{IsNext, steps_due}
 use Rattle.core_world.specs.Steps.{is_idle, rest_of_call, world_after, known_after}
 use Rattle.core_world.specs.Threads.AtRest.{AtRest}
-use Rattle.core_world.specs.Threads.Known.{StepMade, start_of}
+use Rattle.core_world.specs.Threads.ThreadView.{StepMade, start_of}
 use Rattle.core_world.specs.Threads.Stages.{is_calm}
-use Rattle.core_world.specs.Trees.Todo.{Todo, done, never, step, ◌>>=◌, head, after_answer, is_over}
+use Rattle.core_world.specs.Trees.StepTree.{StepTree, done, unreachable, step, ◌>>=◌, head, after_answer, is_over}
 use Rattle.core_world.specs.Trees.Calls.{steps_of, may_begin, end}
 use Rattle.core_world.specs.Words.Acts.{word_after}
 use Rattle.core_world.specs.Words.Names.{with_word}
@@ -23,7 +23,7 @@ use Rattle.core_calls.proofs.Runs.{on_path}
 use Rattle.core_calls.specs.Bounds.{IsWithin, most_steps}
 use Rattle.core_calls.specs.Paths.{made, IsPath}
 use Rattle.core_law.specs.Logic.{Heap, heap_of}
-use Rattle.core_law.specs.Reached.{Comes, moves, comes}
+use Rattle.core_law.specs.Reached.{IsReachable, moves, is_reachable}
 use Rattle.core_law.specs.Sound.{Sound, Finishes}
 use Rattle.core_law.proofs.Lawful.{sound_comes, sound_rests}
 use Rattle.core_law.proofs.NextSteps.{stands_here}
@@ -34,7 +34,7 @@ use Rattle.solo_progress.specs.Moves.{Moves, stays, goes, GetsThrough}
 
 -- the words after such a run are those that its steps left, and each step found what those before it left
 pub record FoundSo (w : World) (ms : List StepMade) (v : World) : Type 0 where
-  pub words : (n : Name) → v.words n ≡ words_left w.words ms n
+  pub words : (n : WordId) → v.words n ≡ words_left w.words ms n
   pub found : FoundAlone w.words ms
 
 pub moves_found : (w : World) (t : ℕ) (ms : List StepMade) (v : World) → Moves w t ms v → FoundSo w ms v
@@ -47,10 +47,10 @@ moves_found w t ms v (goes ns x p before next) =
     }
 
 -- a path, and how long it is at most
-path_short : {A B : Type 0} (n : ℕ) (d : Todo A) (k : A → Todo B) (sofar ms : List StepMade) (a : A) → IsWithin n (d >>= k)
+path_short : {A B : Type 0} (n : ℕ) (d : StepTree A) (k : A → StepTree B) (sofar ms : List StepMade) (a : A) → IsWithin n (d >>= k)
     → IsPath d sofar ms a → length ms ≤ n + length sofar
 path_short n (done b) k sofar ms a h path = let same = ap length path.0 in omega (arith, same)
-path_short n never k sofar ms a h path = absurd path
+path_short n unreachable k sofar ms a h path = absurd path
 path_short zero (step p f) k sofar ms a h path = absurd h
 path_short (suc n) (step p f) k sofar ms a h path =
     let more = path_short n (f path.0) k (made p path.0 ∷ sofar) ms a (h path.0) path.1 in
@@ -58,21 +58,21 @@ path_short (suc n) (step p f) k sofar ms a h path =
 
 module _ (t : ℕ) where
   -- a call that goes on
-  going : (v : World) (p : StepPlan) (f : ℕ → Todo (Unit {0})) → rest_of_call v.shape (v.known t) ≡ step p f
+  going : (v : World) (p : StepPlan) (f : ℕ → StepTree (Unit {0})) → rest_of_call v.shape (v.known t) ≡ step p f
       → is_idle v.shape (v.known t) ≡ false
   unfolding is_idle
   going v p f left = ap is_over left
 
-  next_in : (v : World) (p : StepPlan) (f : ℕ → Todo (Unit {0})) → rest_of_call v.shape (v.known t) ≡ step p f
+  next_in : (v : World) (p : StepPlan) (f : ℕ → StepTree (Unit {0})) → rest_of_call v.shape (v.known t) ≡ step p f
       → IsNext v.shape v.start v.biasing (v.known t) p
   unfolding steps_due
   next_in v p f left =
       ap (λ (b : Bool). head (cond b
       (cond (is_calm (v.known t).stage && may_begin v.shape v.biasing (v.known t) p.task)
-      (steps_of v.shape p.task (start_of v.start (v.known t))) never) (rest_of_call v.shape (v.known t)))) (going v p f left)
+      (steps_of v.shape p.task (start_of v.start (v.known t))) unreachable) (rest_of_call v.shape (v.known t)))) (going v p f left)
       ∙ ap head left
 
-  left_in : (v : World) (p : StepPlan) (f : ℕ → Todo (Unit {0})) → rest_of_call v.shape (v.known t) ≡ step p f
+  left_in : (v : World) (p : StepPlan) (f : ℕ → StepTree (Unit {0})) → rest_of_call v.shape (v.known t) ≡ step p f
       → rest_of_call v.shape ((world_after p t v).known t) ≡ f (v.words p.at)
   left_in v p f left =
       ap (rest_of_call v.shape) (with_known_here t (known_after v.shape v.start p (v.words p.at) (v.known t)) v.known)
@@ -80,7 +80,7 @@ module _ (t : ℕ) where
       ∙ ap (λ z. after_answer z (v.words p.at)) left
 
 -- A CALL BEGINS at rest in a valid world
-module _ (heap : Heap) (limits : IsInLimits heap.shape) (w : World) (t : ℕ) (task : Task) (c : Comes heap w) (within : t < w.shape.threads)
+module _ (heap : Heap) (limits : IsInLimits heap.shape) (w : World) (t : ℕ) (task : HeapCall) (c : IsReachable heap w) (within : t < w.shape.threads)
     (idle : is_idle w.shape (w.known t) ≡ true) (may : may_begin w.shape w.biasing (w.known t) task ≡ true) where
   sound : Sound w
   sound = reached_worlds_sound heap w limits c
@@ -89,14 +89,14 @@ module _ (heap : Heap) (limits : IsInLimits heap.shape) (w : World) (t : ℕ) (t
   rest = sound_rests w t sound within idle
 
   -- and so it begins well: its tree isn't one to which no world comes
-  first_comes : comes (steps_of w.shape task (start_of w.start (w.known t))) ≡ true
+  first_comes : is_reachable (steps_of w.shape task (start_of w.start (w.known t))) ≡ true
   first_comes =
       by_tree (steps_of w.shape task (start_of w.start (w.known t)))
       ((calls_begin (heap_of w) task).does (w.known t) (stands_here w t within sound.valid) rest may)
     where
-      by_tree : (d : Todo (Unit {0})) → Finishes (heap_of w) true d (w.known t) → comes d ≡ true
+      by_tree : (d : StepTree (Unit {0})) → Finishes (heap_of w) true d (w.known t) → is_reachable d ≡ true
       by_tree (done a) f = refl
-      by_tree never f = absurd f.by
+      by_tree unreachable f = absurd f.by
       by_tree (step p g) f = refl
 
   due : (is_calm (w.known t).stage && may_begin w.shape w.biasing (w.known t) task) ≡ true
@@ -104,16 +104,16 @@ module _ (heap : Heap) (limits : IsInLimits heap.shape) (w : World) (t : ℕ) (t
 
 module _ (heap : Heap) (limits : IsInLimits heap.shape) (w : World) (t : ℕ) {A : Type 0} where
   -- a run along a path, up to the end of its call
-  pub record Ends (d : Todo A) (sofar : List StepMade) : Type 0 where
+  pub record Ends (d : StepTree A) (sofar : List StepMade) : Type 0 where
     pub steps : List StepMade
     pub last : World
     pub answer : A
     pub moved : Moves w t steps last
     pub path : IsPath d sofar steps answer
-    pub reached : Comes heap last
+    pub reached : IsReachable heap last
     pub over : is_idle last.shape (last.known t) ≡ true
 
-  walk : (d : Todo A) (v : World) (sofar : List StepMade) → Moves w t sofar v → Comes heap v → t < v.shape.threads
+  walk : (d : StepTree A) (v : World) (sofar : List StepMade) → Moves w t sofar v → IsReachable heap v → t < v.shape.threads
       → rest_of_call v.shape (v.known t) ≡ (d >>= end) → Ends d sofar
   unfolding is_idle
   walk (done a) v sofar m c within left = record {
@@ -125,9 +125,9 @@ module _ (heap : Heap) (limits : IsInLimits heap.shape) (w : World) (t : ℕ) {A
     reached = c;
     over = ap is_over left;
   }
-  walk never v sofar m c within left =
+  walk unreachable v sofar m c within left =
       let some = sound_comes v t (reached_worlds_sound heap v limits c) within in
-      let none = ap comes left in
+      let none = ap is_reachable left in
       absurd (cc (some, none))
   walk (step p f) v sofar m c within left =
       let next = next_in t v p (λ n. f n >>= end) left in
@@ -146,9 +146,9 @@ module _ (heap : Heap) (limits : IsInLimits heap.shape) (w : World) (t : ℕ) {A
       }
 
   -- a call that begins
-  module _ (task : Task) (c : Comes heap w) (within : t < w.shape.threads) (idle : is_idle w.shape (w.known t) ≡ true)
+  module _ (task : HeapCall) (c : IsReachable heap w) (within : t < w.shape.threads) (idle : is_idle w.shape (w.known t) ≡ true)
       (may : may_begin w.shape w.biasing (w.known t) task ≡ true) where
-    begins : (d : Todo A) → steps_of w.shape task (start_of w.start (w.known t)) ≡ (d >>= end) → Ends d []
+    begins : (d : StepTree A) → steps_of w.shape task (start_of w.start (w.known t)) ≡ (d >>= end) → Ends d []
     unfolding steps_due
     begins (done a) is = record {
       steps = [];
@@ -159,8 +159,8 @@ module _ (heap : Heap) (limits : IsInLimits heap.shape) (w : World) (t : ℕ) {A
       reached = c;
       over = idle;
     }
-    begins never is =
-        let none = ap comes is in
+    begins unreachable is =
+        let none = ap is_reachable is in
         let some = first_comes heap limits w t task c within idle may in
         absurd (cc (some, none))
     begins (step p f) is =
@@ -169,17 +169,17 @@ module _ (heap : Heap) (limits : IsInLimits heap.shape) (w : World) (t : ℕ) {A
         let next : IsNext w.shape w.start w.biasing (w.known t) p =
         ap (λ (z : Bool). head (cond z
         (cond (is_calm (w.known t).stage && may_begin w.shape w.biasing (w.known t) p.task)
-        (steps_of w.shape p.task (start_of w.start (w.known t))) never) (rest_of_call w.shape (w.known t)))) idle
-        ∙ ap (λ (x : Task). head (cond (is_calm (w.known t).stage && may_begin w.shape w.biasing (w.known t) x)
-        (steps_of w.shape x (start_of w.start (w.known t))) never)) first
-        ∙ ap (λ (z : Bool). head (cond z (steps_of w.shape task (start_of w.start (w.known t))) never))
+        (steps_of w.shape p.task (start_of w.start (w.known t))) unreachable) (rest_of_call w.shape (w.known t)))) idle
+        ∙ ap (λ (x : HeapCall). head (cond (is_calm (w.known t).stage && may_begin w.shape w.biasing (w.known t) x)
+        (steps_of w.shape x (start_of w.start (w.known t))) unreachable)) first
+        ∙ ap (λ (z : Bool). head (cond z (steps_of w.shape task (start_of w.start (w.known t))) unreachable))
         (due heap limits w t task c within idle may)
         ∙ ap head is in
         let n = w.words p.at in
         let left : rest_of_call w.shape ((world_after p t w).known t) ≡ (f n >>= end) =
         ap (rest_of_call w.shape) (with_known_here t (known_after w.shape w.start p n (w.known t)) w.known)
         ∙ begun_rest w.shape w.start (w.known t) p n idle
-        ∙ ap (λ (x : Task). after_answer (steps_of w.shape x (start_of w.start (w.known t))) n) first
+        ∙ ap (λ (x : HeapCall). after_answer (steps_of w.shape x (start_of w.start (w.known t))) n) first
         ∙ ap (λ z. after_answer z n) is in
         let r = walk (f n) (world_after p t w) (made p n ∷ []) (goes [] w p stays next) (moves w t p c within next) within left in
         record {
@@ -193,7 +193,7 @@ module _ (heap : Heap) (limits : IsInLimits heap.shape) (w : World) (t : ℕ) {A
         }
 
     -- SO WHAT IS SAID OF A CALL THAT IS LEFT ALONE comes about
-    pub gets_through : (d : Todo A) (P : A → Type 0) → steps_of w.shape task (start_of w.start (w.known t)) ≡ (d >>= end)
+    pub gets_through : (d : StepTree A) (P : A → Type 0) → steps_of w.shape task (start_of w.start (w.known t)) ≡ (d >>= end)
         → AnswersAlone w.words d P → GetsThrough heap w t task d P
     gets_through d P is says =
         let r = begins d is in

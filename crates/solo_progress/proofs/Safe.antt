@@ -4,38 +4,40 @@ use Rattle.std.proofs.lemmas.Nat.{pow_below}
 use Rattle.mark_word.specs.declared.safe.SafeForm.{SafeForm}
 use Rattle.mark_word.specs.Safe.{safe_of, read_safe}
 use Rattle.mark_word.proofs.ReadingSafepoints.{read_safe-safe_of}
-use Rattle.core_world.specs.declared.name.Name.{Name}
-use Rattle.core_world.specs.declared.name.Name.TheVariants.{Safepoint}
+use Rattle.core_world.specs.declared.word_id.WordId.{WordId}
+use Rattle.core_world.specs.declared.word_id.WordId.TheVariants.{Safepoint}
 use Rattle.core_world.specs.declared.stage.Stage.{Stage}
-use Rattle.core_world.specs.declared.answer.Turn.{Turn}
-use Rattle.core_world.specs.declared.answer.Turn.TheVariants.{Done, Pending}
+use Rattle.core_world.specs.declared.answer.Progress.{Progress}
+use Rattle.core_world.specs.declared.answer.Progress.TheVariants.{Done, Pending}
 use Rattle.core_world.specs.Threads.Stages.{Revocation}
 use Rattle.core_world.specs.Words.Forms.{requester_in, requester_form, still_form, is_still}
 use Rattle.core_world.specs.Words.Shape.{Shape}
 use Rattle.core_world.specs.Trees.BiasSteps.{stage_after}
 use Rattle.core_world.specs.Trees.DeflateSteps.{deflate_steps}
 use Rattle.core_world.specs.Trees.Operations.{and_then, revocation_steps}
-use Rattle.core_world.specs.Trees.Plans.{Purpose}
+use Rattle.core_world.specs.Trees.Plans.{CallContext}
 use Rattle.core_world.specs.Trees.RevocationSteps.{RevocationOutcome, revoke_at_safepoint_steps}
-use Rattle.core_world.specs.Trees.SafepointSteps.{has_requester, requested_by, reached_word, released_word, request_steps, reached_steps, then_reached, safepoint_steps, release_to}
-use Rattle.core_world.specs.Trees.Todo.{Todo, ◌>>=◌}
+use Rattle.core_world.specs.Trees.SafepointSteps.{has_requester, requested_by, reached_word, released_word, request_steps}
+use Rattle.core_world.specs.Trees.SafepointSteps.{reached_steps, then_reached, safepoint_steps, release_to}
+use Rattle.core_world.specs.Trees.StepTree.{StepTree, ◌>>=◌}
 use Rattle.solo_progress.specs.Alone.{word_of_one}
 use Rattle.solo_progress.specs.Answers.{IsDone}
 use Rattle.solo_progress.proofs.OneRun.{Alone, QuietAt, alone_then, alone_so, alone_either, DoneWith}
 use Rattle.solo_progress.proofs.Spares.{PlainAt, plain_quiet, revocation_plain, deflation_plain}
 
 -- A TURN that is done goes on.
-pub alone_turn : {A B : Type 0} (Q : (Name → ℕ) → A → Type 0) (P : (Name → ℕ) → Turn B → Type 0) (d : Todo (Turn A)) (k : A → Todo (Turn B)) (f : Name → ℕ)
-    → Alone (λ g turn. DoneWith (Q g) turn) f d → ((g : Name → ℕ) (a : A) → Q g a → Alone P g (k a))
-    → Alone P f (d >>= λ turn. and_then turn k)
-alone_turn {A} Q P d k f h more = alone_then (λ g turn. DoneWith (Q g) turn) P d (λ turn. and_then turn k) f h by_turn
+pub alone_progress : {A B : Type 0} (Q : (WordId → ℕ) → A → Type 0) (P : (WordId → ℕ) → Progress B → Type 0)
+    (d : StepTree (Progress A)) (k : A → StepTree (Progress B)) (f : WordId → ℕ)
+    → Alone (λ g progress. DoneWith (Q g) progress) f d → ((g : WordId → ℕ) (a : A) → Q g a → Alone P g (k a))
+    → Alone P f (d >>= λ progress. and_then progress k)
+alone_progress {A} Q P d k f h more = alone_then (λ g progress. DoneWith (Q g) progress) P d (λ progress. and_then progress k) f h by_progress
   where
-    by_turn : (g : Name → ℕ) (turn : Turn A) → DoneWith (Q g) turn → Alone P g (and_then turn k)
-    by_turn g (Done a) h = more g a h
-    by_turn g (Pending why) h = absurd h
+    by_progress : (g : WordId → ℕ) (progress : Progress A) → DoneWith (Q g) progress → Alone P g (and_then progress k)
+    by_progress g (Done a) h = more g a h
+    by_progress g (Pending why) h = absurd h
 
-abbrev pub IsQuietTurn : {A : Type 0} → ℕ → ℕ → (Name → ℕ) → Turn A → Type 0
-IsQuietTurn o safe g turn = DoneWith (λ a. QuietAt o safe g) turn
+abbrev pub IsQuietProgress : {A : Type 0} → ℕ → ℕ → (WordId → ℕ) → Progress A → Type 0
+IsQuietProgress o safe g progress = DoneWith (λ a. QuietAt o safe g) progress
 
 module _ (t : ℕ) (low : t < 32) where
   abbrev released : SafeForm
@@ -66,19 +68,19 @@ module _ (t : ℕ) (low : t < 32) where
 
 -- a call on o at a safepoint
 module _ (t o : ℕ) (low : t < 32) where
-  reached_alone : (e : Purpose) (f : Name → ℕ) → QuietAt o (reached_word t) f
-      → Alone (IsQuietTurn {A = Unit {0}} o (reached_word t)) f (reached_steps e)
+  reached_alone : (e : CallContext) (f : WordId → ℕ) → QuietAt o (reached_word t) f
+      → Alone (IsQuietProgress {A = Unit {0}} o (reached_word t)) f (reached_steps e)
   reached_alone e f q =
-      alone_either (IsQuietTurn {A = Unit {0}} o (reached_word t)) _ (is_still (f Safepoint)) _ _
+      alone_either (IsQuietProgress {A = Unit {0}} o (reached_word t)) _ (is_still (f Safepoint)) _ _
       (λ _. record { mark = q.mark; safepoint = q.safepoint })
       (λ no_still. let yes_still = ap is_still q.safepoint ∙ still t low in absurd (cc (no_still, yes_still)))
 
-  request_alone : (e : Purpose) (f : Name → ℕ) → QuietAt o (released_word t) f
-      → Alone (IsQuietTurn {A = Unit {0}} o (reached_word t)) f (request_steps e t)
+  request_alone : (e : CallContext) (f : WordId → ℕ) → QuietAt o (released_word t) f
+      → Alone (IsQuietProgress {A = Unit {0}} o (reached_word t)) f (request_steps e t)
   request_alone e f q =
-      alone_either (IsQuietTurn {A = Unit {0}} o (reached_word t)) _ (has_requester (f Safepoint)) _ _
+      alone_either (IsQuietProgress {A = Unit {0}} o (reached_word t)) _ (has_requester (f Safepoint)) _ _
       (λ asked. let none = ap has_requester q.safepoint ∙ unasked t low in absurd (cc (asked, none)))
-      (λ _. alone_either (IsQuietTurn {A = Unit {0}} o (reached_word t)) _ (f Safepoint == f Safepoint) _ _
+      (λ _. alone_either (IsQuietProgress {A = Unit {0}} o (reached_word t)) _ (f Safepoint == f Safepoint) _ _
       (λ hit. record {
         mark = q.mark;
         safepoint = ap (λ (b : Bool). cond b (requested_by (read_safe (f Safepoint)) t) (f Safepoint)) hit
@@ -87,33 +89,33 @@ module _ (t o : ℕ) (low : t < 32) where
       (λ miss. let same = eq-eqb (f Safepoint) (f Safepoint) refl in absurd (cc (miss, same))))
 
   -- each of the two by itself
-  is_done : {A : Type 0} (safe : ℕ) (g : Name → ℕ) (turn : Turn A) → IsQuietTurn o safe g turn → IsDone turn
+  is_done : {A : Type 0} (safe : ℕ) (g : WordId → ℕ) (progress : Progress A) → IsQuietProgress o safe g progress → IsDone progress
   is_done safe g (Done a) h = tt
   is_done safe g (Pending why) h = absurd h
 
-  pub requests_done : (e : Purpose) (f : Name → ℕ) → QuietAt o (released_word t) f → Alone (λ g turn. IsDone turn) f (request_steps e t)
+  pub requests_done : (e : CallContext) (f : WordId → ℕ) → QuietAt o (released_word t) f → Alone (λ g progress. IsDone progress) f (request_steps e t)
   requests_done e f q =
-      alone_so (IsQuietTurn {A = Unit {0}} o (reached_word t)) (λ g turn. IsDone turn) (request_steps e t) f (request_alone e f q)
-      (λ g turn h. is_done (reached_word t) g turn h)
+      alone_so (IsQuietProgress {A = Unit {0}} o (reached_word t)) (λ g progress. IsDone progress) (request_steps e t) f (request_alone e f q)
+      (λ g progress h. is_done (reached_word t) g progress h)
 
-  pub reaches_done : (e : Purpose) (f : Name → ℕ) → QuietAt o (reached_word t) f → Alone (λ g turn. IsDone turn) f (reached_steps e)
+  pub reaches_done : (e : CallContext) (f : WordId → ℕ) → QuietAt o (reached_word t) f → Alone (λ g progress. IsDone progress) f (reached_steps e)
   reaches_done e f q =
-      alone_so (IsQuietTurn {A = Unit {0}} o (reached_word t)) (λ g turn. IsDone turn) (reached_steps e) f (reached_alone e f q)
-      (λ g turn h. is_done (reached_word t) g turn h)
+      alone_so (IsQuietProgress {A = Unit {0}} o (reached_word t)) (λ g progress. IsDone progress) (reached_steps e) f (reached_alone e f q)
+      (λ g progress h. is_done (reached_word t) g progress h)
 
-  pub safepoint_alone : (e : Purpose) (requesting : Bool) (f : Name → ℕ) → QuietAt o (word_of_one requesting t) f
-      → Alone (IsQuietTurn {A = Unit {0}} o (reached_word t)) f (safepoint_steps e t requesting)
+  pub safepoint_alone : (e : CallContext) (requesting : Bool) (f : WordId → ℕ) → QuietAt o (word_of_one requesting t) f
+      → Alone (IsQuietProgress {A = Unit {0}} o (reached_word t)) f (safepoint_steps e t requesting)
   safepoint_alone e true f q = reached_alone e f q
   safepoint_alone e false f q =
-      alone_then (IsQuietTurn {A = Unit {0}} o (reached_word t)) (IsQuietTurn {A = Unit {0}} o (reached_word t)) (request_steps e t)
-      (then_reached e) f (request_alone e f q) by_turn
+      alone_then (IsQuietProgress {A = Unit {0}} o (reached_word t)) (IsQuietProgress {A = Unit {0}} o (reached_word t)) (request_steps e t)
+      (then_reached e) f (request_alone e f q) by_progress
     where
-      by_turn : (g : Name → ℕ) (turn : Turn (Unit {0})) → IsQuietTurn o (reached_word t) g turn
-          → Alone (IsQuietTurn {A = Unit {0}} o (reached_word t)) g (then_reached e turn)
-      by_turn g (Done x) q = reached_alone e g q
-      by_turn g (Pending why) q = absurd q
+      by_progress : (g : WordId → ℕ) (progress : Progress (Unit {0})) → IsQuietProgress o (reached_word t) g progress
+          → Alone (IsQuietProgress {A = Unit {0}} o (reached_word t)) g (then_reached e progress)
+      by_progress g (Done x) q = reached_alone e g q
+      by_progress g (Pending why) q = absurd q
 
-  pub release_alone : (stage : Stage) (e : Purpose) (f : Name → ℕ) → QuietAt o (reached_word t) f
+  pub release_alone : (stage : Stage) (e : CallContext) (f : WordId → ℕ) → QuietAt o (reached_word t) f
       → Alone (λ g (x : Unit {0}). QuietAt o (released_word t) g) f (release_to stage e t)
   release_alone stage e f q =
       alone_either (λ g (x : Unit {0}). QuietAt o (released_word t) g) _ (f Safepoint == reached_word t) _ _
@@ -121,17 +123,17 @@ module _ (t o : ℕ) (low : t < 32) where
       (λ _. tt)
 
 -- so a revocation at a safepoint isn't pending, and idle monitors are given back there
-pub revocation_alone : (t : ℕ) → t < 32 → (s : Shape) (requesting : Bool) (e : Purpose) (b : Revocation) (f : Name → ℕ)
+pub revocation_alone : (t : ℕ) → t < 32 → (s : Shape) (requesting : Bool) (e : CallContext) (b : Revocation) (f : WordId → ℕ)
     → QuietAt b.object (word_of_one requesting t) f
-    → Alone (IsQuietTurn {A = Bool} b.object (released_word t)) f (revocation_steps s t requesting e b)
+    → Alone (IsQuietProgress {A = Bool} b.object (released_word t)) f (revocation_steps s t requesting e b)
 revocation_alone t low s requesting e b f q =
-    alone_turn (λ g (x : Unit {0}). QuietAt o (reached_word t) g) (IsQuietTurn {A = Bool} o (released_word t))
+    alone_progress (λ g (x : Unit {0}). QuietAt o (reached_word t) g) (IsQuietProgress {A = Bool} o (released_word t))
     (safepoint_steps e t requesting) _ f (safepoint_alone t o low e requesting f q)
-    (λ g x q. alone_then (λ h (x : RevocationOutcome). PlainAt o (reached_word t) h) (IsQuietTurn {A = Bool} o (released_word t))
+    (λ g x q. alone_then (λ h (x : RevocationOutcome). PlainAt o (reached_word t) h) (IsQuietProgress {A = Bool} o (released_word t))
     (revoke_at_safepoint_steps s t e b) _ g (revocation_plain s t (reached_word t) e b g q)
-    (λ h outcome q. alone_then (λ i (x : Unit {0}). PlainAt o (reached_word t) i) (IsQuietTurn {A = Bool} o (released_word t))
+    (λ h outcome q. alone_then (λ i (x : Unit {0}). PlainAt o (reached_word t) i) (IsQuietProgress {A = Bool} o (released_word t))
     (deflate_steps s e (stage_after outcome.took o)) _ h (deflation_plain s o (reached_word t) e (stage_after outcome.took o) h q)
-    (λ i x q. alone_then (λ j (x : Unit {0}). QuietAt o (released_word t) j) (IsQuietTurn {A = Bool} o (released_word t))
+    (λ i x q. alone_then (λ j (x : Unit {0}). QuietAt o (released_word t) j) (IsQuietProgress {A = Bool} o (released_word t))
     (release_to (stage_after outcome.took o) e t) _ i
     (release_alone t o low (stage_after outcome.took o) e i (plain_quiet q)) (λ j x q. q))))
   where

@@ -6,30 +6,30 @@ use Rattle.mark_word.specs.Wait.{read_wait}
 use Rattle.mark_word.specs.Hold.{read_hold}
 use Rattle.plain_monitor.specs.declared.entry.Ending.{Ending}
 use Rattle.plain_monitor.specs.declared.entry.Value.TheVariants.{Nil}
-use Rattle.core_world.specs.declared.task.Task.{Task}
-use Rattle.core_world.specs.declared.task.Task.TheVariants as task
+use Rattle.core_world.specs.declared.heap_call.HeapCall.{HeapCall}
+use Rattle.core_world.specs.declared.heap_call.HeapCall.TheVariants as task
 use Rattle.core_world.specs.Steps.{is_idle}
 use Rattle.core_world.specs.Trees.Calls.{may_begin, steps_of}
 use Rattle.core_world.specs.Words.Shape.{IsInLimits}
 use Rattle.core_world.specs.Opening.{opening, first_known}
-use Rattle.core_world.specs.Threads.Known.{Known}
+use Rattle.core_world.specs.Threads.ThreadView.{ThreadView}
 use Rattle.core_world.specs.World.{World}
-use Rattle.core_world.proofs.LookWhileRevoking.{forgotten}
-use Rattle.core_world.proofs.OwnersShown.{fits_running}
+use Rattle.core_world.proofs.bias.LookWhileRevoking.{forgotten}
+use Rattle.core_world.proofs.enter_exit.OwnersShown.{fits_running}
 use Rattle.core_law.specs.WholeLaw.{LawsHold}
 use Rattle.core_law.specs.Logic.{Heap, heap_of}
-use Rattle.core_law.specs.Reached.{Comes, opens}
+use Rattle.core_law.specs.Reached.{IsReachable, opens}
 use Rattle.core_steps.proofs.ReachedWorlds.{reached_worlds_valid}
 use Rattle.core_steps.specs.SmallWorlds.{small, running, neutral, entered}
 use Rattle.core_steps.proofs.SmallWorlds.{comes_running, comes_entered}
-use Rattle.solo_progress.specs.LeftAlone.{IsLeftAlone, IsReady, MayCall}
+use Rattle.solo_progress.specs.LeftAlone.{IsLeftAlone, MayCallAlone, MayCall}
 use Rattle.solo_progress.specs.Witnesses.{unowned, owned}
 
 limits : IsInLimits small.shape
 limits = record { threads = omega arith; classes = omega arith; declared = omega arith; objects = omega arith; each = ((omega arith, omega arith), tt) }
 
 -- the heap has no other thread
-none_else : (w : World) → heap_of w ≡ small → Comes small w → (w.known 0).running ≡ true → (u : ℕ) → u ≢ 0 → w.known u ≡ first_known u
+none_else : (w : World) → heap_of w ≡ small → IsReachable small w → (w.known 0).running ≡ true → (u : ℕ) → u ≢ 0 → w.known u ≡ first_known u
 none_else w is comes runs u d =
     let v = reached_worlds_valid small w limits comes in
     let fits = fits_running w v.objects 0 runs (forgotten LawsHold w v.objects v.is) in
@@ -41,8 +41,8 @@ running_alone = record {
   within = omega arith;
   calm = refl;
   runs = refl;
-  stopped = λ u d. ap (λ (k : Known). k.running) (none_else running refl comes_running refl u d);
-  unasked = λ u d. ap (λ (k : Known). k.requesting) (none_else running refl comes_running refl u d);
+  stopped = λ u d. ap (λ (k : ThreadView). k.running) (none_else running refl comes_running refl u d);
+  unasked = λ u d. ap (λ (k : ThreadView). k.requesting) (none_else running refl comes_running refl u d);
 }
 
 running_idle : is_idle running.shape (running.known 0) ≡ true
@@ -50,11 +50,11 @@ unfolding is_idle steps_of read_safe
 running_idle = refl
 
 -- where the others don't matter
-pub running_may : (job : Task) → may_begin running.shape running.biasing (running.known 0) job ≡ true → MayCall small running 0 job
+pub running_may : (job : HeapCall) → may_begin running.shape running.biasing (running.known 0) job ≡ true → MayCall small running 0 job
 running_may job may = record { limits = limits; reached = comes_running; within = omega arith; idle = running_idle; may = may }
 
-pub running_ready : (job : Task) → may_begin running.shape running.biasing (running.known 0) job ≡ true
-    → IsReady small running (unowned ∷ []) 0 job
+pub running_ready : (job : HeapCall) → may_begin running.shape running.biasing (running.known 0) job ≡ true
+    → MayCallAlone small running (unowned ∷ []) 0 job
 running_ready job may = record { call = running_may job may; history = refl; alone = running_alone }
 
 entered_alone : IsLeftAlone entered 0
@@ -63,16 +63,16 @@ entered_alone = record {
   within = omega arith;
   calm = refl;
   runs = refl;
-  stopped = λ u d. ap (λ (k : Known). k.running) (none_else entered refl comes_entered refl u d);
-  unasked = λ u d. ap (λ (k : Known). k.requesting) (none_else entered refl comes_entered refl u d);
+  stopped = λ u d. ap (λ (k : ThreadView). k.running) (none_else entered refl comes_entered refl u d);
+  unasked = λ u d. ap (λ (k : ThreadView). k.requesting) (none_else entered refl comes_entered refl u d);
 }
 
 entered_idle : is_idle entered.shape (entered.known 0) ≡ true
 unfolding is_idle steps_of read_safe read_mark read_hold read_wait
 entered_idle = refl
 
-pub entered_ready : (job : Task) → may_begin entered.shape entered.biasing (entered.known 0) job ≡ true
-    → IsReady small entered (owned ∷ []) 0 job
+pub entered_ready : (job : HeapCall) → may_begin entered.shape entered.biasing (entered.known 0) job ≡ true
+    → MayCallAlone small entered (owned ∷ []) 0 job
 unfolding read_safe read_mark read_hold read_wait
 entered_ready job may = record {
   call = record { limits = limits; reached = comes_entered; within = omega arith; idle = entered_idle; may = may };
@@ -91,10 +91,10 @@ pub first_may : MayCall small first 0 task.Resume
 first_may = record { limits = limits; reached = opens; within = omega arith; idle = first_idle; may = refl }
 
 -- THE CALLS' OWN CONDITIONS
-abbrev RunningMay : Task → Type 0
+abbrev RunningMay : HeapCall → Type 0
 RunningMay job = may_begin running.shape running.biasing (running.known 0) job ≡ true
 
-abbrev EnteredMay : Task → Type 0
+abbrev EnteredMay : HeapCall → Type 0
 EnteredMay job = may_begin entered.shape entered.biasing (entered.known 0) job ≡ true
 
 pub may_enter : (now : ℕ) → RunningMay (task.Enter 0 now)

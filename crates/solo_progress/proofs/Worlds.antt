@@ -1,16 +1,20 @@
 -- What a valid world's words are where all threads but one have stopped.
-use Rattle.core_locks.proofs.Prelude.{◌≡◌, ◌≢◌, ℕ, ◌+◌, ◌^◌, ◌<◌, ◌==◌, ◌||◌, ◌*◌, cond, not, Bool, true, false, List, Some, None, refl, sym, ap, ◌∙◌, arith, inl, inr, nat_tests, eq-eqb, eqb-true, by_equal, or-false, PlainObject, Safepoint, Mark, Prototype, Calm, inflation_in, revocation_in, World, Fits, class_by, who, lock_form, owner_words, owner_at, monitor_of, hold_count, SafeForm, safe_of, read_safe, read_mark, bears, bit_at-pow_same, bit_at-pow_other, bit_at-lt, pow_below, same_from_bits_below, bit_at-zero}
+use Rattle.core_locks.proofs.Prelude.{◌≡◌, ◌≢◌, ℕ, ◌+◌, ◌^◌, ◌<◌, ◌==◌, ◌||◌, ◌*◌, cond, not, Bool, true, false, List, Some, None, refl}
+use Rattle.core_locks.proofs.Prelude.{sym, ap, ◌∙◌, arith, inl, inr, nat_tests, eq-eqb, eqb-true, by_equal, or-false, PlainObject, Safepoint}
+use Rattle.core_locks.proofs.Prelude.{Mark, Prototype, Settled, inflation_in, revocation_in, World, Fits, class_by, who, lock_form}
+use Rattle.core_locks.proofs.Prelude.{owner_words, owner_at, monitor_of, hold_count, SafeForm, safe_of, read_safe, read_mark, bears}
+use Rattle.core_locks.proofs.Prelude.{bit_at-pow_same, bit_at-pow_other, bit_at-lt, pow_below, same_from_bits_below, bit_at-zero}
 use Rattle.std.specs.Int.{bit_at}
 use Rattle.core_world.specs.Locks.{holder}
 use Rattle.mark_word.proofs.ReadingSafepoints.{read_safe-spells}
-use Rattle.core_world.proofs.ObjectHolds.{same_owner}
+use Rattle.core_world.proofs.enter_exit.ObjectHolds.{same_owner}
 use Rattle.core_world.specs.RevocationRules.{holds_in}
 use Rattle.core_world.specs.Valid.{IsValid}
 use Rattle.core_world.specs.Words.Forms.{runs_form, requester_form, halted_form, is_halted}
 use Rattle.plain_monitor.specs.Monitor.{is_thread}
 use Rattle.core_bias.proofs.DisplacedTurns.{no_inflation}
 use Rattle.core_bias.proofs.Places.{holds_are}
-use Rattle.core_locks.proofs.SafeFacts.{safe_form, running_unhalted, asking_unhalted, few_bits}
+use Rattle.core_locks.proofs.safepoint.SafeFacts.{safe_form, running_unhalted, asking_unhalted, few_bits}
 use Rattle.solo_progress.specs.Alone.{Quiet, word_of_one}
 use Rattle.solo_progress.specs.Answers.{who_in}
 use Rattle.solo_progress.specs.LeftAlone.{IsLeftAlone}
@@ -27,7 +31,7 @@ alone_fits w P t a (inr s) =
     (λ d. let none = a.unasked s.requester d in absurd (cc (none, asks)))
 
 module _ (w : World) (P : List PlainObject) (t : ℕ) (a : IsLeftAlone w t) (fits : Fits w P) where
-  pub all_calm : (u : ℕ) → (w.known u).stage ≡ Calm
+  pub all_calm : (u : ℕ) → (w.known u).stage ≡ Settled
   all_calm u =
       by_equal u t (λ e. ap (λ i. (w.known i).stage) e ∙ a.calm)
       (λ d. elim (fits.quiet.quiet u (a.stopped u d)) [

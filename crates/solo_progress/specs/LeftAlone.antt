@@ -2,15 +2,15 @@
 use Rattle.std.specs.Prelude.{◌≡◌, ◌≢◌, ℕ, ◌<◌, not, false, true, List, Some}
 use Rattle.plain_monitor.specs.Objects.{PlainObject}
 use Rattle.plain_monitor.specs.History.{objects_after}
-use Rattle.core_world.specs.declared.stage.Stage.TheVariants.{Calm}
-use Rattle.core_world.specs.declared.task.Task.{Task}
+use Rattle.core_world.specs.declared.stage.Stage.TheVariants.{Settled}
+use Rattle.core_world.specs.declared.heap_call.HeapCall.{HeapCall}
 use Rattle.core_world.specs.Steps.{is_idle}
-use Rattle.core_world.specs.Threads.Known.{Start, start_of}
+use Rattle.core_world.specs.Threads.ThreadView.{Start, start_of}
 use Rattle.core_world.specs.Trees.Calls.{may_begin}
 use Rattle.core_world.specs.Words.Shape.{IsInLimits}
 use Rattle.core_world.specs.World.{World, logs}
 use Rattle.core_law.specs.Logic.{Heap}
-use Rattle.core_law.specs.Reached.{Comes}
+use Rattle.core_law.specs.Reached.{IsReachable}
 
 -- what thread t knows as its call begins
 abbrev pub start_in : World → ℕ → Start
@@ -19,7 +19,7 @@ start_in w t = start_of w.start (w.known t)
 -- Thread t is in the middle of nothing; it runs, or it has stopped and its own request for a safepoint stands.
 pub record IsLeftAlone (w : World) (t : ℕ) : Type 0 where
   pub within : t < w.shape.threads
-  pub calm : (w.known t).stage ≡ Calm
+  pub calm : (w.known t).stage ≡ Settled
   pub runs : (w.known t).running ≡ not (w.known t).requesting
   -- no other thread runs,
   pub stopped : (u : ℕ) → u ≢ t → (w.known u).running ≡ false
@@ -27,15 +27,15 @@ pub record IsLeftAlone (w : World) (t : ℕ) : Type 0 where
   pub unasked : (u : ℕ) → u ≢ t → (w.known u).requesting ≡ false
 
 -- The heap is in the limits, and came to this world, in which thread t may begin this call.
-pub record MayCall (heap : Heap) (w : World) (t : ℕ) (task : Task) : Type 0 where
+pub record MayCall (heap : Heap) (w : World) (t : ℕ) (task : HeapCall) : Type 0 where
   pub limits : IsInLimits heap.shape
-  pub reached : Comes heap w
+  pub reached : IsReachable heap w
   pub within : t < w.shape.threads
   pub idle : is_idle w.shape (w.known t) ≡ true
   pub may : may_begin w.shape w.biasing (w.known t) task ≡ true
 
 -- So it did, and thread t is left alone there. These are the plain objects after the world's logs.
-pub record IsReady (heap : Heap) (w : World) (objects : List PlainObject) (t : ℕ) (task : Task) : Type 0 where
+pub record MayCallAlone (heap : Heap) (w : World) (objects : List PlainObject) (t : ℕ) (task : HeapCall) : Type 0 where
   pub call : MayCall heap w t task
   pub history : objects_after w.shape.objects (logs w) ≡ Some objects
   pub alone : IsLeftAlone w t

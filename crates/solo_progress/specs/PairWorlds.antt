@@ -4,12 +4,12 @@ use Rattle.std.specs.Prelude.{ℕ, [], ◌∷◌, true}
 use Rattle.mark_word.specs.Mark.{mark_of}
 use Rattle.mark_word.specs.declared.mark.MarkForm.TheVariants.{Anonymous}
 use Rattle.plain_monitor.specs.declared.entry.Path.TheVariants.{BiasTaken}
-use Rattle.core_world.specs.declared.name.Name.TheVariants.{Safepoint, Mark, Prototype}
-use Rattle.core_world.specs.declared.task.Op.TheVariants as op
-use Rattle.core_world.specs.declared.task.Task.TheVariants as task
+use Rattle.core_world.specs.declared.word_id.WordId.TheVariants.{Safepoint, Mark, Prototype}
+use Rattle.core_world.specs.declared.heap_call.Operation.TheVariants as op
+use Rattle.core_world.specs.declared.heap_call.HeapCall.TheVariants as task
 use Rattle.core_world.specs.Opening.{opening}
-use Rattle.core_world.specs.Trees.Operations.{lone_purpose}
-use Rattle.core_world.specs.Trees.Plans.{Purpose, purpose, load}
+use Rattle.core_world.specs.Trees.Operations.{lone_context}
+use Rattle.core_world.specs.Trees.Plans.{CallContext, call_context, load}
 use Rattle.core_world.specs.Trees.SafepointSteps.{resume_plan, publish_log_plan, stop_plan}
 use Rattle.core_world.specs.Trees.BiasSteps.{rebias_plan}
 use Rattle.core_world.specs.Trees.LockSteps.{hold_plan, log_enter_plan}
@@ -20,14 +20,14 @@ use Rattle.core_law.specs.Logic.{Heap}
 abbrev pub pair : Heap
 pair = record { shape = record { threads = 2; classes = 1; declared = 1; objects = (0, 0) ∷ [] }; start = 0; biasing = true }
 
-abbrev pub resuming : Purpose
-resuming = lone_purpose task.Resume
+abbrev pub resuming : CallContext
+resuming = lone_context task.Resume
 
-abbrev pub entering : Purpose
-entering = purpose (task.Enter 0 0) op.Enter 0
+abbrev pub entering : CallContext
+entering = call_context (task.Enter 0 0) op.Enter 0
 
-abbrev pub stopping : Purpose
-stopping = lone_purpose task.Stop
+abbrev pub stopping : CallContext
+stopping = lone_context task.Stop
 
 abbrev pub anonymous : ℕ
 anonymous = mark_of (Anonymous 0 0)

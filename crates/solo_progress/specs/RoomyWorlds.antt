@@ -1,7 +1,7 @@
 -- A heap without biases, whose one thread may make objects: it has the numbers of as many as a thread may make, and none is declared.
 use Rattle.std.specs.Prelude.{false, replicate}
 use Rattle.plain_monitor.specs.Limits.{most_made}
-use Rattle.core_world.specs.declared.name.Name.TheVariants.{Safepoint}
+use Rattle.core_world.specs.declared.word_id.WordId.TheVariants.{Safepoint}
 use Rattle.core_world.specs.Opening.{opening}
 use Rattle.core_world.specs.Steps.{world_after}
 use Rattle.core_world.specs.Trees.Plans.{load}

@@ -2,8 +2,8 @@
 use Rattle.std.specs.Prelude.{ℕ, List, [], ◌∷◌, ◌++◌, replicate, Some}
 use Rattle.plain_monitor.specs.Monitor.{free_monitor}
 use Rattle.plain_monitor.specs.Objects.{PlainObject, new_object}
-use Rattle.core_world.specs.declared.task.Task.{Task}
-use Rattle.core_world.specs.declared.task.Task.TheVariants.{Resume, Request, Reached}
+use Rattle.core_world.specs.declared.heap_call.HeapCall.{HeapCall}
+use Rattle.core_world.specs.declared.heap_call.HeapCall.TheVariants.{Resume, Request, Reached}
 
 abbrev pub unowned : PlainObject
 unowned = new_object 0
@@ -23,5 +23,5 @@ abbrev pub waiting : PlainObject
 waiting = record (new_object 1) { monitor = record free_monitor { waits = (0, 1) ∷ [] } }
 
 -- thread t resumes, asks for a safepoint, and sees that it is reached
-abbrev pub reaches : ℕ → List (ℕ × Task)
+abbrev pub reaches : ℕ → List (ℕ × HeapCall)
 reaches t = replicate 2 (t, Resume) ++ replicate 2 (t, Request) ++ (t, Reached) ∷ []

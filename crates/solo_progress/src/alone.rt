@@ -5,13 +5,13 @@
 ghost use Rattle.std.specs.Prelude.{◌≡◌, ◌≢◌, ℕ, ◌+◌, ◌<◌, ◌==◌, ◌||◌, true, false};
 ghost use Rattle.plain_monitor.specs.ValueWords.{read_value};
 ghost use Rattle.plain_monitor.specs.declared.entry.Value.{Value};
-ghost use Rattle.core_world.specs.declared.answer.Turn.TheVariants.{Done};
-ghost use Rattle.core_world.specs.declared.name.Name.{Name};
-ghost use Rattle.core_world.specs.declared.name.Name.TheVariants.{Safepoint, Prototype, Mark, Slot, Waiting};
-ghost use Rattle.core_world.specs.Threads.Known.{Local, Start};
+ghost use Rattle.core_world.specs.declared.answer.Progress.TheVariants.{Done};
+ghost use Rattle.core_world.specs.declared.word_id.WordId.{WordId};
+ghost use Rattle.core_world.specs.declared.word_id.WordId.TheVariants.{Safepoint, Prototype, Mark, Slot, Waiting};
+ghost use Rattle.core_world.specs.Threads.ThreadView.{Local, Start};
 ghost use Rattle.core_world.specs.Trees.Operations.{exit_steps, get_steps, put_steps, enter_steps, hash_steps, value_found};
 ghost use Rattle.core_world.specs.Trees.Operations.{notify_steps, notify_all_steps, wait_steps, dump_steps, create_steps, check_steps};
-ghost use Rattle.core_world.specs.Trees.Plans.{Purpose};
+ghost use Rattle.core_world.specs.Trees.Plans.{CallContext};
 ghost use Rattle.core_world.specs.Trees.SafepointSteps.{poll_steps, resume_steps, has_requester, released_word};
 ghost use Rattle.core_world.specs.Words.Forms.{waits_on, is_halted};
 ghost use Rattle.core_world.specs.Words.Shape.{Shape};
@@ -28,15 +28,15 @@ ghost use Rattle.solo_progress.specs.StandsStill.{stands_still};
 /// thread alone), and let the thread ask for nothing. Then an enter is pending exactly where by the words another thread has the lock,
 /// and for that, unless the mark is validly biased to another thread: such a bias ends at a safepoint alone.
 pub fn calls_without_a_safepoint_get_through()
-    ensures exit { (k : Start) (o : ℕ) (f : Name → ℕ) → f (Mark o) ≢ 0
+    ensures exit { (k : Start) (o : ℕ) (f : WordId → ℕ) → f (Mark o) ≢ 0
         → AnswersAlone f (exit_steps k o) (RefusedWhere (has_none k o) IsDone) }
-    ensures get { (k : Start) (o slot : ℕ) (f : Name → ℕ)
+    ensures get { (k : Start) (o slot : ℕ) (f : WordId → ℕ)
         → AnswersAlone f (get_steps k o slot) (λ a. a ≡ guarded k o (value_found (read_value (f (Slot o slot))))) }
-    ensures put { (k : Start) (o slot : ℕ) (value : Value) (f : Name → ℕ)
+    ensures put { (k : Start) (o slot : ℕ) (value : Value) (f : WordId → ℕ)
         → AnswersAlone f (put_steps k o slot value) (λ a. a ≡ guarded k o tt) }
-    ensures create { (s : Shape) (k : Start) (c : ℕ) (f : Name → ℕ)
+    ensures create { (s : Shape) (k : Start) (c : ℕ) (f : WordId → ℕ)
         → AnswersAlone f (create_steps s k c) (λ a. a ≡ created s k) }
-    ensures enter { (s : Shape) (k : Start) (o now : ℕ) (f : Name → ℕ) → k.local.thread < 32
+    ensures enter { (s : Shape) (k : Start) (o now : ℕ) (f : WordId → ℕ) → k.local.thread < 32
         → k.requesting ≡ false → Quiet (released_word k.local.thread) f
         → is_others_bias s f o k.local.thread ≡ false
         → AnswersAlone f (enter_steps s k o now)
@@ -47,16 +47,16 @@ pub fn calls_without_a_safepoint_get_through()
 /// prototype of the object's class not be 0. Then, whether a bias has to be revoked or not: a hash is done; without a hold a notify and a
 /// notifyall are refused, and else they are done; and an enter that isn't refused is done, or pending for an owner.
 pub fn calls_that_revoke_get_through()
-    ensures enter { (s : Shape) (k : Start) (o now : ℕ) (f : Name → ℕ) → k.local.thread < 32
+    ensures enter { (s : Shape) (k : Start) (o now : ℕ) (f : WordId → ℕ) → k.local.thread < 32
         → Quiet (word_of_one k.requesting k.local.thread) f
         → AnswersAlone f (enter_steps s k o now) (RefusedWhere (is_full k o) PendsForOwner) }
-    ensures hash { (s : Shape) (k : Start) (o now : ℕ) (f : Name → ℕ) → k.local.thread < 32
+    ensures hash { (s : Shape) (k : Start) (o now : ℕ) (f : WordId → ℕ) → k.local.thread < 32
         → f (Prototype (class_by s f o)) ≢ 0 → Quiet (word_of_one k.requesting k.local.thread) f
         → AnswersAlone f (hash_steps s k o now) IsDone }
-    ensures notify { (s : Shape) (k : Start) (o now : ℕ) (f : Name → ℕ) → k.local.thread < 32
+    ensures notify { (s : Shape) (k : Start) (o now : ℕ) (f : WordId → ℕ) → k.local.thread < 32
         → f (Prototype (class_by s f o)) ≢ 0 → Quiet (word_of_one k.requesting k.local.thread) f
         → AnswersAlone f (notify_steps s k o now) (RefusedWhere (has_none k o) IsDone) }
-    ensures notify_all { (s : Shape) (k : Start) (o now : ℕ) (f : Name → ℕ) → k.local.thread < 32
+    ensures notify_all { (s : Shape) (k : Start) (o now : ℕ) (f : WordId → ℕ) → k.local.thread < 32
         → f (Prototype (class_by s f o)) ≢ 0 → Quiet (word_of_one k.requesting k.local.thread) f
         → AnswersAlone f (notify_all_steps s k o now) (RefusedWhere (has_none k o) IsDone) }
 {}
@@ -65,11 +65,11 @@ pub fn calls_that_revoke_get_through()
 /// prototype of the object's class isn't 0. One that goes on is done exactly where its waiting word says Notified and
 /// no other thread has the lock by the words; else it is pending for the one of the two that it lacks.
 pub fn waits_end_where_told()
-    ensures begins { (s : Shape) (k : Start) (o now : ℕ) (f : Name → ℕ) → k.local.thread < 32
+    ensures begins { (s : Shape) (k : Start) (o now : ℕ) (f : WordId → ℕ) → k.local.thread < 32
         → f (Prototype (class_by s f o)) ≢ 0 → Quiet (word_of_one k.requesting k.local.thread) f
         → waits_on k.local.wait o ≡ false
         → AnswersAlone f (wait_steps s k o now) (RefusedWhere (has_none k o) LetsGo) }
-    ensures goes_on { (s : Shape) (k : Start) (o now : ℕ) (f : Name → ℕ) → k.local.thread < 32
+    ensures goes_on { (s : Shape) (k : Start) (o now : ℕ) (f : WordId → ℕ) → k.local.thread < 32
         → waits_on k.local.wait o ≡ true
         → AnswersAlone f (wait_steps s k o now)
         (RefusedWhere (has_none k o)
@@ -80,15 +80,15 @@ pub fn waits_end_where_told()
 /// exactly where the run stands still by the words: some thread is live, and none can go on.
 /// A poll is pending exactly where the safepoint word has a requester, and a resume where it has one or the halt.
 pub fn calls_at_the_safepoint_word_get_through()
-    ensures dump { (s : Shape) (k : Start) (f : Name → ℕ) → k.local.thread < 32
+    ensures dump { (s : Shape) (k : Start) (f : WordId → ℕ) → k.local.thread < 32
         → Quiet (word_of_one k.requesting k.local.thread) f
-        → AnswersAlone f (dump_steps s k) (RefusedWhere (k.shots == 4) (λ turn. turn ≡ Done (k.shots + 1))) }
-    ensures check { (s : Shape) (k : Start) (f : Name → ℕ) → k.local.thread < 32
+        → AnswersAlone f (dump_steps s k) (RefusedWhere (k.shots == 4) (λ progress. progress ≡ Done (k.shots + 1))) }
+    ensures check { (s : Shape) (k : Start) (f : WordId → ℕ) → k.local.thread < 32
         → Quiet (word_of_one k.requesting k.local.thread) f
-        → AnswersAlone f (check_steps s k) (λ turn. turn ≡ Done (stands_still s f)) }
-    ensures poll { (e : Purpose) (f : Name → ℕ)
-        → AnswersAlone f (poll_steps e) (λ turn. is_pending turn ≡ has_requester (f Safepoint)) }
-    ensures resume { (e : Purpose) (k : Local) (f : Name → ℕ)
+        → AnswersAlone f (check_steps s k) (λ progress. progress ≡ Done (stands_still s f)) }
+    ensures poll { (e : CallContext) (f : WordId → ℕ)
+        → AnswersAlone f (poll_steps e) (λ progress. is_pending progress ≡ has_requester (f Safepoint)) }
+    ensures resume { (e : CallContext) (k : Local) (f : WordId → ℕ)
         → AnswersAlone f (resume_steps e k)
-        (λ turn. is_pending turn ≡ (is_halted (f Safepoint) || has_requester (f Safepoint))) }
+        (λ progress. is_pending progress ≡ (is_halted (f Safepoint) || has_requester (f Safepoint))) }
 {}

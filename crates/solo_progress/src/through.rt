@@ -7,19 +7,19 @@ ghost use Rattle.plain_monitor.specs.ValueWords.{read_value};
 ghost use Rattle.plain_monitor.specs.declared.entry.Value.{Value};
 ghost use Rattle.plain_monitor.specs.declared.entry.Ending.{Ending};
 ghost use Rattle.plain_monitor.specs.Monitor.{is_listed};
-ghost use Rattle.core_world.specs.declared.answer.Turn.TheVariants.{Done};
-ghost use Rattle.core_world.specs.declared.name.Name.{Name};
-ghost use Rattle.core_world.specs.declared.name.Name.TheVariants.{Safepoint, Mark, Prototype, Slot, Waiting};
-ghost use Rattle.core_world.specs.declared.task.Op.TheVariants as op;
-ghost use Rattle.core_world.specs.declared.task.Task.TheVariants as task;
+ghost use Rattle.core_world.specs.declared.answer.Progress.TheVariants.{Done};
+ghost use Rattle.core_world.specs.declared.word_id.WordId.{WordId};
+ghost use Rattle.core_world.specs.declared.word_id.WordId.TheVariants.{Safepoint, Mark, Prototype, Slot, Waiting};
+ghost use Rattle.core_world.specs.declared.heap_call.Operation.TheVariants as op;
+ghost use Rattle.core_world.specs.declared.heap_call.HeapCall.TheVariants as task;
 ghost use Rattle.core_world.specs.Locks.{monitor_of, notified_at};
-ghost use Rattle.core_world.specs.Threads.Known.{StepMade, local_of};
-ghost use Rattle.core_world.specs.Trees.Calls.{side_purpose};
+ghost use Rattle.core_world.specs.Threads.ThreadView.{StepMade, local_of};
+ghost use Rattle.core_world.specs.Trees.Calls.{side_context};
 ghost use Rattle.core_world.specs.Trees.Operations.{exit_steps, get_steps, put_steps, enter_steps, hash_steps, value_found};
 ghost use Rattle.core_world.specs.Trees.Operations.{notify_steps, notify_all_steps, wait_steps, dump_steps, check_steps};
 ghost use Rattle.core_world.specs.Trees.LockSteps.{stack_enter_steps, stack_exit_steps};
-ghost use Rattle.core_world.specs.Trees.Operations.{print_steps, create_steps, finish_steps, lone_purpose};
-ghost use Rattle.core_world.specs.Trees.Plans.{purpose};
+ghost use Rattle.core_world.specs.Trees.Operations.{print_steps, create_steps, finish_steps, lone_context};
+ghost use Rattle.core_world.specs.Trees.Plans.{call_context};
 ghost use Rattle.core_world.specs.Trees.SafepointSteps.{request_steps, reached_steps, release_safepoint};
 ghost use Rattle.core_world.specs.Trees.SafepointSteps.{poll_steps, stop_steps, resume_steps, has_requester};
 ghost use Rattle.core_world.specs.Valid.{Fits};
@@ -30,7 +30,7 @@ ghost use Rattle.core_calls.specs.CallsSay.{has_none, is_full};
 ghost use Rattle.solo_progress.specs.Alone.{FoundAlone, Quiet, word_of_one, words_left};
 ghost use Rattle.solo_progress.specs.Answers.{is_other, is_told, is_pending, who_in, guarded, created, hash_due, out_due, path_by};
 ghost use Rattle.solo_progress.specs.Answers.{IsDone, PendsWhere, WaitsWhere, LetsGo, RefusedWhere};
-ghost use Rattle.solo_progress.specs.LeftAlone.{IsLeftAlone, IsReady, MayCall, start_in};
+ghost use Rattle.solo_progress.specs.LeftAlone.{IsLeftAlone, MayCallAlone, MayCall, start_in};
 ghost use Rattle.solo_progress.specs.Moves.{Moves, GetsThrough};
 ghost use Rattle.solo_progress.specs.StandsStill.{stands_still};
 
@@ -41,37 +41,37 @@ ghost use Rattle.solo_progress.specs.StandsStill.{stands_still};
 /// it has none the thread's next draw; a check answers true exactly where the run stands still by the words; and the others are done.
 pub fn a_thread_left_alone_gets_through()
     ensures exit { (heap : Heap) (w : World) (objects : List PlainObject) (t o : ℕ)
-        → IsReady heap w objects t (task.Exit o)
+        → MayCallAlone heap w objects t (task.Exit o)
         → GetsThrough heap w t (task.Exit o) (exit_steps (start_in w t) o)
         (RefusedWhere (has_none (start_in w t) o) IsDone) }
     ensures get { (heap : Heap) (w : World) (objects : List PlainObject) (t o slot : ℕ)
-        → IsReady heap w objects t (task.Get o slot)
+        → MayCallAlone heap w objects t (task.Get o slot)
         → GetsThrough heap w t (task.Get o slot) (get_steps (start_in w t) o slot)
         (λ a. a ≡ guarded (start_in w t) o (value_found (read_value (w.words (Slot o slot))))) }
     ensures put { (heap : Heap) (w : World) (objects : List PlainObject) (t o slot : ℕ) (value : Value)
-        → IsReady heap w objects t (task.Put o slot value)
+        → MayCallAlone heap w objects t (task.Put o slot value)
         → GetsThrough heap w t (task.Put o slot value) (put_steps (start_in w t) o slot value)
         (λ a. a ≡ guarded (start_in w t) o tt) }
     ensures hash { (heap : Heap) (w : World) (objects : List PlainObject) (t o now : ℕ)
-        → IsReady heap w objects t (task.Hash o now)
+        → MayCallAlone heap w objects t (task.Hash o now)
         → GetsThrough heap w t (task.Hash o now) (hash_steps w.shape (start_in w t) o now)
-        (λ turn. turn ≡ Done (hash_due objects o (start_in w t))) }
+        (λ progress. progress ≡ Done (hash_due objects o (start_in w t))) }
     ensures notify { (heap : Heap) (w : World) (objects : List PlainObject) (t o now : ℕ)
-        → IsReady heap w objects t (task.Notify o now)
+        → MayCallAlone heap w objects t (task.Notify o now)
         → GetsThrough heap w t (task.Notify o now) (notify_steps w.shape (start_in w t) o now)
         (RefusedWhere (has_none (start_in w t) o) IsDone) }
     ensures notify_all { (heap : Heap) (w : World) (objects : List PlainObject) (t o now : ℕ)
-        → IsReady heap w objects t (task.NotifyAll o now)
+        → MayCallAlone heap w objects t (task.NotifyAll o now)
         → GetsThrough heap w t (task.NotifyAll o now) (notify_all_steps w.shape (start_in w t) o now)
         (RefusedWhere (has_none (start_in w t) o) IsDone) }
     ensures dump { (heap : Heap) (w : World) (objects : List PlainObject) (t : ℕ)
-        → IsReady heap w objects t task.Dump
+        → MayCallAlone heap w objects t task.Dump
         → GetsThrough heap w t task.Dump (dump_steps w.shape (start_in w t))
-        (RefusedWhere ((start_in w t).shots == 4) (λ turn. turn ≡ Done ((start_in w t).shots + 1))) }
+        (RefusedWhere ((start_in w t).shots == 4) (λ progress. progress ≡ Done ((start_in w t).shots + 1))) }
     ensures check { (heap : Heap) (w : World) (objects : List PlainObject) (t : ℕ)
-        → IsReady heap w objects t task.Check
+        → MayCallAlone heap w objects t task.Check
         → GetsThrough heap w t task.Check (check_steps w.shape (start_in w t))
-        (λ turn. turn ≡ Done (stands_still w.shape w.words)) }
+        (λ progress. progress ≡ Done (stands_still w.shape w.words)) }
 {}
 
 /// So it is with an enter. It is refused exactly with 64 holds, where it doesn't go on with an enter; else it is pending exactly where by
@@ -79,7 +79,7 @@ pub fn a_thread_left_alone_gets_through()
 /// is revoked, by itself or with its class.
 pub fn a_thread_left_alone_enters_unless_another_owns()
     ensures { (heap : Heap) (w : World) (objects : List PlainObject) (t o now : ℕ)
-        → IsReady heap w objects t (task.Enter o now)
+        → MayCallAlone heap w objects t (task.Enter o now)
         → GetsThrough heap w t (task.Enter o now) (enter_steps w.shape (start_in w t) o now)
         (RefusedWhere (is_full (start_in w t) o) (PendsWhere (is_other (monitor_of objects o).owner t))) }
 {}
@@ -89,16 +89,16 @@ pub fn a_thread_left_alone_enters_unless_another_owns()
 /// lacks. So a thread that is notified by the logs gets an object back that nobody owns.
 pub fn a_thread_left_alone_waits_until_it_is_told()
     ensures begins { (heap : Heap) (w : World) (objects : List PlainObject) (t o now : ℕ)
-        → IsReady heap w objects t (task.Wait o now) → waits_on (w.known t).wait o ≡ false
+        → MayCallAlone heap w objects t (task.Wait o now) → waits_on (w.known t).wait o ≡ false
         → GetsThrough heap w t (task.Wait o now) (wait_steps w.shape (start_in w t) o now)
         (RefusedWhere (has_none (start_in w t) o) LetsGo) }
     ensures goes_on { (heap : Heap) (w : World) (objects : List PlainObject) (t o now : ℕ)
-        → IsReady heap w objects t (task.Wait o now) → waits_on (w.known t).wait o ≡ true
+        → MayCallAlone heap w objects t (task.Wait o now) → waits_on (w.known t).wait o ≡ true
         → GetsThrough heap w t (task.Wait o now) (wait_steps w.shape (start_in w t) o now)
         (RefusedWhere (has_none (start_in w t) o)
         (WaitsWhere (is_told (w.words (Waiting t))) (is_other (monitor_of objects o).owner t))) }
     ensures told { (heap : Heap) (w : World) (objects : List PlainObject) (t o now : ℕ)
-        → IsReady heap w objects t (task.Wait o now) → is_listed (notified_at objects o) t ≡ true
+        → MayCallAlone heap w objects t (task.Wait o now) → is_listed (notified_at objects o) t ≡ true
         → (monitor_of objects o).owner ≡ None
         → GetsThrough heap w t (task.Wait o now) (wait_steps w.shape (start_in w t) o now) (λ a. a ≡ Ok (Done tt)) }
 {}
@@ -120,17 +120,17 @@ pub fn calls_that_need_no_other_thread_get_through()
     ensures finish { (heap : Heap) (w : World) (t : ℕ) (ending : Ending) → MayCall heap w t (task.Finish ending)
         → GetsThrough heap w t (task.Finish ending) (finish_steps (start_in w t) ending) (λ a. Unit {0}) }
     ensures stop { (heap : Heap) (w : World) (t : ℕ) → MayCall heap w t task.Stop
-        → GetsThrough heap w t task.Stop (stop_steps (side_purpose task.Stop (start_in w t)) (local_of (w.known t)))
+        → GetsThrough heap w t task.Stop (stop_steps (side_context task.Stop (start_in w t)) (local_of (w.known t)))
         (λ a. Unit {0}) }
     ensures poll { (heap : Heap) (w : World) (t : ℕ) → MayCall heap w t task.Poll
-        → GetsThrough heap w t task.Poll (poll_steps (side_purpose task.Poll (start_in w t)))
-        (λ turn. is_pending turn ≡ has_requester (w.words Safepoint)) }
+        → GetsThrough heap w t task.Poll (poll_steps (side_context task.Poll (start_in w t)))
+        (λ progress. is_pending progress ≡ has_requester (w.words Safepoint)) }
     ensures resume { (heap : Heap) (w : World) (t : ℕ) → MayCall heap w t task.Resume
         → GetsThrough heap w t task.Resume
-        (resume_steps (side_purpose task.Resume (start_in w t)) (local_of (w.known t)))
-        (λ turn. is_pending turn ≡ (is_halted (w.words Safepoint) || has_requester (w.words Safepoint))) }
+        (resume_steps (side_context task.Resume (start_in w t)) (local_of (w.known t)))
+        (λ progress. is_pending progress ≡ (is_halted (w.words Safepoint) || has_requester (w.words Safepoint))) }
     ensures release { (heap : Heap) (w : World) (t : ℕ) → MayCall heap w t task.Release
-        → GetsThrough heap w t task.Release (release_safepoint (lone_purpose task.Release) (w.known t).thread)
+        → GetsThrough heap w t task.Release (release_safepoint (lone_context task.Release) (w.known t).thread)
         (λ a. Unit {0}) }
 {}
 
@@ -145,28 +145,28 @@ pub fn calls_that_need_no_other_thread_get_through()
 /// A release needs no other thread (`calls_that_need_no_other_thread_get_through`).
 pub fn a_thread_left_alone_gets_through_parts()
     ensures stack_enter { (heap : Heap) (w : World) (objects : List PlainObject) (t o mark : ℕ)
-        → IsReady heap w objects t (task.StackEnter o mark) → w.words (Mark o) ≡ mark
+        → MayCallAlone heap w objects t (task.StackEnter o mark) → w.words (Mark o) ≡ mark
         → GetsThrough heap w t (task.StackEnter o mark)
-        (stack_enter_steps (lone_purpose (task.StackEnter o mark)) (local_of (w.known t)) o mark)
-        (λ turn. turn ≡ Done (path_by (read_mark mark))) }
+        (stack_enter_steps (lone_context (task.StackEnter o mark)) (local_of (w.known t)) o mark)
+        (λ progress. progress ≡ Done (path_by (read_mark mark))) }
     ensures stack_exit { (heap : Heap) (w : World) (objects : List PlainObject) (t o : ℕ)
-        → IsReady heap w objects t (task.StackExit o)
+        → MayCallAlone heap w objects t (task.StackExit o)
         → GetsThrough heap w t (task.StackExit o)
-        (stack_exit_steps (purpose (task.StackExit o) op.Exit o) (local_of (w.known t)) o)
+        (stack_exit_steps (call_context (task.StackExit o) op.Exit o) (local_of (w.known t)) o)
         (λ out. out ≡ out_due (local_of (w.known t)) o w.words) }
     ensures request { (heap : Heap) (w : World) (objects : List PlainObject) (t : ℕ)
-        → IsReady heap w objects t task.Request
-        → GetsThrough heap w t task.Request (request_steps (lone_purpose task.Request) (w.known t).thread) IsDone }
+        → MayCallAlone heap w objects t task.Request
+        → GetsThrough heap w t task.Request (request_steps (lone_context task.Request) (w.known t).thread) IsDone }
     ensures reached { (heap : Heap) (w : World) (objects : List PlainObject) (t : ℕ)
-        → IsReady heap w objects t task.Reached
-        → GetsThrough heap w t task.Reached (reached_steps (lone_purpose task.Reached)) IsDone }
+        → MayCallAlone heap w objects t task.Reached
+        → GetsThrough heap w t task.Reached (reached_steps (lone_context task.Reached)) IsDone }
 {}
 
 /// In a run of one thread alone each step finds what the steps before it left, and the words after the run are those that its steps left.
 /// So the laws of `alone` say what such a run answers.
 pub fn a_run_of_one_thread_finds_what_it_left()
     ensures found { (w : World) (t : ℕ) (ms : List StepMade) (v : World) → Moves w t ms v → FoundAlone w.words ms }
-    ensures words { (w : World) (t : ℕ) (ms : List StepMade) (v : World) (n : Name) → Moves w t ms v
+    ensures words { (w : World) (t : ℕ) (ms : List StepMade) (v : World) (n : WordId) → Moves w t ms v
         → v.words n ≡ words_left w.words ms n }
 {}
 

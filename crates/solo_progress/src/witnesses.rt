@@ -4,14 +4,14 @@
 ghost use Rattle.std.specs.Prelude.{◌≡◌, ℕ, true, [], ◌∷◌};
 ghost use Rattle.plain_monitor.specs.declared.entry.Ending.{Ending};
 ghost use Rattle.plain_monitor.specs.declared.entry.Value.TheVariants.{Nil};
-ghost use Rattle.core_world.specs.declared.task.Task.TheVariants as task;
+ghost use Rattle.core_world.specs.declared.heap_call.HeapCall.TheVariants as task;
 ghost use Rattle.core_world.specs.Opening.{opening};
 ghost use Rattle.core_world.specs.Words.Forms.{waits_on};
-ghost use Rattle.core_law.specs.Reached.{Comes};
+ghost use Rattle.core_law.specs.Reached.{IsReachable};
 ghost use Rattle.core_steps.specs.SmallWorlds.{small, running, neutral, entered};
 ghost use Rattle.step_history.specs.Examples.{lone, world_of, enters, waits};
 ghost use Rattle.solo_progress.specs.Answers.{is_others_bias};
-ghost use Rattle.solo_progress.specs.LeftAlone.{IsReady, MayCall};
+ghost use Rattle.solo_progress.specs.LeftAlone.{MayCallAlone, MayCall};
 ghost use Rattle.solo_progress.specs.PairWorlds.{pair, alone};
 ghost use Rattle.solo_progress.specs.RoomyWorlds.{roomy, roomy_running};
 ghost use Rattle.solo_progress.specs.Witnesses.{unowned, owned, slotted, held, waiting, reaches};
@@ -21,21 +21,21 @@ ghost use Rattle.solo_progress.specs.Witnesses.{unowned, owned, slotted, held, w
 /// whole call or by its record, wait, notify one or all, and check. In the opening world it may resume. In a heap without biases, of one
 /// thread, with the numbers of 1,024 objects that it may make, the thread may make one where it runs.
 pub fn calls_can_begin()
-    ensures enter { (now : ℕ) → IsReady small running (unowned ∷ []) 0 (task.Enter 0 now) }
-    ensures stack_enter { IsReady small running (unowned ∷ []) 0 (task.StackEnter 0 neutral) }
-    ensures hash { (now : ℕ) → IsReady small running (unowned ∷ []) 0 (task.Hash 0 now) }
-    ensures dump { IsReady small running (unowned ∷ []) 0 task.Dump }
-    ensures request { IsReady small running (unowned ∷ []) 0 task.Request }
+    ensures enter { (now : ℕ) → MayCallAlone small running (unowned ∷ []) 0 (task.Enter 0 now) }
+    ensures stack_enter { MayCallAlone small running (unowned ∷ []) 0 (task.StackEnter 0 neutral) }
+    ensures hash { (now : ℕ) → MayCallAlone small running (unowned ∷ []) 0 (task.Hash 0 now) }
+    ensures dump { MayCallAlone small running (unowned ∷ []) 0 task.Dump }
+    ensures request { MayCallAlone small running (unowned ∷ []) 0 task.Request }
     ensures print { MayCall small running 0 (task.Print Nil) }
     ensures finish { (ending : Ending) → MayCall small running 0 (task.Finish ending) }
-    ensures poll { IsReady small running (unowned ∷ []) 0 task.Poll }
+    ensures poll { MayCallAlone small running (unowned ∷ []) 0 task.Poll }
     ensures stop { MayCall small running 0 task.Stop }
-    ensures exit { IsReady small entered (owned ∷ []) 0 (task.Exit 0) }
-    ensures stack_exit { IsReady small entered (owned ∷ []) 0 (task.StackExit 0) }
-    ensures wait { (now : ℕ) → IsReady small entered (owned ∷ []) 0 (task.Wait 0 now) }
-    ensures notify { (now : ℕ) → IsReady small entered (owned ∷ []) 0 (task.Notify 0 now) }
-    ensures notify_all { (now : ℕ) → IsReady small entered (owned ∷ []) 0 (task.NotifyAll 0 now) }
-    ensures check { IsReady small entered (owned ∷ []) 0 task.Check }
+    ensures exit { MayCallAlone small entered (owned ∷ []) 0 (task.Exit 0) }
+    ensures stack_exit { MayCallAlone small entered (owned ∷ []) 0 (task.StackExit 0) }
+    ensures wait { (now : ℕ) → MayCallAlone small entered (owned ∷ []) 0 (task.Wait 0 now) }
+    ensures notify { (now : ℕ) → MayCallAlone small entered (owned ∷ []) 0 (task.Notify 0 now) }
+    ensures notify_all { (now : ℕ) → MayCallAlone small entered (owned ∷ []) 0 (task.NotifyAll 0 now) }
+    ensures check { MayCallAlone small entered (owned ∷ []) 0 task.Check }
     ensures create { MayCall roomy roomy_running 0 (task.Create 0) }
     ensures resume { MayCall small (opening small.shape small.start small.biasing) 0 task.Resume }
 {}
@@ -44,18 +44,18 @@ pub fn calls_can_begin()
 /// slot; where it has seen that its safepoint is reached, it may look again, and release it; and where it has let go to wait, it may go on
 /// with its wait.
 pub fn owners_requesters_and_waiters_can_go_on()
-    ensures get { IsReady lone (world_of lone (enters 0)) (held ∷ []) 0 (task.Get 0 0) }
-    ensures put { IsReady lone (world_of lone (enters 0)) (held ∷ []) 0 (task.Put 0 0 Nil) }
-    ensures reached { IsReady lone (world_of lone (reaches 0)) (slotted ∷ []) 0 task.Reached }
+    ensures get { MayCallAlone lone (world_of lone (enters 0)) (held ∷ []) 0 (task.Get 0 0) }
+    ensures put { MayCallAlone lone (world_of lone (enters 0)) (held ∷ []) 0 (task.Put 0 0 Nil) }
+    ensures reached { MayCallAlone lone (world_of lone (reaches 0)) (slotted ∷ []) 0 task.Reached }
     ensures release { MayCall lone (world_of lone (reaches 0)) 0 task.Release }
-    ensures wait { (now : ℕ) → IsReady lone (world_of lone (waits 0)) (waiting ∷ []) 0 (task.Wait 0 now)
+    ensures wait { (now : ℕ) → MayCallAlone lone (world_of lone (waits 0)) (waiting ∷ []) 0 (task.Wait 0 now)
         × (waits_on ((world_of lone (waits 0)).known 0).wait 0 ≡ true) }
 {}
 
 /// In a heap with biases, of two threads and one object: thread 1 is left alone, and may enter the object, which is validly biased to
 /// thread 0 and owned by it. So the law of enters speaks of revocations too.
 pub fn a_thread_can_be_left_alone_before_a_revocation()
-    ensures comes { Comes pair alone }
-    ensures ready { (now : ℕ) → IsReady pair alone (owned ∷ []) 1 (task.Enter 0 now) }
+    ensures comes { IsReachable pair alone }
+    ensures ready { (now : ℕ) → MayCallAlone pair alone (owned ∷ []) 1 (task.Enter 0 now) }
     ensures biased { is_others_bias alone.shape alone.words 0 1 ≡ true }
 {}

@@ -20,12 +20,14 @@ fewer : (o i : ℕ) (hs : List ℕ) → position_or_len (λ h. h == 0) hs < leng
 fewer o i [] h = absurd (omega (arith, h))
 fewer o i (y ∷ hs) h = free (y == 0) refl (fewer o (i + 1) hs) h
   where
-    counted : (b : Bool) → count_where (λ p h. names o h) (i + 1) hs + 1 ≤ length hs → one_if b + count_where (λ p h. names o h) (i + 1) hs + 1 ≤ suc (length hs)
+    counted : (b : Bool) → count_where (λ p h. names o h) (i + 1) hs + 1 ≤ length hs
+        → one_if b + count_where (λ p h. names o h) (i + 1) hs + 1 ≤ suc (length hs)
     counted true a = omega (arith, a)
     counted false a = omega (arith, a)
 
     free : (b : Bool) → (y == 0) ≡ b → (position_or_len (λ h. h == 0) hs < length hs → count_where (λ p h. names o h) (i + 1) hs + 1 ≤ length hs)
-        → cond (not b) (1 + position_or_len (λ h. h == 0) hs) 0 < suc (length hs) → one_if (names o y) + count_where (λ p h. names o h) (i + 1) hs + 1 ≤ suc (length hs)
+        → cond (not b) (1 + position_or_len (λ h. h == 0) hs) 0 < suc (length hs)
+        → one_if (names o y) + count_where (λ p h. names o h) (i + 1) hs + 1 ≤ suc (length hs)
     free true e rest h =
         let a = few o (i + 1) hs in
         let b : names o y ≡ false = ap (names o) (eqb-true y 0 e) ∙ names_none o in

@@ -1,17 +1,17 @@
 //! How a thread leaves a hold by a lock record.
 ghost use Rattle.std.specs.Prelude.{◌≡◌, ◌<◌, length};
 ghost use Rattle.core_world.specs.Locks.{hold_count};
-ghost use Rattle.core_world.specs.Threads.Known.{local_of};
+ghost use Rattle.core_world.specs.Threads.ThreadView.{local_of};
 ghost use Rattle.core_world.specs.Trees.LockSteps.{raise_steps, stack_exit_by, stack_exit_record, stack_exit_steps};
 ghost use Rattle.core_world.specs.Trees.Plans.{top_place};
-ghost use Rattle.heap_table.specs.Parts.{IsDueOn, HasRun};
+ghost use Rattle.heap_table.specs.Parts.{IsDueOn, HasMadeSteps};
 ghost use Rattle.heap_table.specs.Seen.{IsOf};
 ghost use Rattle.stack_lock.specs.Parts.{leave_at, clear_at};
 ghost use Rattle.stack_lock.specs.inner.Parts.{marked_exit};
 
 use crate::places::place_at_depth;
-use core_world::{Name, StackOut, Stage, Why};
-use heap_table::{Heap, Pass, Purpose, mark_of_word};
+use core_world::{PendingCause, StackOut, Stage, WordId};
+use heap_table::{CallContext, Heap, Pass, mark_of_word};
 use mark_word::MarkForm;
 use plain_monitor::Entry;
 
@@ -19,16 +19,17 @@ use plain_monitor::Entry;
 /// it has `depth`. So the next owner's Enter is stamped above it.
 ///
 /// In OpenJDK 8: nothing.
-pub fn raise(heap: &Heap, pass: &mut Pass, why: &Purpose, object: u32, depth: u32)
+pub fn raise(heap: &Heap, pass: &mut Pass, call: &CallContext, object: u32, depth: u32)
     requires heap { IsOf heap.now pass.old }
     requires depth { depth ≡ hold_count object pass.old.known.holds }
-    requires due { IsDueOn heap.now pass.old why.now.task (raise_steps why.now (local_of pass.old.known) object) }
-    ensures run { HasRun heap.now (raise_steps why.now (local_of pass.old.known) object) pass.old pass.new result }
+    requires due { IsDueOn heap.now pass.old call.now.task (raise_steps call.now (local_of pass.old.known) object) }
+    ensures run { HasMadeSteps heap.now (raise_steps call.now (local_of pass.old.known) object)
+        pass.old pass.new result }
     ensures kept { local_of pass.new.known ≡ local_of pass.old.known }
 {
     if depth == 1 {
         let stamp = pass.last_stamp() + 1;
-        heap.raise(pass, why, Name::Stamp { object }, stamp);
+        heap.raise(pass, call, WordId::Stamp { object }, stamp);
         return;
     }
 }
@@ -36,41 +37,41 @@ pub fn raise(heap: &Heap, pass: &mut Pass, why: &Purpose, object: u32, depth: u3
 /// Clears the hold word of the object at this place of the thread, and logs the Exit.
 ///
 /// In OpenJDK 8: `InterpreterMacroAssembler::unlock_object` (`interp_masm_x86_64.cpp`), where it clears `_obj`.
-pub fn leave(heap: &Heap, pass: &mut Pass, why: &Purpose, object: u32, place: u32)
+pub fn leave(heap: &Heap, pass: &mut Pass, call: &CallContext, object: u32, place: u32)
     requires heap { IsOf heap.now pass.old }
-    requires due { IsDueOn heap.now pass.old why.now.task (leave_at why.now pass.old.known.thread object place) }
+    requires due { IsDueOn heap.now pass.old call.now.task (leave_at call.now pass.old.known.thread object place) }
     requires room { length pass.old.known.log < pass.old.limit }
-    ensures { HasRun heap.now (leave_at why.now pass.old.known.thread object place) pass.old pass.new result }
+    ensures { HasMadeSteps heap.now (leave_at call.now pass.old.known.thread object place) pass.old pass.new result }
 {
-    let at = Name::Hold {
+    let at = WordId::Hold {
         thread: pass.thread(),
         place,
     };
-    heap.log_store(pass, why, Stage::Calm, at, 0, Entry::Exit { object });
+    heap.log_store(pass, call, Stage::Settled, at, 0, Entry::Exit { object });
 }
 
-/// Clears the hold word at this place of the thread, behind the step that logged its Exit: nothing is unfinished any
+/// Clears the hold word at this place of the thread, after the step that logged its Exit: nothing is unfinished any
 /// more.
 ///
 /// In OpenJDK 8: as `leave`.
-pub fn clear(heap: &Heap, pass: &mut Pass, why: &Purpose, place: u32)
+pub fn clear(heap: &Heap, pass: &mut Pass, call: &CallContext, place: u32)
     requires heap { IsOf heap.now pass.old }
-    requires due { IsDueOn heap.now pass.old why.now.task (clear_at why.now pass.old.known.thread place) }
-    ensures { HasRun heap.now (clear_at why.now pass.old.known.thread place) pass.old pass.new result }
+    requires due { IsDueOn heap.now pass.old call.now.task (clear_at call.now pass.old.known.thread place) }
+    ensures { HasMadeSteps heap.now (clear_at call.now pass.old.known.thread place) pass.old pass.new result }
 {
-    let over = Purpose {
-        task: why.task,
+    let over = CallContext {
+        task: call.task,
         unfinished: None,
-        check: why.check,
+        check: call.check,
     };
-    heap.store_hold(pass, &over, Stage::Calm, place, 0);
+    heap.store_hold(pass, &over, Stage::Settled, place, 0);
 }
 
 // The mark names this record, which is not recursive: it is exchanged for the header, which logs the Exit.
 fn let_go(
     heap: &Heap,
     pass: &mut Pass,
-    why: &Purpose,
+    call: &CallContext,
     object: u32,
     place: u32,
     header: u64,
@@ -78,23 +79,23 @@ fn let_go(
 ) -> StackOut
     requires heap { IsOf heap.now pass.old }
     requires place { place ≡ top_place object pass.old.known.holds }
-    requires due { IsDueOn heap.now pass.old why.now.task
-        (stack_exit_by why.now (local_of pass.old.known) object header mark) }
+    requires due { IsDueOn heap.now pass.old call.now.task
+        (stack_exit_by call.now (local_of pass.old.known) object header mark) }
     requires room { length pass.old.known.log < pass.old.limit }
-    ensures { HasRun heap.now (stack_exit_by why.now (local_of pass.old.known) object header mark)
+    ensures { HasMadeSteps heap.now (stack_exit_by call.now (local_of pass.old.known) object header mark)
         pass.old pass.new result }
 {
     let stage = Stage::Exits { object, place };
-    let at = Name::Mark { object };
+    let at = WordId::Mark { object };
     let entry = Entry::Exit { object };
-    let found = heap.log_exchange(pass, why, stage, at, mark, header, entry);
+    let found = heap.log_exchange(pass, call, stage, at, mark, header, entry);
     if found != mark {
-        return StackOut::Not(Why::Raced {
+        return StackOut::Not(PendingCause::Raced {
             expected: mark,
             found,
         });
     }
-    clear(heap, pass, why, place);
+    clear(heap, pass, call, place);
     StackOut::Left
 }
 
@@ -102,23 +103,24 @@ fn let_go(
 fn leave_lock(
     heap: &Heap,
     pass: &mut Pass,
-    why: &Purpose,
+    call: &CallContext,
     object: u32,
     place: u32,
     header: u64,
 ) -> StackOut
     requires heap { IsOf heap.now pass.old }
     requires place { place ≡ top_place object pass.old.known.holds }
-    requires due { IsDueOn heap.now pass.old why.now.task
-        (marked_exit why.now (local_of pass.old.known) object header) }
+    requires due { IsDueOn heap.now pass.old call.now.task
+        (marked_exit call.now (local_of pass.old.known) object header) }
     requires room { length pass.old.known.log < pass.old.limit }
-    ensures { HasRun heap.now (marked_exit why.now (local_of pass.old.known) object header) pass.old pass.new result }
+    ensures { HasMadeSteps heap.now (marked_exit call.now (local_of pass.old.known) object header)
+        pass.old pass.new result }
 {
-    let mark = heap.load(pass, why, Stage::Calm, Name::Mark { object });
+    let mark = heap.load(pass, call, Stage::Settled, WordId::Mark { object });
     match mark_of_word(mark) {
         Some(form) => match form {
-            MarkForm::Inflating => StackOut::Not(Why::Inflating),
-            MarkForm::Locked { .. } => let_go(heap, pass, why, object, place, header, mark),
+            MarkForm::Inflating => StackOut::Not(PendingCause::Inflating),
+            MarkForm::Locked { .. } => let_go(heap, pass, call, object, place, header, mark),
             MarkForm::Inflated { monitor } => StackOut::Monitor { number: monitor },
             _ => unreachable!(),
         },
@@ -127,24 +129,31 @@ fn leave_lock(
 }
 
 // The displaced word of the thread's newest record says whether the record is recursive.
-fn leave_record(heap: &Heap, pass: &mut Pass, why: &Purpose, object: u32, place: u32) -> StackOut
+fn leave_record(
+    heap: &Heap,
+    pass: &mut Pass,
+    call: &CallContext,
+    object: u32,
+    place: u32,
+) -> StackOut
     requires heap { IsOf heap.now pass.old }
     requires place { place ≡ top_place object pass.old.known.holds }
-    requires due { IsDueOn heap.now pass.old why.now.task
-        (stack_exit_record why.now (local_of pass.old.known) object) }
+    requires due { IsDueOn heap.now pass.old call.now.task
+        (stack_exit_record call.now (local_of pass.old.known) object) }
     requires room { length pass.old.known.log < pass.old.limit }
-    ensures { HasRun heap.now (stack_exit_record why.now (local_of pass.old.known) object) pass.old pass.new result }
+    ensures { HasMadeSteps heap.now (stack_exit_record call.now (local_of pass.old.known) object)
+        pass.old pass.new result }
 {
-    let at = Name::Displaced {
+    let at = WordId::Displaced {
         thread: pass.thread(),
         place,
     };
-    let header = heap.load(pass, why, Stage::Calm, at);
+    let header = heap.load(pass, call, Stage::Settled, at);
     if header == 0 {
-        leave(heap, pass, why, object, place);
+        leave(heap, pass, call, object, place);
         return StackOut::Left;
     }
-    leave_lock(heap, pass, why, object, place, header)
+    leave_lock(heap, pass, call, object, place, header)
 }
 
 /// Leaves the thread's newest hold of the object, of which it has one.
@@ -156,16 +165,17 @@ fn leave_record(heap: &Heap, pass: &mut Pass, why: &Purpose, object: u32, place:
 /// the object's stamp was raised, where this is the thread's last hold.
 ///
 /// In OpenJDK 8: `ObjectSynchronizer::fast_exit` (`synchronizer.cpp`).
-pub fn stack_exit(heap: &Heap, pass: &mut Pass, why: &Purpose, object: u32) -> StackOut
+pub fn stack_exit(heap: &Heap, pass: &mut Pass, call: &CallContext, object: u32) -> StackOut
     requires heap { IsOf heap.now pass.old }
     requires object { object < length heap.now.heap.shape.objects }
     requires held { 0 < hold_count object pass.old.known.holds }
-    requires due { IsDueOn heap.now pass.old why.now.task (stack_exit_steps why.now (local_of pass.old.known) object) }
+    requires due { IsDueOn heap.now pass.old call.now.task (stack_exit_steps call.now (local_of pass.old.known) object) }
     requires room { length pass.old.known.log < pass.old.limit }
-    ensures { HasRun heap.now (stack_exit_steps why.now (local_of pass.old.known) object) pass.old pass.new result }
+    ensures { HasMadeSteps heap.now (stack_exit_steps call.now (local_of pass.old.known) object)
+        pass.old pass.new result }
 {
     let depth = pass.held(object);
     let place = place_at_depth(pass, object, depth);
-    raise(heap, pass, why, object, depth);
-    leave_record(heap, pass, why, object, place)
+    raise(heap, pass, call, object, depth);
+    leave_record(heap, pass, call, object, place)
 }

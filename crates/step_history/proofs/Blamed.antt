@@ -1,15 +1,15 @@
 -- In a run of all threads, a thread whose exchange expects what it last saw of a word, and misses, was overtaken: another thread's step has changed the word.
 use Rattle.std.proofs.Common.{◌≡◌, ◌≢◌, ℕ, cond, Bool, true, false, List, [], ◌∷◌, ◌++◌, Some, refl, sym, ap, ◌∙◌, subst, eq-eqb, ne_eqb}
 use Rattle.std.proofs.lemmas.Option.{same_Some}
-use Rattle.core_world.specs.declared.name.Name.{Name}
+use Rattle.core_world.specs.declared.word_id.WordId.{WordId}
 use Rattle.core_world.specs.Steps.{world_after}
-use Rattle.core_world.specs.Threads.Known.{StepMade, last_seen, left_by}
+use Rattle.core_world.specs.Threads.ThreadView.{StepMade, last_seen, left_by}
 use Rattle.core_world.specs.Words.Acts.{word_after}
 use Rattle.core_world.specs.Words.Names.{same_name}
 use Rattle.core_world.specs.World.{World}
 use Rattle.core_world.proofs.KnowledgeParts.{by_equal}
 use Rattle.core_world.proofs.Naming.{same_named}
-use Rattle.core_world.specs.Trees.Todo.{Todo}
+use Rattle.core_world.specs.Trees.StepTree.{StepTree}
 use Rattle.core_calls.specs.Paths.{made, Always}
 use Rattle.core_calls.proofs.Runs.{on_path}
 use Rattle.step_history.specs.Leads.{Leads, stays, goes, steps_by}
@@ -27,7 +27,7 @@ other_step : (t u : ℕ) (m : StepMade) (ys : Steps) → u ≢ t → steps_by t 
 other_step t u m ys differ = ap (λ (b : Bool). cond b (m ∷ steps_by t ys) (steps_by t ys)) (ne_eqb u t differ)
 
 -- THE SIGHT: the step that last saw or left this in the word
-record Seen (t : ℕ) (at : Name) (expected : ℕ) (xs : Steps) : Type 0 where
+record Seen (t : ℕ) (at : WordId) (expected : ℕ) (xs : Steps) : Type 0 where
   pub sight : StepMade
   pub before : Steps
   pub between : Steps
@@ -35,7 +35,7 @@ record Seen (t : ℕ) (at : Name) (expected : ℕ) (xs : Steps) : Type 0 where
   pub seen_at : sight.plan.at ≡ at
   pub saw : left_by sight ≡ expected
 
-seen_further : (t : ℕ) (at : Name) (expected : ℕ) (x : ℕ × StepMade) (xs : Steps) → Seen t at expected xs → Seen t at expected (x ∷ xs)
+seen_further : (t : ℕ) (at : WordId) (expected : ℕ) (x : ℕ × StepMade) (xs : Steps) → Seen t at expected xs → Seen t at expected (x ∷ xs)
 seen_further t at expected x xs s =
     record {
       sight = s.sight;
@@ -46,7 +46,7 @@ seen_further t at expected x xs s =
       saw = s.saw;
     }
 
-find_sight : (t : ℕ) (at : Name) (expected : ℕ) (xs : Steps) → last_seen at (steps_by t xs) ≡ Some expected → Seen t at expected xs
+find_sight : (t : ℕ) (at : WordId) (expected : ℕ) (xs : Steps) → last_seen at (steps_by t xs) ≡ Some expected → Seen t at expected xs
 find_sight t at expected [] h = absurd (cc h)
 find_sight t at expected ((u, m) ∷ xs) h =
     by_equal u t
@@ -71,7 +71,7 @@ find_sight t at expected ((u, m) ∷ xs) h =
         by_test false g same = seen_further t at expected (u, m) xs (later g)
 
 -- THE CHANGE: of these steps, after the sight, another thread's
-record Changed (t : ℕ) (at : Name) (expected : ℕ) (xs : Steps) : Type 0 where
+record Changed (t : ℕ) (at : WordId) (expected : ℕ) (xs : Steps) : Type 0 where
   pub other : ℕ
   pub change : StepMade
   pub since : Steps
@@ -82,7 +82,7 @@ record Changed (t : ℕ) (at : Name) (expected : ℕ) (xs : Steps) : Type 0 wher
   pub changed : left_by change ≢ change.found
   pub seen : Seen t at expected since
 
-changed_further : (t : ℕ) (at : Name) (expected : ℕ) (x : ℕ × StepMade) (xs : Steps) → Changed t at expected xs → Changed t at expected (x ∷ xs)
+changed_further : (t : ℕ) (at : WordId) (expected : ℕ) (x : ℕ × StepMade) (xs : Steps) → Changed t at expected xs → Changed t at expected (x ∷ xs)
 changed_further t at expected x xs c =
     record {
       other = c.other;
@@ -97,7 +97,7 @@ changed_further t at expected x xs c =
     }
 
 -- where the word isn't any more what t last saw there
-find_change : (w : World) (t : ℕ) (at : Name) (expected : ℕ) (xs : Steps) (v : World) → Leads w xs v → last_seen at (steps_by t xs) ≡ Some expected
+find_change : (w : World) (t : ℕ) (at : WordId) (expected : ℕ) (xs : Steps) (v : World) → Leads w xs v → last_seen at (steps_by t xs) ≡ Some expected
     → v.words at ≢ expected → Changed t at expected xs
 find_change w t at expected xs v stays h differ = absurd (cc h)
 find_change w t at expected xs v (goes ys x u p before within next) h differ =
@@ -145,9 +145,9 @@ find_change w t at expected xs v (goes ys x u p before within next) h differ =
 
 -- THE EXCHANGE: t's last step among these
 record Missed (w : World) (t : ℕ) (exchange : StepMade) (earlier : List StepMade) (xs : Steps) : Type 0 where
-  pub behind : Steps
+  pub after : Steps
   pub rest : Steps
-  pub order : xs ≡ behind ++ (t, exchange) ∷ rest
+  pub order : xs ≡ after ++ (t, exchange) ∷ rest
   pub own : steps_by t rest ≡ earlier
   pub world : World
   pub leads : Leads w rest world
@@ -165,7 +165,7 @@ find_exchange w t exchange earlier xs v (goes ys x u p before within next) h =
     others : Missed w t exchange earlier ys → Missed w t exchange earlier ((u, made p (x.words p.at)) ∷ ys)
     others r =
         record {
-          behind = (u, m) ∷ r.behind;
+          after = (u, m) ∷ r.after;
           rest = r.rest;
           order = ap (λ zs. (u, m) ∷ zs) r.order;
           own = r.own;
@@ -179,7 +179,7 @@ find_exchange w t exchange earlier xs v (goes ys x u p before within next) h =
         let both : m ∷ steps_by t ys ≡ exchange ∷ earlier = sym (own_step t u m ys e) ∙ h in
         let first : m ≡ exchange = head_is both in
         record {
-          behind = [];
+          after = [];
           rest = ys;
           order = (λ i. (e i, first i) ∷ ys);
           own = tail_is both;
@@ -209,8 +209,8 @@ blamed w t xs v expected found leads s =
       before = c.seen.before;
       between = c.seen.between;
       until = c.until;
-      behind = r.behind;
-      order = r.order ∙ ap (λ ys. r.behind ++ (t, s.exchange) ∷ ys) (c.order ∙ ap (λ ys. c.until ++ (c.other, c.change) ∷ ys) c.seen.order);
+      after = r.after;
+      order = r.order ∙ ap (λ ys. r.after ++ (t, s.exchange) ∷ ys) (c.order ∙ ap (λ ys. c.until ++ (c.other, c.change) ∷ ys) c.seen.order);
       at = at;
       seen_at = c.seen.seen_at;
       changed_at = c.changed_at;
@@ -225,7 +225,7 @@ blamed w t xs v expected found leads s =
     }
 
 -- so it is with a call of whose paths this is said
-pub call_blamed : {A : Type 0} (P : List StepMade → A → Type 0) (t : ℕ) (d : Todo A) (xs : Steps) (a : A) (expected found : ℕ)
+pub call_blamed : {A : Type 0} (P : List StepMade → A → Type 0) (t : ℕ) (d : StepTree A) (xs : Steps) (a : A) (expected found : ℕ)
     → ((ms : List StepMade) → P ms a → Sighted expected found ms) → Always P [] d → IsCallOf t d xs a → WasOvertaken t expected found xs
 call_blamed P t d xs a expected found says always h =
     blamed h.first t xs h.last expected found h.leads (says (steps_by t xs) (on_path P d [] (steps_by t xs) a always h.path))

@@ -1,13 +1,13 @@
 -- The heap of two rivals comes to a world in which a resume has missed its exchange, by computing.
 use Rattle.std.proofs.Common.{ℕ, List, [], ◌∷◌, refl, arith}
 use Rattle.mark_word.specs.Safe.{read_safe}
-use Rattle.core_world.specs.declared.answer.Turn.TheVariants.{Pending}
-use Rattle.core_world.specs.declared.answer.Why.TheVariants.{Raced}
-use Rattle.core_world.specs.declared.name.Name.TheVariants.{Safepoint}
+use Rattle.core_world.specs.declared.answer.Progress.TheVariants.{Pending}
+use Rattle.core_world.specs.declared.answer.PendingCause.TheVariants.{Raced}
+use Rattle.core_world.specs.declared.word_id.WordId.TheVariants.{Safepoint}
 use Rattle.core_world.specs.Due.{steps_due}
 use Rattle.core_world.specs.Opening.{first_known}
 use Rattle.core_world.specs.Steps.{is_idle, world_after}
-use Rattle.core_world.specs.Threads.Known.{StepMade, local_of}
+use Rattle.core_world.specs.Threads.ThreadView.{StepMade, local_of}
 use Rattle.core_world.specs.Trees.Calls.{steps_of}
 use Rattle.core_world.specs.Trees.Plans.{load}
 use Rattle.core_world.specs.Trees.SafepointSteps.{resume_plan, resume_steps, running_too}
@@ -33,7 +33,8 @@ leads_seen : Leads at_first ((1, made (load resuming Safepoint) 0) ∷ (0, made 
 unfolding steps_due is_idle steps_of read_safe
 leads_seen = goes _ looked 1 (load resuming Safepoint) leads_looked (omega arith) refl
 
-leads_one : Leads at_first ((1, made (resume_plan resuming 1 0) 0) ∷ (1, made (load resuming Safepoint) 0) ∷ (0, made (load resuming Safepoint) 0) ∷ []) one_runs
+leads_one : Leads at_first ((1, made (resume_plan resuming 1 0) 0)
+    ∷ (1, made (load resuming Safepoint) 0) ∷ (0, made (load resuming Safepoint) 0) ∷ []) one_runs
 unfolding steps_due is_idle steps_of read_safe
 leads_one = goes _ seen_by_both 1 (resume_plan resuming 1 0) leads_seen (omega arith) refl
 

@@ -3,7 +3,7 @@ use Rattle.std.specs.Prelude.{ℕ, ◌<◌, ◌==◌, if◌then◌else◌, List,
 use Rattle.core_world.specs.declared.plan.StepPlan.{StepPlan}
 use Rattle.core_world.specs.Due.{IsNext}
 use Rattle.core_world.specs.Steps.{world_after}
-use Rattle.core_world.specs.Threads.Known.{StepMade}
+use Rattle.core_world.specs.Threads.ThreadView.{StepMade}
 use Rattle.core_world.specs.World.{World}
 use Rattle.core_calls.specs.Paths.{made}
 

@@ -1,15 +1,15 @@
 -- Who is to blame for an exchange that missed.
 use Rattle.std.specs.Prelude.{◌≡◌, ◌≢◌, ℕ, List, [], ◌∷◌, ◌++◌}
-use Rattle.core_world.specs.declared.act.Act.TheVariants.{Swap}
-use Rattle.core_world.specs.declared.name.Name.{Name}
-use Rattle.core_world.specs.Threads.Known.{StepMade, left_by}
-use Rattle.core_world.specs.Trees.Todo.{Todo}
+use Rattle.core_world.specs.declared.act.Act.TheVariants.{CompareExchange}
+use Rattle.core_world.specs.declared.word_id.WordId.{WordId}
+use Rattle.core_world.specs.Threads.ThreadView.{StepMade, left_by}
+use Rattle.core_world.specs.Trees.StepTree.{StepTree}
 use Rattle.core_world.specs.World.{World}
 use Rattle.core_calls.specs.Paths.{IsPath}
 use Rattle.step_history.specs.Leads.{Leads, steps_by}
 
 -- These steps of all threads lead from one world on to another; and those of thread t among them are a path through this call's tree, up to its answer.
-pub record IsCallOf {A : Type 0} (t : ℕ) (d : Todo A) (xs : List (ℕ × StepMade)) (a : A) : Type 0 where
+pub record IsCallOf {A : Type 0} (t : ℕ) (d : StepTree A) (xs : List (ℕ × StepMade)) (a : A) : Type 0 where
   pub first : World
   pub last : World
   pub leads : Leads first xs last
@@ -25,11 +25,11 @@ pub record WasOvertaken (t expected found : ℕ) (xs : List (ℕ × StepMade)) :
   pub before : List (ℕ × StepMade)
   pub between : List (ℕ × StepMade)
   pub until : List (ℕ × StepMade)
-  pub behind : List (ℕ × StepMade)
+  pub after : List (ℕ × StepMade)
   -- in this order
-  pub order : xs ≡ behind ++ (t, exchange) ∷ (until ++ (other, change) ∷ (between ++ (t, sight) ∷ before))
+  pub order : xs ≡ after ++ (t, exchange) ∷ (until ++ (other, change) ∷ (between ++ (t, sight) ∷ before))
   -- all three on one word
-  pub at : Name
+  pub at : WordId
   pub seen_at : sight.plan.at ≡ at
   pub changed_at : change.plan.at ≡ at
   pub exchanged_at : exchange.plan.at ≡ at
@@ -40,6 +40,6 @@ pub record WasOvertaken (t expected found : ℕ) (xs : List (ℕ × StepMade)) :
   pub changed : left_by change ≢ change.found
   -- and the exchange missed
   pub word : ℕ
-  pub exchanges : exchange.plan.act ≡ Swap expected word
+  pub exchanges : exchange.plan.act ≡ CompareExchange expected word
   pub finds : exchange.found ≡ found
   pub missed : found ≢ expected

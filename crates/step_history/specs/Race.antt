@@ -1,11 +1,11 @@
 -- A heap of two threads that race: both load the safepoint word, to resume; then thread 1 exchanges it, and then thread 0 misses.
 use Rattle.std.specs.Prelude.{[], ◌∷◌, false}
-use Rattle.core_world.specs.declared.name.Name.TheVariants.{Safepoint}
-use Rattle.core_world.specs.declared.task.Task.TheVariants.{Resume}
+use Rattle.core_world.specs.declared.word_id.WordId.TheVariants.{Safepoint}
+use Rattle.core_world.specs.declared.heap_call.HeapCall.TheVariants.{Resume}
 use Rattle.core_world.specs.Opening.{opening}
 use Rattle.core_world.specs.Steps.{world_after}
-use Rattle.core_world.specs.Trees.Operations.{lone_purpose}
-use Rattle.core_world.specs.Trees.Plans.{Purpose, load}
+use Rattle.core_world.specs.Trees.Operations.{lone_context}
+use Rattle.core_world.specs.Trees.Plans.{CallContext, load}
 use Rattle.core_world.specs.Trees.SafepointSteps.{resume_plan}
 use Rattle.core_world.specs.World.{World}
 use Rattle.core_law.specs.Logic.{Heap}
@@ -13,8 +13,8 @@ use Rattle.core_law.specs.Logic.{Heap}
 abbrev pub rivals : Heap
 rivals = record { shape = record { threads = 2; classes = 1; declared = 1; objects = (0, 0) ∷ [] }; start = 0; biasing = false }
 
-abbrev pub resuming : Purpose
-resuming = lone_purpose Resume
+abbrev pub resuming : CallContext
+resuming = lone_context Resume
 
 abbrev pub at_first : World
 at_first = opening rivals.shape rivals.start rivals.biasing

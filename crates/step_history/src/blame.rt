@@ -2,13 +2,13 @@
 
 ghost use Rattle.std.specs.Prelude.{◌≡◌, ℕ, [], List, Result, Ok};
 ghost use Rattle.core_world.specs.declared.answer.StackOut.TheVariants.{Not};
-ghost use Rattle.core_world.specs.declared.answer.Turn.TheVariants.{Pending};
-ghost use Rattle.core_world.specs.declared.answer.Why.TheVariants.{Raced};
-ghost use Rattle.core_world.specs.Threads.Known.{Local, Start, StepMade};
+ghost use Rattle.core_world.specs.declared.answer.Progress.TheVariants.{Pending};
+ghost use Rattle.core_world.specs.declared.answer.PendingCause.TheVariants.{Raced};
+ghost use Rattle.core_world.specs.Threads.ThreadView.{Local, Start, StepMade};
 ghost use Rattle.core_world.specs.Trees.LockSteps.{stack_exit_steps};
 ghost use Rattle.core_world.specs.Trees.Operations.{enter_steps, exit_steps, wait_steps, notify_steps, notify_all_steps};
 ghost use Rattle.core_world.specs.Trees.Operations.{hash_steps, dump_steps, check_steps};
-ghost use Rattle.core_world.specs.Trees.Plans.{Purpose};
+ghost use Rattle.core_world.specs.Trees.Plans.{CallContext};
 ghost use Rattle.core_world.specs.Trees.SafepointSteps.{resume_steps, request_steps};
 ghost use Rattle.core_world.specs.Words.Shape.{Shape};
 ghost use Rattle.core_world.specs.World.{World};
@@ -45,13 +45,13 @@ pub fn calls_race_only_with_another_thread()
     ensures check { (s : Shape) (k : Start) (t expected found : ℕ) (xs : List (ℕ × StepMade))
         → IsCallOf t (check_steps s k) xs (Pending (Raced expected found))
         → WasOvertaken t expected found xs }
-    ensures resume { (e : Purpose) (k : Local) (t expected found : ℕ) (xs : List (ℕ × StepMade))
+    ensures resume { (e : CallContext) (k : Local) (t expected found : ℕ) (xs : List (ℕ × StepMade))
         → IsCallOf t (resume_steps e k) xs (Pending (Raced expected found))
         → WasOvertaken t expected found xs }
-    ensures request { (e : Purpose) (u t expected found : ℕ) (xs : List (ℕ × StepMade))
+    ensures request { (e : CallContext) (u t expected found : ℕ) (xs : List (ℕ × StepMade))
         → IsCallOf t (request_steps e u) xs (Pending (Raced expected found))
         → WasOvertaken t expected found xs }
-    ensures stack_exit { (e : Purpose) (k : Local) (o t expected found : ℕ) (xs : List (ℕ × StepMade))
+    ensures stack_exit { (e : CallContext) (k : Local) (o t expected found : ℕ) (xs : List (ℕ × StepMade))
         → IsCallOf t (stack_exit_steps e k o) xs (Not (Raced expected found))
         → WasOvertaken t expected found xs }
 {}

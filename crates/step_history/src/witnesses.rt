@@ -4,16 +4,16 @@ ghost use Rattle.std.specs.Prelude.{◌≡◌, ◌≢◌, ℕ, [], List, Some, t
 ghost use Rattle.mark_word.specs.declared.owner.OwnerForm.TheVariants.{ByThread, ByRecord};
 ghost use Rattle.mark_word.specs.Owner.{owner_of};
 ghost use Rattle.mark_word.specs.Safe.{read_safe};
-ghost use Rattle.core_world.specs.declared.answer.Turn.TheVariants.{Pending};
-ghost use Rattle.core_world.specs.declared.answer.Why.TheVariants.{Raced};
-ghost use Rattle.core_world.specs.declared.name.Name.TheVariants.{Safepoint, Mark, Waiting, Owner};
+ghost use Rattle.core_world.specs.declared.answer.Progress.TheVariants.{Pending};
+ghost use Rattle.core_world.specs.declared.answer.PendingCause.TheVariants.{Raced};
+ghost use Rattle.core_world.specs.declared.word_id.WordId.TheVariants.{Safepoint, Mark, Waiting, Owner};
 ghost use Rattle.core_world.specs.Opening.{first_known};
 ghost use Rattle.core_world.specs.RevocationRules.{writes_in};
-ghost use Rattle.core_world.specs.Threads.Known.{StepMade, local_of};
+ghost use Rattle.core_world.specs.Threads.ThreadView.{StepMade, local_of};
 ghost use Rattle.core_world.specs.Threads.Stages.{revocation_in};
 ghost use Rattle.core_world.specs.Trees.SafepointSteps.{resume_steps, running_too};
 ghost use Rattle.core_world.specs.Words.Forms.{monitor_in, waits_on, is_halted};
-ghost use Rattle.core_law.specs.Reached.{Comes};
+ghost use Rattle.core_law.specs.Reached.{IsReachable};
 ghost use Rattle.step_history.specs.Examples.{lone, biased, world_of, waits, halts, contends, owns_beside, revokes};
 ghost use Rattle.step_history.specs.Leads.{Leads};
 ghost use Rattle.step_history.specs.Overtaken.{IsCallOf};
@@ -31,17 +31,17 @@ pub fn a_resume_can_race()
 /// thread 1 is pending (`owned`). Thread 0 waits, alone or beside thread 1, which owns the object (`waits`,
 /// `beside`). The run is halted (`halted`). Thread 1 is revoking a bias, after its first store (`revoking`).
 pub fn heaps_come_to_such_worlds()
-    ensures owned { Comes rivals (world_of rivals contends)
+    ensures owned { IsReachable rivals (world_of rivals contends)
         × (monitor_in ((world_of rivals contends).words (Mark 0)) ≡ Some 0)
         × ((world_of rivals contends).words (Owner 0) ≡ owner_of (ByRecord 0 0)) }
-    ensures waits { Comes lone (world_of lone (waits 0))
+    ensures waits { IsReachable lone (world_of lone (waits 0))
         × (waits_on ((world_of lone (waits 0)).words (Waiting 0)) 0 ≡ true) }
-    ensures beside { Comes rivals (world_of rivals owns_beside)
+    ensures beside { IsReachable rivals (world_of rivals owns_beside)
         × (waits_on ((world_of rivals owns_beside).words (Waiting 0)) 0 ≡ true)
         × ((world_of rivals owns_beside).words (Owner 0) ≡ owner_of (ByThread 1)) }
-    ensures halted { Comes lone (world_of lone (halts 0))
+    ensures halted { IsReachable lone (world_of lone (halts 0))
         × (is_halted ((world_of lone (halts 0)).words Safepoint) ≡ true) }
-    ensures revoking { Comes biased (world_of biased revokes)
+    ensures revoking { IsReachable biased (world_of biased revokes)
         × (revocation_in ((world_of biased revokes).known 1).stage ≡ Some (record { object = 0; rebias = true; now = 0 }))
         × (writes_in ((world_of biased revokes).known 1).seen_at_safepoint ≢ []) }
 {}

@@ -13,7 +13,7 @@ use Rattle.object_program.specs.Program.{ProgramText, most_in, numbering_of}
 use Rattle.plain_machine.specs.Thread.{ThreadState}
 use Rattle.plain_machine.specs.Asking.{thread_after}
 use Rattle.plain_machine.specs.Machine.{PlainMachine, code_of, moved, take}
-use Rattle.plain_machine.specs.Legal.{behind_all}
+use Rattle.plain_machine.specs.Legal.{after_all}
 use Rattle.sync_source.specs.SyncThread.{SyncState, sync_thread_after, with_index}
 use Rattle.sync_source.specs.SyncMachine.{SyncMachine, sync_moved, sync_take, sync_after_all}
 use Rattle.sync_source.specs.inner.Alike.{OptionAlike, MachinesAlike, index_in}
@@ -54,16 +54,22 @@ module _ (p : ProgramText) (us : List ThreadDef) (same : most_in p.classes p.thr
   abbrev Threads : List SyncState → List ThreadState → Type 0
   Threads bs rs = (u : ℕ) → OptionAlike (code_of p u) (slice_get bs u) (slice_get rs u)
 
-  set_alike : Threads qs ss → (t : ℕ) (a b : SyncState) (r s : ThreadState) → slice_get qs t ≡ Some a → slice_get ss t ≡ Some r → OptionAlike (code_of p t) (Some b) (Some s) → Threads (slice_set qs t b) (slice_set ss t s)
+  set_alike : Threads qs ss → (t : ℕ) (a b : SyncState) (r s : ThreadState) → slice_get qs t ≡ Some a
+      → slice_get ss t ≡ Some r → OptionAlike (code_of p t) (Some b) (Some s) → Threads (slice_set qs t b) (slice_set ss t s)
   set_alike all t a b r s e f h u = go (cases_eq t u)
     where
       go : (t ≡ u) ⊎ (t ≢ u) → OptionAlike (code_of p u) (slice_get (slice_set qs t b) u) (slice_get (slice_set ss t s) u)
       go (inl same) =
-          subst (λ (v : ℕ). OptionAlike (code_of p v) (slice_get (slice_set qs t b) v) (slice_get (slice_set ss t s) v)) same (subst (λ (x : Option ThreadState). OptionAlike (code_of p t) (slice_get (slice_set qs t b) t) x) (sym (get_set_same ss t r s f)) (subst (λ (x : Option SyncState). OptionAlike (code_of p t) x (Some s)) (sym (get_set_same qs t a b e)) h))
+          subst (λ (v : ℕ). OptionAlike (code_of p v) (slice_get (slice_set qs t b) v) (slice_get (slice_set ss t s) v)) same
+          (subst (λ (x : Option ThreadState). OptionAlike (code_of p t) (slice_get (slice_set qs t b) t) x) (sym (get_set_same ss t r s f))
+          (subst (λ (x : Option SyncState). OptionAlike (code_of p t) x (Some s)) (sym (get_set_same qs t a b e)) h))
       go (inr other) =
-          subst (λ (x : Option ThreadState). OptionAlike (code_of p u) (slice_get (slice_set qs t b) u) x) (sym (get_set_other ss t u s other)) (subst (λ (x : Option SyncState). OptionAlike (code_of p u) x (slice_get ss u)) (sym (get_set_other qs t u b other)) (all u))
+          subst (λ (x : Option ThreadState). OptionAlike (code_of p u) (slice_get (slice_set qs t b) u) x) (sym (get_set_other ss t u s other))
+          (subst (λ (x : Option SyncState). OptionAlike (code_of p u) x (slice_get ss u)) (sym (get_set_other qs t u b other)) (all u))
 
-  moved_alike : Threads qs ss → (t : ℕ) (a : SyncState) (r : ThreadState) → slice_get qs t ≡ Some a → slice_get ss t ≡ Some r → (b : Option SyncState) (s : Option ThreadState) (n : Option (List (List ℕ))) (o : Option (List PlainObject)) → OptionAlike (code_of p t) b s → BothAlike us (sync_moved source_machine t b n o) (moved code_machine t s n o)
+  moved_alike : Threads qs ss → (t : ℕ) (a : SyncState) (r : ThreadState) → slice_get qs t ≡ Some a → slice_get ss t ≡ Some r
+      → (b : Option SyncState) (s : Option ThreadState) (n : Option (List (List ℕ))) (o : Option (List PlainObject))
+      → OptionAlike (code_of p t) b s → BothAlike us (sync_moved source_machine t b n o) (moved code_machine t s n o)
   moved_alike all t a r e f None None n o h = tt
   moved_alike all t a r e f None (Some s) n o h = absurd h
   moved_alike all t a r e f (Some b) None n o h = absurd h
@@ -72,26 +78,38 @@ module _ (p : ProgramText) (us : List ThreadDef) (same : most_in p.classes p.thr
   moved_alike all t a r e f (Some b) (Some s) (Some n) (Some o) h =
       record { world = refl; slots = same; objects = refl; made = refl; threads = set_alike all t a b r s e f h }
 
-  take_at_alike : Threads qs ss → (t : ℕ) (e : Entry) (a : Option SyncState) (s : Option ThreadState) → slice_get qs t ≡ a → slice_get ss t ≡ s → OptionAlike (code_of p t) a s → BothAlike us (option_and_then (λ x. sync_moved source_machine t (sync_thread_after (record p { threads = us }) x e) (take_made (numbering_of (record p { threads = us })) made t e) (take_entry objects t e)) a) (option_and_then (λ x. moved code_machine t (thread_after p (code_of p t) x (with_index (index_of s) e)) (take_made (numbering_of p) made t (with_index (index_of s) e)) (take_entry objects t (with_index (index_of s) e))) s)
+  take_at_alike : Threads qs ss → (t : ℕ) (e : Entry) (a : Option SyncState) (s : Option ThreadState) → slice_get qs t ≡ a
+      → slice_get ss t ≡ s → OptionAlike (code_of p t) a s → BothAlike us (option_and_then (λ x. sync_moved source_machine t
+      (sync_thread_after (record p { threads = us }) x e) (take_made (numbering_of (record p { threads = us })) made t e) (take_entry objects t e)) a)
+      (option_and_then (λ x. moved code_machine t (thread_after p (code_of p t) x (with_index (index_of s) e))
+      (take_made (numbering_of p) made t (with_index (index_of s) e)) (take_entry objects t (with_index (index_of s) e))) s)
   take_at_alike all t e None None f g h = tt
   take_at_alike all t e None (Some s) f g h = absurd h
   take_at_alike all t e (Some a) None f g h = absurd h
   take_at_alike all t e (Some a) (Some s) f g h =
       let source : Option (List (List ℕ)) = take_made (numbering_of (record p { threads = us })) made t e in
-      subst (λ (n : Option (List (List ℕ))). BothAlike us (sync_moved source_machine t (sync_thread_after (record p { threads = us }) a e) source (take_entry objects t e)) (moved code_machine t (thread_after p (code_of p t) s (with_index (index_in s.mode) e)) n (take_entry objects t (with_index (index_in s.mode) e)))) (made_aside p us made t (index_in s.mode) e)
-      (subst (λ (o : Option (List PlainObject)). BothAlike us (sync_moved source_machine t (sync_thread_after (record p { threads = us }) a e) source (take_entry objects t e)) (moved code_machine t (thread_after p (code_of p t) s (with_index (index_in s.mode) e)) source o)) (index_aside objects t (index_in s.mode) e) (moved_alike all t a s f g _ _ source (take_entry objects t e) (thread_alike (code_of p t) p.classes p.objects p.threads us same a s e h)))
+      subst (λ (n : Option (List (List ℕ))). BothAlike us (sync_moved source_machine t (sync_thread_after (record p { threads = us }) a e) source
+      (take_entry objects t e)) (moved code_machine t (thread_after p (code_of p t) s (with_index (index_in s.mode) e)) n
+      (take_entry objects t (with_index (index_in s.mode) e)))) (made_aside p us made t (index_in s.mode) e)
+      (subst (λ (o : Option (List PlainObject)). BothAlike us (sync_moved source_machine t (sync_thread_after (record p { threads = us }) a e) source
+      (take_entry objects t e)) (moved code_machine t (thread_after p (code_of p t) s (with_index (index_in s.mode) e)) source o))
+      (index_aside objects t (index_in s.mode) e)
+      (moved_alike all t a s f g _ _ source (take_entry objects t e) (thread_alike (code_of p t) p.classes p.objects p.threads us same a s e h)))
 
-  pub take_alike_at : Threads qs ss → (t : ℕ) (e : Entry) → BothAlike us (sync_take source_machine t e) (take code_machine t (with_index (index_of (slice_get ss t)) e))
+  pub take_alike_at : Threads qs ss → (t : ℕ) (e : Entry)
+      → BothAlike us (sync_take source_machine t e) (take code_machine t (with_index (index_of (slice_get ss t)) e))
   take_alike_at all t e = take_at_alike all t e (slice_get qs t) (slice_get ss t) refl refl (all t)
 
 -- both machines take an entry, with the index that the code's thread asks for where it is a trap, and are alike after it; or neither does
-pub take_alike : (us : List ThreadDef) (a : SyncMachine) (m : PlainMachine) (t : ℕ) (e : Entry) → MachinesAlike us a m → BothAlike us (sync_take a t e) (take m t (with_index (index_of (slice_get m.threads t)) e))
+pub take_alike : (us : List ThreadDef) (a : SyncMachine) (m : PlainMachine) (t : ℕ) (e : Entry)
+    → MachinesAlike us a m → BothAlike us (sync_take a t e) (take m t (with_index (index_of (slice_get m.threads t)) e))
 take_alike us a m t e h =
     let same : record { world = record (m.program) { threads = us }; objects = m.objects; made = m.made; threads = a.threads } ≡ a =
     ap (λ w. record { world = w; objects = m.objects; made = m.made; threads = a.threads }) (sym h.world)
     ∙ ap (λ o. record { world = a.world; objects = o; made = m.made; threads = a.threads }) (sym h.objects)
     ∙ ap (λ n. record { world = a.world; objects = a.objects; made = n; threads = a.threads }) (sym h.made) in
-    subst (λ (x : SyncMachine). BothAlike us (sync_take x t e) (take m t (with_index (index_of (slice_get m.threads t)) e))) same (take_alike_at m.program us h.slots m.objects m.made a.threads m.threads h.threads t e)
+    subst (λ (x : SyncMachine). BothAlike us (sync_take x t e) (take m t (with_index (index_of (slice_get m.threads t)) e))) same
+    (take_alike_at m.program us h.slots m.objects m.made a.threads m.threads h.threads t e)
 
 -- the machine of the code after these entries, where the index of a trap isn't looked at
 abbrev pub aside_all : PlainMachine → List (ℕ × Logged) → Option PlainMachine
@@ -99,11 +117,14 @@ aside_all m [] = Some m
 aside_all m (x ∷ xs) =
     option_and_then (λ next. aside_all next xs) (take m x.0 (with_index (index_of (slice_get m.threads x.0)) x.1.entry))
 
-pub all_alike : (us : List ThreadDef) (xs : List (ℕ × Logged)) (a : SyncMachine) (m : PlainMachine) → MachinesAlike us a m → BothAlike us (sync_after_all a xs) (aside_all m xs)
+pub all_alike : (us : List ThreadDef) (xs : List (ℕ × Logged)) (a : SyncMachine) (m : PlainMachine)
+    → MachinesAlike us a m → BothAlike us (sync_after_all a xs) (aside_all m xs)
 all_alike us [] a m h = h
 all_alike us (x ∷ xs) a m h = go (λ b n k. all_alike us xs b n k) _ _ (take_alike us a m x.0 x.1.entry h)
   where
-    go : ((b : SyncMachine) (n : PlainMachine) → MachinesAlike us b n → BothAlike us (sync_after_all b xs) (aside_all n xs)) → (b : Option SyncMachine) (n : Option PlainMachine) → BothAlike us b n → BothAlike us (option_and_then (λ next. sync_after_all next xs) b) (option_and_then (λ next. aside_all next xs) n)
+    go : ((b : SyncMachine) (n : PlainMachine) → MachinesAlike us b n → BothAlike us (sync_after_all b xs) (aside_all n xs))
+        → (b : Option SyncMachine) (n : Option PlainMachine) → BothAlike us b n
+        → BothAlike us (option_and_then (λ next. sync_after_all next xs) b) (option_and_then (λ next. aside_all next xs) n)
     go ih None None k = tt
     go ih None (Some n) k = absurd k
     go ih (Some b) None k = absurd k
@@ -116,11 +137,13 @@ same_index m n t (Trap f j) h =
 same_index m n t e h = refl
 
 -- so what the code's machine takes, it takes where the indexes aren't looked at
-pub aside_of : (xs : List (ℕ × Logged)) (m n : PlainMachine) → behind_all m xs ≡ Some n → aside_all m xs ≡ Some n
+pub aside_of : (xs : List (ℕ × Logged)) (m n : PlainMachine) → after_all m xs ≡ Some n → aside_all m xs ≡ Some n
 aside_of [] m n h = h
 aside_of (x ∷ xs) m n h = go (λ next k. aside_of xs next n k) (take m x.0 x.1.entry) refl h
   where
-    go : ((next : PlainMachine) → behind_all next xs ≡ Some n → aside_all next xs ≡ Some n) → (k : Option PlainMachine) → take m x.0 x.1.entry ≡ k → option_and_then (λ next. behind_all next xs) k ≡ Some n → aside_all m (x ∷ xs) ≡ Some n
+    go : ((next : PlainMachine) → after_all next xs ≡ Some n → aside_all next xs ≡ Some n) → (k : Option PlainMachine)
+        → take m x.0 x.1.entry ≡ k → option_and_then (λ next. after_all next xs) k ≡ Some n → aside_all m (x ∷ xs) ≡ Some n
     go ih None e k = absurd (none-some n k)
     go ih (Some next) e k =
-        ap (λ y. option_and_then (λ z. aside_all z xs) (take m x.0 y)) (same_index m next x.0 x.1.entry e) ∙ ap (λ y. option_and_then (λ z. aside_all z xs) y) e ∙ ih next k
+        ap (λ y. option_and_then (λ z. aside_all z xs) (take m x.0 y)) (same_index m next x.0 x.1.entry e)
+        ∙ ap (λ y. option_and_then (λ z. aside_all z xs) y) e ∙ ih next k

@@ -1,5 +1,6 @@
 -- Compiling adds no `new` and leaves none out: the code has one where the program with blocks has one, and makes objects of as many slots.
-use Rattle.std.proofs.Common.{◌≡◌, ℕ, ◌+◌, ◌*◌, ◌||◌, max, Bool, true, false, if◌then◌else◌, List, [], ◌∷◌, ◌++◌, length, map, replicate, refl, sym, ap, ◌∙◌, arith}
+use Rattle.std.proofs.Common.{◌≡◌, ℕ, ◌+◌, ◌*◌, ◌||◌, max, Bool, true, false, if◌then◌else◌, List}
+use Rattle.std.proofs.Common.{[], ◌∷◌, ◌++◌, length, map, replicate, refl, sym, ap, ◌∙◌, arith}
 use Rattle.std.specs.List.{list_any}
 use Rattle.std.proofs.lemmas.List.{length-map}
 use Rattle.std.proofs.lemmas.List.Folds.{list_any-append}
@@ -7,7 +8,8 @@ use Rattle.plain_monitor.specs.Limits.{most_made}
 use Rattle.object_program.specs.declared.program.ClassDef.{ClassDef}
 use Rattle.object_program.specs.declared.program.Code.{Code}
 use Rattle.object_program.specs.declared.program.Code.TheVariants as instr
-use Rattle.object_program.specs.Program.{is_new, has_new, slots_made, most_in_code, most_in, declared_total, made_total, objects_total, made_slots, shape_from, shape_of}
+use Rattle.object_program.specs.Program.{is_new, has_new, slots_made, most_in_code, most_in, declared_total}
+use Rattle.object_program.specs.Program.{made_total, objects_total, made_slots, shape_from, shape_of}
 use Rattle.sync_source.specs.declared.source.Test.{Test}
 use Rattle.sync_source.specs.Source.{Statements, Nothing, Plain, Sync, If, While, SyncText, SyncThreadText}
 use Rattle.sync_source.specs.SyncMachine.{instructions_of, without_blocks, world_of}
@@ -41,14 +43,14 @@ has_new_alike (Sync x b r) at =
     ∙ sym (list_any-append is_new (code_at (at + 1) b) (instr.Exit x ∷ code_at to r))
 has_new_alike (If t b c r) at =
     let to = at + 1 + size c + 1 in
-    let behind = code_at to b ++ code_at (to + size b) r in
+    let after = code_at to b ++ code_at (to + size b) r in
     list_any-append is_new (instructions_of b ++ instructions_of c) (instructions_of r)
     ∙ either_same _ _ _ _ (list_any-append is_new (instructions_of b) (instructions_of c)) refl
     ∙ either_same _ _ _ _ (either_same _ _ _ _ (has_new_alike b to) (has_new_alike c (at + 1))) (has_new_alike r (to + size b))
     ∙ swapped (list_any is_new (code_at to b)) (list_any is_new (code_at (at + 1) c)) (list_any is_new (code_at (to + size b) r))
     ∙ ap (λ x. list_any is_new (code_at (at + 1) c) || x) (sym (list_any-append is_new (code_at to b) (code_at (to + size b) r)))
-    ∙ sym (list_any-append is_new (code_at (at + 1) c) (instr.Jump (to + size b + 1) ∷ behind))
-    ∙ sym (test_aside t to (code_at (at + 1) c ++ instr.Jump (to + size b + 1) ∷ behind))
+    ∙ sym (list_any-append is_new (code_at (at + 1) c) (instr.Jump (to + size b + 1) ∷ after))
+    ∙ sym (test_aside t to (code_at (at + 1) c ++ instr.Jump (to + size b + 1) ∷ after))
 has_new_alike (While t b r) at =
     let to = at + 1 + 1 in
     let back = code_at to b ++ instr.Jump (at + 1) ∷ code_at (to + size b + 1) r in
@@ -80,10 +82,10 @@ module _ (classes : List ClassDef) where
       omega (arith, source, code, most_alike b (at + 1), most_alike r to)
   most_alike (If t b c r) at =
       let to = at + 1 + size c + 1 in
-      let behind = code_at to b ++ code_at (to + size b) r in
+      let after = code_at to b ++ code_at (to + size b) r in
       let source = most_append (instructions_of b ++ instructions_of c) (instructions_of r) in
       let blocks = most_append (instructions_of b) (instructions_of c) in
-      let code = most_append (code_at (at + 1) c) (instr.Jump (to + size b + 1) ∷ behind) in
+      let code = most_append (code_at (at + 1) c) (instr.Jump (to + size b + 1) ∷ after) in
       let last = most_append (code_at to b) (code_at (to + size b) r) in
       omega (arith, source, blocks, code, last, test_needs_none t to, most_alike b to, most_alike c (at + 1), most_alike r (to + size b))
   most_alike (While t b r) at =

@@ -1,5 +1,6 @@
 -- The labels of code have names of their own, and so the code of a program with blocks is a program.
-use Rattle.std.proofs.Common.{◌≡◌, ℕ, zero, suc, ◌+◌, ◌<◌, ◌≤◌, ◌%◌, ◌^◌, ◌||◌, Bool, true, false, if◌then◌else◌, List, [], ◌∷◌, ◌++◌, length, map, filter, refl, ap, subst, arith, bytes_eq, le-leb}
+use Rattle.std.proofs.Common.{◌≡◌, ℕ, zero, suc, ◌+◌, ◌<◌, ◌≤◌, ◌%◌, ◌^◌, ◌||◌, Bool, true, false, if◌then◌else◌}
+use Rattle.std.proofs.Common.{List, [], ◌∷◌, ◌++◌, length, map, filter, refl, ap, subst, arith, bytes_eq, le-leb}
 use Rattle.std.specs.Prelude.{decimal}
 use Rattle.std.specs.List.{AllByRecursion, list_all}
 use Rattle.std.proofs.lemmas.Bool.{and_parts, and_from, or_from, false_from_ne_true}
@@ -29,7 +30,8 @@ digits_push (b ∷ ds) d lt h = let parts = and_parts (is_digit b) (list_all is_
 
 digits_are : (n : ℕ) → n < 2 ^ 64 → AreDigits n (decimal n)
 digits_are n h =
-    decimal_by_steps AreDigits (λ k lt. record { all = rw (digit_is k lt) refl }) (λ k ds le e. record { all = digits_push ds (k % 10) (omega arith) e.all }) n h
+    decimal_by_steps AreDigits (λ k lt. record { all = rw (digit_is k lt) refl })
+    (λ k ds le e. record { all = digits_push ds (k % 10) (omega arith) e.all }) n h
 
 name_byte : (b : ℕ) → is_digit b ≡ true → (is_letter b || is_digit b) ≡ true
 name_byte b h = grind (arith, h)
@@ -54,7 +56,8 @@ same_rest x y e = ap rest_of e
 
 other_name : (a b : ℕ) → a < b → b < 5000 → bytes_eq (76 ∷ decimal b) (76 ∷ decimal a) ≡ false
 other_name a b h l =
-    false_from_ne_true _ (λ e. let same = decimal_injective b a (omega arith) (omega arith) (same_rest _ _ ((bytes_eq-Decides (76 ∷ decimal b) (76 ∷ decimal a)).0 e)) in absurd (omega arith))
+    false_from_ne_true _ (λ e. let same = decimal_injective b a (omega arith) (omega arith)
+    (same_rest _ _ ((bytes_eq-Decides (76 ∷ decimal b) (76 ∷ decimal a)).0 e)) in absurd (omega arith))
 
 module _ (P : ℕ → Bool) where
   abbrev names : ℕ → ℕ → List (List ℕ)
@@ -64,7 +67,8 @@ module _ (P : ℕ → Bool) where
   not_among zero b a h l = refl
   not_among (suc k) b a h l = go (not_among k (b + 1) a (omega arith) (omega arith)) (P b)
     where
-      go : is_among (names (b + 1) k) (76 ∷ decimal a) ≡ false → (c : Bool) → is_among (map (λ l. l.name) (map (label decimal) (if c then b ∷ filter P (numbers_from (b + 1) k) else filter P (numbers_from (b + 1) k)))) (76 ∷ decimal a) ≡ false
+      go : is_among (names (b + 1) k) (76 ∷ decimal a) ≡ false → (c : Bool) → is_among (map (λ l. l.name)
+          (map (label decimal) (if c then b ∷ filter P (numbers_from (b + 1) k) else filter P (numbers_from (b + 1) k)))) (76 ∷ decimal a) ≡ false
       go ih true = or_from _ _ (other_name a b h (omega arith)) ih
       go ih false = ih
 
@@ -72,7 +76,8 @@ module _ (P : ℕ → Bool) where
   are_names zero a l = tt
   are_names (suc k) a l = go (are_names k (a + 1) (omega arith)) (P a)
     where
-      go : AreNames (names (a + 1) k) → (c : Bool) → AreNames (map (λ l. l.name) (map (label decimal) (if c then a ∷ filter P (numbers_from (a + 1) k) else filter P (numbers_from (a + 1) k))))
+      go : AreNames (names (a + 1) k) → (c : Bool) → AreNames (map (λ l. l.name)
+          (map (label decimal) (if c then a ∷ filter P (numbers_from (a + 1) k) else filter P (numbers_from (a + 1) k))))
       go ih true = (label_is_name a (omega arith), not_among k (a + 1) a (omega arith) (omega arith), ih)
       go ih false = ih
 

@@ -1,6 +1,8 @@
 -- A thread of a program with blocks holds just what its open `sync`s have entered, since nothing gives a value to their locals before their
 -- exits.
-use Rattle.std.proofs.Common.{◌≡◌, ℕ, ◌+◌, ◌-◌, ◌≤◌, ◌==◌, ℤ, ◌+ℤ◌, ◌-ℤ◌, ◌*ℤ◌, nat_abs, Bool, true, false, if◌then◌else◌, List, [], ◌∷◌, slice_index, slice_index_or, slice_set, slice_get, sum, nat_le, nat_lt, Option, refl, sym, ap, ◌∙◌, subst, arith, eq-eqb, leb-false, get_or-set_other}
+use Rattle.std.proofs.Common.{◌≡◌, ℕ, ◌+◌, ◌-◌, ◌≤◌, ◌==◌, ℤ, ◌+ℤ◌, ◌-ℤ◌, ◌*ℤ◌, nat_abs, Bool, true, false, if◌then◌else◌}
+use Rattle.std.proofs.Common.{List, [], ◌∷◌, slice_index, slice_index_or, slice_set, slice_get, sum, nat_le, nat_lt}
+use Rattle.std.proofs.Common.{Option, refl, sym, ap, ◌∙◌, subst, arith, eq-eqb, leb-false, get_or-set_other}
 use Rattle.std.specs.Prelude.{int_lt}
 use Rattle.std.specs.List.{AllByRecursion}
 use Rattle.std.proofs.lemmas.Bool.{false≢true}
@@ -15,14 +17,16 @@ use Rattle.object_program.specs.declared.program.ObjectDef.{ObjectDef}
 use Rattle.object_program.specs.declared.program.Code.{Code}
 use Rattle.object_program.specs.declared.program.Code.TheVariants as instr
 use Rattle.object_program.specs.Program.{ProgramText, slots_of}
-use Rattle.plain_machine.specs.declared.call.Call.{Call}
-use Rattle.plain_machine.specs.declared.call.Call.TheVariants as call
-use Rattle.plain_machine.specs.Thread.{ThreadState, Step, Calls, sets, faults, computes, combines, on_object, owner_only, enters, on_slot, size_of, first_of, element, is_element, step_of, local, holds_of}
+use Rattle.plain_machine.specs.declared.monitor_call.MonitorCall.{MonitorCall}
+use Rattle.plain_machine.specs.declared.monitor_call.MonitorCall.TheVariants as call
+use Rattle.plain_machine.specs.Thread.{ThreadState, Step, Calls, sets, faults, computes, combines, on_object, owner_only}
+use Rattle.plain_machine.specs.Thread.{enters, on_slot, size_of, first_of, element, is_element, step_of, local, holds_of}
 use Rattle.sync_source.specs.Source.{Statements, Nothing, Plain, Sync, If, While}
 use Rattle.plain_monitor.specs.declared.entry.Ending.{Ending}
 use Rattle.plain_monitor.specs.declared.entry.Ending.TheVariants as ending
 use Rattle.sync_source.specs.Valid.{IsPlain, assigns, is_end, HasNoEnd, EndsWell, KeepsLocals}
-use Rattle.sync_source.specs.SyncThread.{Left, Over, Runs, Exits, Pays, SyncStep, GoesOn, StandsBefore, StopsBy, then_left, chooses, chooses_below, chooses_by, sync_step}
+use Rattle.sync_source.specs.SyncThread.{Left, Over, Runs, Exits, Pays, SyncStep, GoesOn, StandsBefore}
+use Rattle.sync_source.specs.SyncThread.{StopsBy, then_left, chooses, chooses_below, chooses_by, sync_step}
 use Rattle.sync_source.specs.inner.Alike.{ArePlain}
 
 -- the locals of the open `sync`s, innermost first: those whose exits are left
@@ -90,7 +94,7 @@ pub record HoldsOpen (open_syncs : List ℕ) (locals : List Value) (holds : ℕ 
   pub held : (o : ℕ) → references locals open_syncs o ≡ holds o
 
 -- how often the thread holds object o once it has made the call
-abbrev pub held_after : ThreadState → Call → ℕ → ℕ
+abbrev pub held_after : ThreadState → MonitorCall → ℕ → ℕ
 held_after s (call.Enter p) o = holds_of s o + (if p == o then 1 else 0)
 held_after s (call.Exit p) o = holds_of s o - (if p == o then 1 else 0)
 held_after s c o = holds_of s o
@@ -100,7 +104,7 @@ abbrev pub AreOthers : ℕ → List ℕ → Type 0
 AreOthers x xs = AllByRecursion (λ y. (x == y) ≡ false) xs
 
 -- what the call answers goes to none of these locals
-abbrev pub Spares : List ℕ → Call → Type 0
+abbrev pub Spares : List ℕ → MonitorCall → Type 0
 Spares xs (call.Get x o k) = AreOthers x xs
 Spares xs (call.Hash x o) = AreOthers x xs
 Spares xs (call.New x c) = AreOthers x xs
@@ -112,7 +116,7 @@ pub record IsKept (left : Left) (locals : List Value) (holds : ℕ → ℕ) : Ty
   pub opened : HoldsOpen (open_in left) locals holds
 
 -- what holds of a thread that stands before a call
-pub record IsReadyFor (s : ThreadState) (c : Call) (left : Left) : Type 0 where
+pub record IsReadyFor (s : ThreadState) (c : MonitorCall) (left : Left) : Type 0 where
   pub spares : Spares (open_in left) c
   pub kept : IsKept left s.locals (held_after s c)
 
@@ -131,17 +135,22 @@ StepKept s (StopsBy e) = IsFreeAt s.holds e
 set_aside : (locals : List Value) (x y : ℕ) (v : Value) → (x == y) ≡ false → slice_index_or (slice_set locals x v) y Nil ≡ slice_index_or locals y Nil
 set_aside locals x y v h = get_or-set_other locals x y v Nil (λ e. false≢true (sym h ∙ eq-eqb x y (sym e)))
 
-refer_aside : (locals : List Value) (x : ℕ) (v : Value) (xs : List ℕ) → AreOthers x xs → AllByRecursion (λ y. IsReference (slice_index_or locals y Nil)) xs → AllByRecursion (λ y. IsReference (slice_index_or (slice_set locals x v) y Nil)) xs
+refer_aside : (locals : List Value) (x : ℕ) (v : Value) (xs : List ℕ)
+    → AreOthers x xs → AllByRecursion (λ y. IsReference (slice_index_or locals y Nil)) xs
+    → AllByRecursion (λ y. IsReference (slice_index_or (slice_set locals x v) y Nil)) xs
 refer_aside locals x v [] h k = tt
 refer_aside locals x v (y ∷ xs) h k =
     (subst IsReference (sym (set_aside locals x y v h.0)) k.0, refer_aside locals x v xs h.1 k.1)
 
-references_aside : (locals : List Value) (x : ℕ) (v : Value) (xs : List ℕ) (o : ℕ) → AreOthers x xs → references (slice_set locals x v) xs o ≡ references locals xs o
+references_aside : (locals : List Value) (x : ℕ) (v : Value) (xs : List ℕ) (o : ℕ)
+    → AreOthers x xs → references (slice_set locals x v) xs o ≡ references locals xs o
 references_aside locals x v [] o h = refl
 references_aside locals x v (y ∷ xs) o h =
-    ap (λ w. refers w o + references (slice_set locals x v) xs o) (set_aside locals x y v h.0) ∙ ap (λ n. refers (slice_index_or locals y Nil) o + n) (references_aside locals x v xs o h.1)
+    ap (λ w. refers w o + references (slice_set locals x v) xs o) (set_aside locals x y v h.0)
+    ∙ ap (λ n. refers (slice_index_or locals y Nil) o + n) (references_aside locals x v xs o h.1)
 
-pub open_aside : (locals : List Value) (x : ℕ) (v : Value) (xs : List ℕ) (holds : ℕ → ℕ) → AreOthers x xs → HoldsOpen xs locals holds → HoldsOpen xs (slice_set locals x v) holds
+pub open_aside : (locals : List Value) (x : ℕ) (v : Value) (xs : List ℕ) (holds : ℕ → ℕ)
+    → AreOthers x xs → HoldsOpen xs locals holds → HoldsOpen xs (slice_set locals x v) holds
 open_aside locals x v xs holds h k =
     record { refer = refer_aside locals x v xs h k.refer; held = λ o. let e = references_aside locals x v xs o h in let l = k.held o in omega (arith, e, l) }
 
@@ -177,13 +186,14 @@ module _ (s : ThreadState) (left : Left) (kept : IsKept left s.locals (holds_of 
   object_kept (Ref o) f h = h o
   object_kept v f h = tt
 
-  owner_kept : (o : ℕ) (f : Fault) (c : Call) → IsReadyFor s c left → Keeps (owner_only s o f (Calls c))
+  owner_kept : (o : ℕ) (f : Fault) (c : MonitorCall) → IsReadyFor s c left → Keeps (owner_only s o f (Calls c))
   owner_kept o f c h = either (nat_le 1 (holds_of s o)) (Calls c) (faults s f) h tt
 
-  slot_kept : (p : ProgramText) (o k : ℕ) (c : Call) → IsReadyFor s c left → Keeps (on_slot p s o k c)
+  slot_kept : (p : ProgramText) (o k : ℕ) (c : MonitorCall) → IsReadyFor s c left → Keeps (on_slot p s o k c)
   slot_kept p o k c h = either (nat_lt k (slots_of p o)) (owner_only s o Unguarded (Calls c)) (faults s Range) (owner_kept o Unguarded c h) tt
 
-  plain_kept : (p : ProgramText) (c : Code) → IsPlain c → AllByRecursion (λ x. assigns x c ≡ false) (open_in left) → (is_end c ≡ true → open_in left ≡ []) → Keeps (step_of p s c)
+  plain_kept : (p : ProgramText) (c : Code) → IsPlain c → AllByRecursion (λ x. assigns x c ≡ false) (open_in left)
+      → (is_end c ≡ true → open_in left ≡ []) → Keeps (step_of p s c)
   plain_kept p (instr.Set x v) i h e = sets_kept x (Int v) h
   plain_kept p (instr.Add x y z) i h e = combines_kept x (λ a b. a +ℤ b) (local s y) (local s z) h
   plain_kept p (instr.Sub x y z) i h e = combines_kept x (λ a b. a -ℤ b) (local s y) (local s z) h
@@ -193,15 +203,19 @@ module _ (s : ThreadState) (left : Left) (kept : IsKept left s.locals (holds_of 
   plain_kept p (instr.Enter x) i h e = absurd i
   plain_kept p (instr.Exit x) i h e = absurd i
   plain_kept p (instr.Wait x) i h e =
-      object_kept (local s x) (λ o. owner_only s o IllegalMonitorState (Calls (call.Wait o))) (λ o. owner_kept o IllegalMonitorState (call.Wait o) (record { spares = tt; kept = kept }))
+      object_kept (local s x) (λ o. owner_only s o IllegalMonitorState (Calls (call.Wait o)))
+      (λ o. owner_kept o IllegalMonitorState (call.Wait o) (record { spares = tt; kept = kept }))
   plain_kept p (instr.Notify x) i h e =
-      object_kept (local s x) (λ o. owner_only s o IllegalMonitorState (Calls (call.Notify o))) (λ o. owner_kept o IllegalMonitorState (call.Notify o) (record { spares = tt; kept = kept }))
+      object_kept (local s x) (λ o. owner_only s o IllegalMonitorState (Calls (call.Notify o)))
+      (λ o. owner_kept o IllegalMonitorState (call.Notify o) (record { spares = tt; kept = kept }))
   plain_kept p (instr.NotifyAll x) i h e =
-      object_kept (local s x) (λ o. owner_only s o IllegalMonitorState (Calls (call.NotifyAll o))) (λ o. owner_kept o IllegalMonitorState (call.NotifyAll o) (record { spares = tt; kept = kept }))
+      object_kept (local s x) (λ o. owner_only s o IllegalMonitorState (Calls (call.NotifyAll o)))
+      (λ o. owner_kept o IllegalMonitorState (call.NotifyAll o) (record { spares = tt; kept = kept }))
   plain_kept p (instr.Get x y k) i h e =
       object_kept (local s y) (λ o. on_slot p s o k (call.Get x o k)) (λ o. slot_kept p o k (call.Get x o k) (record { spares = h; kept = kept }))
   plain_kept p (instr.Put y k x) i h e =
-      object_kept (local s y) (λ o. on_slot p s o k (call.Put o k (local s x))) (λ o. slot_kept p o k (call.Put o k (local s x)) (record { spares = tt; kept = kept }))
+      object_kept (local s y) (λ o. on_slot p s o k (call.Put o k (local s x)))
+      (λ o. slot_kept p o k (call.Put o k (local s x)) (record { spares = tt; kept = kept }))
   plain_kept p (instr.Hash x y) i h e =
       object_kept (local s y) (λ o. Calls (call.Hash x o)) (λ o. record { spares = h; kept = kept })
   plain_kept p (instr.New x c) i h e =
@@ -228,7 +242,8 @@ exit_calls p s x xs h = go (local s x) refl h.refer.0
         let own : refers (local s x) o ≡ 1 = ap (λ v. refers v o) e ∙ ap (λ (b : Bool). if b then 1 else 0) (eq-eqb o o refl) in
         omega (arith, own, h.held o)
 
-    owner : (o : ℕ) (b : Bool) → nat_le 1 (holds_of s o) ≡ b → 1 ≤ holds_of s o → (if b then Calls (call.Exit o) else faults s IllegalMonitorState) ≡ Calls (call.Exit o)
+    owner : (o : ℕ) (b : Bool) → nat_le 1 (holds_of s o) ≡ b → 1 ≤ holds_of s o
+        → (if b then Calls (call.Exit o) else faults s IllegalMonitorState) ≡ Calls (call.Exit o)
     owner o true e k = refl
     owner o false e k = absurd (omega (arith, leb-false 1 (holds_of s o) e))
 
@@ -242,7 +257,8 @@ exit_calls p s x xs h = go (local s x) refl h.refer.0
     }
 
 -- after an exit the others are held
-exit_kept : (s : ThreadState) (x o : ℕ) (left : Left) → local s x ≡ Ref o → KeepsOpen left → HoldsOpen (x ∷ open_in left) s.locals (holds_of s) → IsReadyFor s (call.Exit o) left
+exit_kept : (s : ThreadState) (x o : ℕ) (left : Left) → local s x ≡ Ref o → KeepsOpen left
+    → HoldsOpen (x ∷ open_in left) s.locals (holds_of s) → IsReadyFor s (call.Exit o) left
 exit_kept s x o left e keeps h =
     record {
       spares = tt;
@@ -256,7 +272,8 @@ exit_kept s x o left e keeps h =
     }
 
 -- an enter opens a `sync`
-enter_kept : (p : ProgramText) (s : ThreadState) (x : ℕ) (b : Statements) (left : Left) → ArePlain b → IsGuarded (x ∷ open_in left) b → IsKept left s.locals (holds_of s) → StepKept s (then_left (Runs b (Exits x left)) (step_of p s (instr.Enter x)))
+enter_kept : (p : ProgramText) (s : ThreadState) (x : ℕ) (b : Statements) (left : Left) → ArePlain b → IsGuarded (x ∷ open_in left) b
+    → IsKept left s.locals (holds_of s) → StepKept s (then_left (Runs b (Exits x left)) (step_of p s (instr.Enter x)))
 enter_kept p s x b left plain keeps kept = go (local s x) refl
   where
     ready : (o : ℕ) → local s x ≡ Ref o → IsReadyFor s (call.Enter o) (Runs b (Exits x left))
@@ -266,19 +283,22 @@ enter_kept p s x b left plain keeps kept = go (local s x) refl
         keeps = (plain, keeps, kept.keeps);
         opened = record {
           refer = (subst IsReference (sym e) tt, kept.opened.refer);
-          held = λ k. let own : refers (local s x) k ≡ (if o == k then 1 else 0) = ap (λ v. refers v k) e in let l = kept.opened.held k in omega (arith, own, l);
+          held = λ k. let own : refers (local s x) k ≡ (if o == k then 1 else 0) = ap (λ v. refers v k) e in
+              let l = kept.opened.held k in omega (arith, own, l);
         };
       };
     }
 
-    room : (o : ℕ) → local s x ≡ Ref o → (holds : Bool) → StepKept s (then_left (Runs b (Exits x left)) (if holds then Calls (call.Enter o) else faults s TooDeep))
+    room : (o : ℕ) → local s x ≡ Ref o → (holds : Bool)
+        → StepKept s (then_left (Runs b (Exits x left)) (if holds then Calls (call.Enter o) else faults s TooDeep))
     room o e true = ready o e
     room o e false = tt
 
     go : (v : Value) → local s x ≡ v → StepKept s (then_left (Runs b (Exits x left)) (on_object s (local s x) (enters s)))
     go Nil e = subst (λ (v : Value). StepKept s (then_left (Runs b (Exits x left)) (on_object s v (enters s)))) (sym e) tt
     go (Int z) e = subst (λ (v : Value). StepKept s (then_left (Runs b (Exits x left)) (on_object s v (enters s)))) (sym e) tt
-    go (Ref o) e = subst (λ (v : Value). StepKept s (then_left (Runs b (Exits x left)) (on_object s v (enters s)))) (sym e) (room o e (nat_lt (sum s.holds) most_holds))
+    go (Ref o) e = subst (λ (v : Value). StepKept s (then_left (Runs b (Exits x left)) (on_object s v (enters s))))
+        (sym e) (room o e (nat_lt (sum s.holds) most_holds))
 
 -- a test changes nothing
 module _ (s : ThreadState) (held missed : Left) (h : IsKept held s.locals (holds_of s)) (m : IsKept missed s.locals (holds_of s)) where
@@ -303,9 +323,11 @@ unit_kept p s (Runs (Plain c r) left) k =
 unit_kept p s (Runs (Sync x b r) left) k =
     enter_kept p s x b (Runs r left) k.keeps.0.0 k.keeps.1.0 (record { keeps = (k.keeps.0.1, k.keeps.1.1, k.keeps.2); opened = k.opened })
 unit_kept p s (Runs (If t b c r) left) k =
-    tests_kept s _ _ (record { keeps = (k.keeps.0.0, k.keeps.1.0, (k.keeps.0.2, k.keeps.1.2, k.keeps.2)); opened = k.opened }) (record { keeps = (k.keeps.0.1, k.keeps.1.1, (k.keeps.0.2, k.keeps.1.2, k.keeps.2)); opened = k.opened }) t.equal (local s t.x) (local s t.y)
+    tests_kept s _ _ (record { keeps = (k.keeps.0.0, k.keeps.1.0, (k.keeps.0.2, k.keeps.1.2, k.keeps.2)); opened = k.opened })
+    (record { keeps = (k.keeps.0.1, k.keeps.1.1, (k.keeps.0.2, k.keeps.1.2, k.keeps.2)); opened = k.opened }) t.equal (local s t.x) (local s t.y)
 unit_kept p s (Runs (While t b r) left) k =
-    tests_kept s _ _ (record { keeps = (k.keeps.0.0, k.keeps.1.0, k.keeps); opened = k.opened }) (record { keeps = (k.keeps.0.1, k.keeps.1.1, k.keeps.2); opened = k.opened }) t.equal (local s t.x) (local s t.y)
+    tests_kept s _ _ (record { keeps = (k.keeps.0.0, k.keeps.1.0, k.keeps); opened = k.opened })
+    (record { keeps = (k.keeps.0.1, k.keeps.1.1, k.keeps.2); opened = k.opened }) t.equal (local s t.x) (local s t.y)
 unit_kept p s (Exits x left) k =
     let exit = exit_calls p s x (open_in left) k.opened in
     subst (λ (a : Step). StepKept s (then_left left a)) (sym exit.calls) (exit_kept s x exit.object left exit.refers k.keeps k.opened)

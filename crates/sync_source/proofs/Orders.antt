@@ -23,7 +23,9 @@ insert_placed : (f : ℕ → ℕ) (x : ℕ × Logged) (ys : List (ℕ × Logged)
 insert_placed f x [] = refl
 insert_placed f x (y ∷ ys) = go (is_before x y) (insert_placed f x ys)
   where
-    go : (b : Bool) → insert_ordered (placed f x) (map (placed f) ys) ≡ map (placed f) (insert_ordered x ys) → (if b then placed f x ∷ placed f y ∷ map (placed f) ys else placed f y ∷ insert_ordered (placed f x) (map (placed f) ys)) ≡ map (placed f) (if b then x ∷ y ∷ ys else y ∷ insert_ordered x ys)
+    go : (b : Bool) → insert_ordered (placed f x) (map (placed f) ys) ≡ map (placed f) (insert_ordered x ys)
+        → (if b then placed f x ∷ placed f y ∷ map (placed f) ys else placed f y ∷ insert_ordered (placed f x) (map (placed f) ys))
+        ≡ map (placed f) (if b then x ∷ y ∷ ys else y ∷ insert_ordered x ys)
     go true ih = refl
     go false ih = ap (λ zs. placed f y ∷ zs) ih
 
@@ -32,7 +34,8 @@ ordered_placed f [] = refl
 ordered_placed f (x ∷ xs) =
     ap (λ ys. insert_ordered (placed f x) ys) (ordered_placed f xs) ∙ insert_placed f x (ordered xs)
 
-log_placed : (f : ℕ → ℕ) (t : ℕ) (log : List Logged) (xs ys : List (ℕ × Logged)) → xs ≡ map (placed f) ys → map (λ l. (t, l)) (map (indexed (f t)) log) ++ xs ≡ map (placed f) (map (λ l. (t, l)) log ++ ys)
+log_placed : (f : ℕ → ℕ) (t : ℕ) (log : List Logged) (xs ys : List (ℕ × Logged)) → xs ≡ map (placed f) ys
+    → map (λ l. (t, l)) (map (indexed (f t)) log) ++ xs ≡ map (placed f) (map (λ l. (t, l)) log ++ ys)
 log_placed f t [] xs ys e = e
 log_placed f t (l ∷ log) xs ys e = ap (λ zs. (t, indexed (f t) l) ∷ zs) (log_placed f t log xs ys e)
 
@@ -88,9 +91,11 @@ take_indexed a t i e = refl
 all_placed : (f : ℕ → ℕ) (xs : List (ℕ × Logged)) (a : SyncMachine) → sync_after_all a (map (placed f) xs) ≡ sync_after_all a xs
 all_placed f [] a = refl
 all_placed f (x ∷ xs) a =
-    ap (λ o. option_and_then (λ next. sync_after_all next (map (placed f) xs)) o) (take_indexed a x.0 (f x.0) x.1.entry) ∙ go (λ b. all_placed f xs b) (sync_take a x.0 x.1.entry)
+    ap (λ o. option_and_then (λ next. sync_after_all next (map (placed f) xs)) o) (take_indexed a x.0 (f x.0) x.1.entry)
+    ∙ go (λ b. all_placed f xs b) (sync_take a x.0 x.1.entry)
   where
-    go : ((b : SyncMachine) → sync_after_all b (map (placed f) xs) ≡ sync_after_all b xs) → (o : Option SyncMachine) → option_and_then (λ next. sync_after_all next (map (placed f) xs)) o ≡ option_and_then (λ next. sync_after_all next xs) o
+    go : ((b : SyncMachine) → sync_after_all b (map (placed f) xs) ≡ sync_after_all b xs) → (o : Option SyncMachine)
+        → option_and_then (λ next. sync_after_all next (map (placed f) xs)) o ≡ option_and_then (λ next. sync_after_all next xs) o
     go ih None = refl
     go ih (Some b) = ih b
 
@@ -99,6 +104,7 @@ pub after_unindexed : (a : SyncMachine) (logs : List (List Logged)) → sync_aft
 after_unindexed a logs =
     ap (λ x. sync_after_all a (order x)) (sym (unindexed_is 0 logs)) ∙ ap (sync_after_all a) (order_placed (λ u. 0) logs) ∙ all_placed (λ u. 0) (order logs) a
 
-pub same_after : (a : SyncMachine) (logs others : List (List Logged)) → unindexed logs ≡ unindexed others → sync_after_all a (order logs) ≡ sync_after_all a (order others)
+pub same_after : (a : SyncMachine) (logs others : List (List Logged))
+    → unindexed logs ≡ unindexed others → sync_after_all a (order logs) ≡ sync_after_all a (order others)
 same_after a logs others e =
     sym (after_unindexed a logs) ∙ ap (λ x. sync_after_all a (order x)) e ∙ after_unindexed a others

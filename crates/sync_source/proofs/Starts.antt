@@ -11,12 +11,12 @@ use Rattle.sync_source.specs.inner.Alike.{ArePlain}
 use Rattle.sync_source.specs.SyncThread.{Over, Runs, sync_run}
 use Rattle.sync_source.specs.SyncMachine.{without_blocks, world_of, first_thread, first_sync_state, new_sync_machine}
 use Rattle.sync_source.specs.Compiled.{size, code_at, thread_code, compiled}
-use Rattle.sync_source.specs.inner.Alike.{Stands, AreAlike, OptionAlike, MachinesAlike}
+use Rattle.sync_source.specs.inner.Alike.{StandsInCode, AreAlike, OptionAlike, MachinesAlike}
 use Rattle.sync_source.proofs.Placed.{code_size, has_itself, ends_after}
 use Rattle.sync_source.proofs.Makes.{same_count, same_made_slots, same_total, same_shape}
 use Rattle.sync_source.proofs.Units.{run_alike}
 
-pub stands_first : (b : Statements) → ArePlain b → Stands (code_at 0 b) 0 (Runs b Over)
+pub stands_first : (b : Statements) → ArePlain b → StandsInCode (code_at 0 b) 0 (Runs b Over)
 stands_first b h =
     let k = code_size b 0 in
     let e : length (code_at 0 b) ≡ 0 + size b = omega (arith, k) in
@@ -39,12 +39,16 @@ module _ (decimal : ℕ → List ℕ) (p : SyncText) (fuel : ℕ) where
       subst (λ (s : ThreadState). AreAlike code (sync_run (world_of p) fuel (Runs t.body Over) s) state)
       (sym (same_first (length t.locals))) (runs (stands_first t.body h))
 
-  starts_in : (ts : List SyncThreadText) → AllByRecursion (λ t. ArePlain t.body) ts → (t : ℕ) → OptionAlike (slice_index_or (map (λ d. d.code) (map (thread_code decimal) ts)) t []) (slice_get (map (λ x. first_sync_state (world_of p) x fuel) ts) t) (slice_get (map (λ x. first_state (compiled decimal p) x fuel) (map (thread_code decimal) ts)) t)
+  starts_in : (ts : List SyncThreadText) → AllByRecursion (λ t. ArePlain t.body) ts → (t : ℕ)
+      → OptionAlike (slice_index_or (map (λ d. d.code) (map (thread_code decimal) ts)) t [])
+      (slice_get (map (λ x. first_sync_state (world_of p) x fuel) ts) t)
+      (slice_get (map (λ x. first_state (compiled decimal p) x fuel) (map (thread_code decimal) ts)) t)
   starts_in [] h t = tt
   starts_in (x ∷ ts) h zero = first_alike x h.0
   starts_in (x ∷ ts) h (suc t) = starts_in ts h.1 t
 
-  pub starts_alike : AllByRecursion (λ t. ArePlain t.body) p.threads → MachinesAlike (map without_blocks p.threads) (new_sync_machine p fuel) (new_machine (compiled decimal p) fuel)
+  pub starts_alike : AllByRecursion (λ t. ArePlain t.body) p.threads
+      → MachinesAlike (map without_blocks p.threads) (new_sync_machine p fuel) (new_machine (compiled decimal p) fuel)
   starts_alike h = record {
     world = refl;
     slots = sym (same_made_slots decimal p);

@@ -14,10 +14,11 @@ use Rattle.object_program.specs.declared.program.ObjectDef.{ObjectDef}
 use Rattle.object_program.specs.declared.program.ThreadDef.{ThreadDef}
 use Rattle.object_program.specs.declared.program.Code.{Code}
 use Rattle.object_program.specs.declared.program.Code.TheVariants as instr
-use Rattle.object_program.specs.Program.{ProgramText, declared_total, slots_of_class, class_of, most_in, slots_of}
-use Rattle.plain_machine.specs.declared.call.Call.{Call}
-use Rattle.plain_machine.specs.declared.call.Call.TheVariants as call
-use Rattle.plain_machine.specs.Thread.{ThreadState, Step, Goes, Calls, Stops, sets, faults, computes, combines, on_object, owner_only, on_slot, size_of, first_of, element, is_element, dumps_next, makes_next, step_of, local, holds_of}
+use Rattle.object_program.specs.Program.{ProgramText, declared_total, slots_of_class, class_in_program, most_in, slots_of}
+use Rattle.plain_machine.specs.declared.monitor_call.MonitorCall.{MonitorCall}
+use Rattle.plain_machine.specs.declared.monitor_call.MonitorCall.TheVariants as call
+use Rattle.plain_machine.specs.Thread.{ThreadState, Step, Goes, Calls, Stops, sets, faults, computes, combines, on_object, owner_only}
+use Rattle.plain_machine.specs.Thread.{on_slot, size_of, first_of, element, is_element, dumps_next, makes_next, step_of, local, holds_of}
 use Rattle.sync_source.specs.Valid.{IsPlain}
 use Rattle.sync_source.specs.SyncThread.{unplaced}
 use Rattle.sync_source.specs.inner.Alike.{erased}
@@ -57,7 +58,7 @@ module _ (s : ThreadState) where
   on_object_alike (Ref o) f g h = h o
   on_object_alike v f g h = (refl, refl)
 
-  owner_alike : (o : ℕ) (f : Fault) (c : Call) → StepsAlike s (owner_only s o f (Calls c)) (owner_only (erased s) o f (Calls c))
+  owner_alike : (o : ℕ) (f : Fault) (c : MonitorCall) → StepsAlike s (owner_only s o f (Calls c)) (owner_only (erased s) o f (Calls c))
   owner_alike o f c = either (nat_le 1 (holds_of s o)) _ _ _ _ refl (faults_alike f)
 
   element_alike : (x : ℕ) (d : Option ObjectDef) (v : Value) → StepsAlike s (element s x d v) (element (erased s) x d v)
@@ -87,9 +88,9 @@ module _ (s : ThreadState) where
 
     -- an object that isn't declared has as many slots by the one's threads as by the other's
     same_slots : (o : ℕ) → slots_of p o ≡ slots_of q o
-    same_slots o = ap (λ (n : ℕ). if nat_lt o (declared_total p) then slots_of_class classes (class_of p o) else n) same
+    same_slots o = ap (λ (n : ℕ). if nat_lt o (declared_total p) then slots_of_class classes (class_in_program p o) else n) same
 
-    slot_alike : (o k : ℕ) (c : Call) → StepsAlike s (on_slot p s o k c) (on_slot q (erased s) o k c)
+    slot_alike : (o k : ℕ) (c : MonitorCall) → StepsAlike s (on_slot p s o k c) (on_slot q (erased s) o k c)
     slot_alike o k c =
         let within : ℕ → Step = λ n. if nat_lt k n then owner_only (erased s) o Unguarded (Calls c) else faults (erased s) Range in
         subst (λ (n : ℕ). StepsAlike s (on_slot p s o k c) (within n)) (same_slots o)

@@ -1,5 +1,6 @@
 -- The code of a thread is one that a program may have: its operands, its targets and its `end`.
-use Rattle.std.proofs.Common.{◌≡◌, ℕ, zero, suc, ◌+◌, ◌<◌, ◌≤◌, ◌==◌, ◌≢◌, ◌⊎◌, inl, inr, Bool, true, false, if◌then◌else◌, List, [], ◌∷◌, ◌++◌, length, map, filter, refl, sym, ap, ◌∙◌, subst, arith}
+use Rattle.std.proofs.Common.{◌≡◌, ℕ, zero, suc, ◌+◌, ◌<◌, ◌≤◌, ◌==◌, ◌≢◌, ◌⊎◌, inl, inr, Bool, true, false, if◌then◌else◌}
+use Rattle.std.proofs.Common.{List, [], ◌∷◌, ◌++◌, length, map, filter, refl, sym, ap, ◌∙◌, subst, arith}
 use Rattle.std.specs.List.{AllByRecursion, list_any}
 use Rattle.std.proofs.lemmas.Bool.{cases_eq, eqb-true, eq-eqb, false≢true, or_left, or_right}
 use Rattle.plain_monitor.proofs.Lists.{all_append, all_weaker}
@@ -46,14 +47,30 @@ module _ (classes locals objects m : ℕ) where
   goes_within : (b : Statements) (at : ℕ) → AreStatements classes locals objects b → at + size b + 1 ≤ m → AllByRecursion (Within m) (code_at at b)
   goes_within Nothing at h k = tt
   goes_within (Plain c r) at h k = (plain_stays m c h.0, goes_within r (at + 1) h.2 (omega arith))
-  goes_within (Sync x b r) at h k =
-      (none, all_append (Within m) (code_at (at + 1) b) _ (goes_within b (at + 1) h.1 (omega arith)) (none, goes_within r (at + 1 + size b + 1) h.2 (omega arith)))
+  goes_within (Sync x b r) at h k = (
+    none,
+    all_append (Within m) (code_at (at + 1) b) _ (goes_within b (at + 1) h.1 (omega arith)) (
+      none,
+      goes_within r (at + 1 + size b + 1) h.2 (omega arith),
+    ),
+  )
   goes_within (If t b c r) at h k =
-      let to = at + 1 + size c + 1 in
-      (test_within m to t (omega arith), all_append (Within m) (code_at (at + 1) c) _ (goes_within c (at + 1) h.2 (omega arith)) (jump_within m (to + size b) (omega arith), all_append (Within m) (code_at to b) _ (goes_within b to h.1 (omega arith)) (goes_within r (to + size b) h.3 (omega arith))))
+      let to = at + 1 + size c + 1 in (
+        test_within m to t (omega arith),
+        all_append (Within m) (code_at (at + 1) c) _ (goes_within c (at + 1) h.2 (omega arith)) (
+          jump_within m (to + size b) (omega arith),
+          all_append (Within m) (code_at to b) _ (goes_within b to h.1 (omega arith)) (goes_within r (to + size b) h.3 (omega arith)),
+        ),
+      )
   goes_within (While t b r) at h k =
-      let to = at + 1 + 1 in
-      (test_within m to t (omega arith), (jump_within m (to + size b + 1) (omega arith), all_append (Within m) (code_at to b) _ (goes_within b to h.1 (omega arith)) (jump_within m at (omega arith), goes_within r (to + size b + 1) h.2 (omega arith))))
+      let to = at + 1 + 1 in (
+        test_within m to t (omega arith),
+        (
+          jump_within m (to + size b + 1) (omega arith),
+          all_append (Within m) (code_at to b) _ (goes_within b to h.1 (omega arith))
+              (jump_within m at (omega arith), goes_within r (to + size b + 1) h.2 (omega arith)),
+        ),
+      )
 
   some_left : (b : Statements) → EndsWell b → 1 ≤ size b
   some_left Nothing h = absurd h
@@ -71,16 +88,32 @@ module _ (classes locals objects m : ℕ) where
   stays_within (Plain c (If t b d r)) at h e k = (plain_stays m c h.0, stays_within (If t b d r) (at + 1) h.2 e.1 (omega arith))
   stays_within (Plain c (While t b r)) at h e k = (plain_stays m c h.0, stays_within (While t b r) (at + 1) h.2 e.1 (omega arith))
   stays_within (Sync x b r) at h e k =
-      let some = some_left r e.1 in
-      (none, all_append (Within m) (code_at (at + 1) b) _ (goes_within b (at + 1) h.1 (omega arith)) (none, stays_within r (at + 1 + size b + 1) h.2 e.1 (omega arith)))
+      let some = some_left r e.1 in (
+        none,
+        all_append (Within m) (code_at (at + 1) b) _ (goes_within b (at + 1) h.1 (omega arith)) (
+          none,
+          stays_within r (at + 1 + size b + 1) h.2 e.1 (omega arith),
+        ),
+      )
   stays_within (If t b c r) at h e k =
       let to = at + 1 + size c + 1 in
-      let some = some_left r e.2 in
-      (test_within m to t (omega arith), all_append (Within m) (code_at (at + 1) c) _ (goes_within c (at + 1) h.2 (omega arith)) (jump_within m (to + size b) (omega arith), all_append (Within m) (code_at to b) _ (goes_within b to h.1 (omega arith)) (stays_within r (to + size b) h.3 e.2 (omega arith))))
+      let some = some_left r e.2 in (
+        test_within m to t (omega arith),
+        all_append (Within m) (code_at (at + 1) c) _ (goes_within c (at + 1) h.2 (omega arith)) (
+          jump_within m (to + size b) (omega arith),
+          all_append (Within m) (code_at to b) _ (goes_within b to h.1 (omega arith)) (stays_within r (to + size b) h.3 e.2 (omega arith)),
+        ),
+      )
   stays_within (While t b r) at h e k =
       let to = at + 1 + 1 in
-      let some = some_left r e.1 in
-      (test_within m to t (omega arith), (jump_within m (to + size b + 1) (omega arith), all_append (Within m) (code_at to b) _ (goes_within b to h.1 (omega arith)) (jump_within m at (omega arith), stays_within r (to + size b + 1) h.2 e.1 (omega arith))))
+      let some = some_left r e.1 in (
+        test_within m to t (omega arith),
+        (
+          jump_within m (to + size b + 1) (omega arith),
+          all_append (Within m) (code_at to b) _ (goes_within b to h.1 (omega arith))
+              (jump_within m at (omega arith), stays_within r (to + size b + 1) h.2 e.1 (omega arith)),
+        ),
+      )
 
 -- each target has a label
 module _ (decimal : ℕ → List ℕ) (P : ℕ → Bool) (n : ℕ) where
@@ -98,10 +131,12 @@ module _ (decimal : ℕ → List ℕ) (P : ℕ → Bool) (n : ℕ) where
       xs : List ℕ
       xs = filter P (numbers_from (a + 1) k)
 
-      go : (Has xs → Has xs) → (a + 1 ≤ n → n < a + 1 + k → Has (filter P (numbers_from (a + 1) k))) → (a ≡ n) ⊎ (a ≢ n) → Has (if P a then a ∷ filter P (numbers_from (a + 1) k) else filter P (numbers_from (a + 1) k))
+      go : (Has xs → Has xs) → (a + 1 ≤ n → n < a + 1 + k → Has (filter P (numbers_from (a + 1) k))) → (a ≡ n) ⊎ (a ≢ n)
+          → Has (if P a then a ∷ filter P (numbers_from (a + 1) k) else filter P (numbers_from (a + 1) k))
       go id ih (inl same) =
           let here : P a ≡ true = ap P same ∙ e in
-          subst (λ (b : Bool). Has (if b then a ∷ filter P (numbers_from (a + 1) k) else filter P (numbers_from (a + 1) k))) (sym here) (or_left (a == n) _ (eq-eqb a n same))
+          subst (λ (b : Bool). Has (if b then a ∷ filter P (numbers_from (a + 1) k) else filter P (numbers_from (a + 1) k)))
+          (sym here) (or_left (a == n) _ (eq-eqb a n same))
       go id ih (inr other) = with_more (P a) a _ (ih (omega (arith, other)) (omega arith))
 
 -- an instruction of the code goes where some instruction of the code goes
@@ -138,38 +173,57 @@ module _ (classes locals objects : ℕ) where
   have_operands : (b : Statements) (at : ℕ) → AreStatements classes locals objects b → AllByRecursion (HasOperands classes locals objects) (code_at at b)
   have_operands Nothing at h = tt
   have_operands (Plain c r) at h = (plain_operands c h.0 h.1, have_operands r (at + 1) h.2)
-  have_operands (Sync x b r) at h =
-      (h.0, all_append (HasOperands classes locals objects) (code_at (at + 1) b) _ (have_operands b (at + 1) h.1) (h.0, have_operands r (at + 1 + size b + 1) h.2))
+  have_operands (Sync x b r) at h = (
+    h.0,
+    all_append (HasOperands classes locals objects) (code_at (at + 1) b) _
+        (have_operands b (at + 1) h.1) (h.0, have_operands r (at + 1 + size b + 1) h.2),
+  )
   have_operands (If t b c r) at h =
-      let to = at + 1 + size c + 1 in
-      (test_operands t to h.0, all_append (HasOperands classes locals objects) (code_at (at + 1) c) _ (have_operands c (at + 1) h.2) (tt, all_append (HasOperands classes locals objects) (code_at to b) _ (have_operands b to h.1) (have_operands r (to + size b) h.3)))
+      let to = at + 1 + size c + 1 in (
+        test_operands t to h.0,
+        all_append (HasOperands classes locals objects) (code_at (at + 1) c) _ (have_operands c (at + 1) h.2) (
+          tt,
+          all_append (HasOperands classes locals objects) (code_at to b) _ (have_operands b to h.1) (have_operands r (to + size b) h.3),
+        ),
+      )
   have_operands (While t b r) at h =
-      let to = at + 1 + 1 in
-      (test_operands t to h.0, (tt, all_append (HasOperands classes locals objects) (code_at to b) _ (have_operands b to h.1) (tt, have_operands r (to + size b + 1) h.2)))
+      let to = at + 1 + 1 in (
+        test_operands t to h.0,
+        (
+          tt,
+          all_append (HasOperands classes locals objects) (code_at to b) _ (have_operands b to h.1) (tt, have_operands r (to + size b + 1) h.2),
+        ),
+      )
 
   module _ (decimal : ℕ → List ℕ) (code : List Code) where
     abbrev labels : List LabelDef
     labels = map (label decimal) (targets code)
 
-    target_there : (c : Code) (n : ℕ) → goes_to n c ≡ true → Within (length code) c × ((k : ℕ) → goes_to k c ≡ true → list_any (goes_to k) code ≡ true) → is_target labels n ≡ true
+    target_there : (c : Code) (n : ℕ) → goes_to n c ≡ true
+        → Within (length code) c × ((k : ℕ) → goes_to k c ≡ true → list_any (goes_to k) code ≡ true) → is_target labels n ≡ true
     target_there c n e h =
         let w = h.0 n e in kept decimal (λ k. list_any (goes_to k) code) n (length code) 1 w.0 (omega (arith, w.1)) (h.1 n e)
 
-    is_instruction : (c : Code) → HasOperands classes locals objects c → Within (length code) c × ((k : ℕ) → goes_to k c ≡ true → list_any (goes_to k) code ≡ true) → IsInstruction classes locals objects labels c
+    is_instruction : (c : Code) → HasOperands classes locals objects c
+        → Within (length code) c × ((k : ℕ) → goes_to k c ≡ true → list_any (goes_to k) code ≡ true) → IsInstruction classes locals objects labels c
     is_instruction (instr.Jump l) h k = target_there (instr.Jump l) l (eq-eqb l l refl) k
     is_instruction (instr.Jlt x y l) h k = (h.0, h.1, target_there (instr.Jlt x y l) l (eq-eqb l l refl) k)
     is_instruction (instr.Jeq x y l) h k = (h.0, h.1, target_there (instr.Jeq x y l) l (eq-eqb l l refl) k)
     is_instruction c h k = h
 
   -- each instruction of the code is one that a thread may have
-  pub are_instructions : (decimal : ℕ → List ℕ) (b : Statements) → AreStatements classes locals objects b → EndsWell b → AllByRecursion (IsInstruction classes locals objects (map (label decimal) (targets (code_at 0 b)))) (code_at 0 b)
+  pub are_instructions : (decimal : ℕ → List ℕ) (b : Statements) → AreStatements classes locals objects b → EndsWell b
+      → AllByRecursion (IsInstruction classes locals objects (map (label decimal) (targets (code_at 0 b)))) (code_at 0 b)
   are_instructions decimal b h e =
       let code = code_at 0 b in
       let n = code_size b 0 in
       let within = stays_within classes locals objects (length code) b 0 h e (omega (arith, n)) in
-      all_of_both (all_both (HasOperands classes locals objects) _ code (have_operands b 0 h) (all_both (Within (length code)) _ code within (goes_somewhere code)))
+      all_of_both (all_both (HasOperands classes locals objects) _ code (have_operands b 0 h)
+      (all_both (Within (length code)) _ code within (goes_somewhere code)))
     where
-      all_of_both : AllByRecursion (λ c. HasOperands classes locals objects c × (Within (length (code_at 0 b)) c × ((n : ℕ) → goes_to n c ≡ true → list_any (goes_to n) (code_at 0 b) ≡ true))) (code_at 0 b) → AllByRecursion (IsInstruction classes locals objects (map (label decimal) (targets (code_at 0 b)))) (code_at 0 b)
+      all_of_both : AllByRecursion (λ c. HasOperands classes locals objects c
+          × (Within (length (code_at 0 b)) c × ((n : ℕ) → goes_to n c ≡ true → list_any (goes_to n) (code_at 0 b) ≡ true))) (code_at 0 b)
+          → AllByRecursion (IsInstruction classes locals objects (map (label decimal) (targets (code_at 0 b)))) (code_at 0 b)
       all_of_both k = all_weaker _ _ (λ c x. is_instruction decimal (code_at 0 b) c x.0 x.1) (code_at 0 b) k
 
 -- the code ends once
@@ -200,8 +254,13 @@ no_end (Plain c r) at h = (not_end c h.0, no_end r (at + 1) h.1)
 no_end (Sync x b r) at h =
     (not_end _ refl, all_append NotEnd (code_at (at + 1) b) _ (no_end b (at + 1) h.0) (not_end _ refl, no_end r (at + 1 + size b + 1) h.1))
 no_end (If t b c r) at h =
-    let to = at + 1 + size c + 1 in
-    (not_end _ (test_not_end t to), all_append NotEnd (code_at (at + 1) c) _ (no_end c (at + 1) h.1) (not_end _ refl, all_append NotEnd (code_at to b) _ (no_end b to h.0) (no_end r (to + size b) h.2)))
+    let to = at + 1 + size c + 1 in (
+      not_end _ (test_not_end t to),
+      all_append NotEnd (code_at (at + 1) c) _ (no_end c (at + 1) h.1) (
+        not_end _ refl,
+        all_append NotEnd (code_at to b) _ (no_end b to h.0) (no_end r (to + size b) h.2),
+      ),
+    )
 no_end (While t b r) at h =
     let to = at + 1 + 1 in
     (not_end _ (test_not_end t to), (not_end _ refl, all_append NotEnd (code_at to b) _ (no_end b to h.0) (not_end _ refl, no_end r (to + size b + 1) h.1)))
@@ -214,10 +273,12 @@ ends_once (Plain c (Sync x b r)) at h = ends_cons c (code_at (at + 1) (Sync x b 
 ends_once (Plain c (If t b d r)) at h = ends_cons c (code_at (at + 1) (If t b d r)) (not_end c h.0) (ends_once (If t b d r) (at + 1) h.1)
 ends_once (Plain c (While t b r)) at h = ends_cons c (code_at (at + 1) (While t b r)) (not_end c h.0) (ends_once (While t b r) (at + 1) h.1)
 ends_once (Sync x b r) at h =
-    ends_cons _ _ (not_end _ refl) (ends_append (code_at (at + 1) b) _ (no_end b (at + 1) h.0) (ends_cons _ _ (not_end _ refl) (ends_once r (at + 1 + size b + 1) h.1)))
+    ends_cons _ _ (not_end _ refl)
+    (ends_append (code_at (at + 1) b) _ (no_end b (at + 1) h.0) (ends_cons _ _ (not_end _ refl) (ends_once r (at + 1 + size b + 1) h.1)))
 ends_once (If t b c r) at h =
     let to = at + 1 + size c + 1 in
-    ends_cons _ _ (not_end _ (test_not_end t to)) (ends_append (code_at (at + 1) c) _ (no_end c (at + 1) h.1) (ends_cons _ _ (not_end _ refl) (ends_append (code_at to b) _ (no_end b to h.0) (ends_once r (to + size b) h.2))))
+    ends_cons _ _ (not_end _ (test_not_end t to)) (ends_append (code_at (at + 1) c) _ (no_end c (at + 1) h.1)
+    (ends_cons _ _ (not_end _ refl) (ends_append (code_at to b) _ (no_end b to h.0) (ends_once r (to + size b) h.2))))
 ends_once (While t b r) at h =
     let to = at + 1 + 1 in
     let past = instr.Jump (to + size b + 1 + 1) in
@@ -228,11 +289,13 @@ ends_once (While t b r) at h =
     ends_cons _ (past ∷ (body ++ back ∷ last)) (not_end _ (test_not_end t to)) (ends_cons past (body ++ back ∷ last) (not_end past refl) rest)
 
 -- the targets rise, and each is an instruction
-filter_rises : (decimal : ℕ → List ℕ) (P : ℕ → Bool) (code k a n : ℕ) → n ≤ a → a + k ≤ code + 1 → AreTargets code n (map (label decimal) (filter P (numbers_from a k)))
+filter_rises : (decimal : ℕ → List ℕ) (P : ℕ → Bool) (code k a n : ℕ) → n ≤ a
+    → a + k ≤ code + 1 → AreTargets code n (map (label decimal) (filter P (numbers_from a k)))
 filter_rises decimal P code zero a n h l = tt
 filter_rises decimal P code (suc k) a n h l = go (λ b g. filter_rises decimal P code k (a + 1) b g (omega arith)) (P a)
   where
-    go : ((b : ℕ) → b ≤ a + 1 → AreTargets code b (map (label decimal) (filter P (numbers_from (a + 1) k)))) → (b : Bool) → AreTargets code n (map (label decimal) (if b then a ∷ filter P (numbers_from (a + 1) k) else filter P (numbers_from (a + 1) k)))
+    go : ((b : ℕ) → b ≤ a + 1 → AreTargets code b (map (label decimal) (filter P (numbers_from (a + 1) k)))) → (b : Bool)
+        → AreTargets code n (map (label decimal) (if b then a ∷ filter P (numbers_from (a + 1) k) else filter P (numbers_from (a + 1) k)))
     go ih true = (h, omega arith, ih a (omega arith))
     go ih false = ih n (omega arith)
 

@@ -7,14 +7,14 @@ use Rattle.plain_monitor.specs.declared.entry.Fault.{Fault}
 use Rattle.plain_monitor.specs.declared.entry.Ending.{Ending}
 use Rattle.plain_monitor.specs.declared.entry.Ending.TheVariants as ending
 use Rattle.plain_monitor.specs.declared.entry.Entry.TheVariants.{Trap}
-use Rattle.plain_machine.specs.declared.call.Call.{Call}
-use Rattle.plain_machine.specs.declared.call.Call.TheVariants as call
-use Rattle.plain_machine.specs.declared.call.Mode.{Mode}
-use Rattle.plain_machine.specs.declared.call.Mode.TheVariants.{Calling, Waiting, Unwinding, Ended}
-use Rattle.plain_machine.specs.declared.call.Asked.{Asked}
-use Rattle.plain_machine.specs.declared.call.Asked.TheVariants.{Calls, Resumes, Leaves, Ends}
+use Rattle.plain_machine.specs.declared.monitor_call.MonitorCall.{MonitorCall}
+use Rattle.plain_machine.specs.declared.monitor_call.MonitorCall.TheVariants as call
+use Rattle.plain_machine.specs.declared.monitor_call.Mode.{Mode}
+use Rattle.plain_machine.specs.declared.monitor_call.Mode.TheVariants.{Calling, Waiting, Unwinding, Ended}
+use Rattle.plain_machine.specs.declared.monitor_call.NextEntry.{NextEntry}
+use Rattle.plain_machine.specs.declared.monitor_call.NextEntry.TheVariants.{Calls, Resumes, Leaves, Ends}
 use Rattle.plain_machine.specs.Thread.{ThreadState}
-use Rattle.plain_machine.specs.Asking.{held_from, unwinds, ask_in, is_call, fits, fault_number, behind_entry}
+use Rattle.plain_machine.specs.Asking.{held_from, unwinds, ask_in, is_call, fits, fault_number, after_entry}
 use Rattle.plain_machine.specs.Machine.{PlainMachine, code_of, take}
 use Rattle.machine_laws.proofs.ReachedAsked.{taken}
 
@@ -26,7 +26,7 @@ pub record IsTrapped (m : PlainMachine) (t j : ℕ) (next : PlainMachine) : Type
   pub mode : s.mode ≡ Unwinding (ending.Trap fault j)
   pub after : slice_get next.threads t ≡ Some (record s { mode = Ended (ending.Trap fault j) })
 
-no_call : (c : Call) (f : Fault) (j : ℕ) → is_call c (Trap f j) ≡ false
+no_call : (c : MonitorCall) (f : Fault) (j : ℕ) → is_call c (Trap f j) ≡ false
 no_call (call.Enter o) f j = refl
 no_call (call.Exit o) f j = refl
 no_call (call.Wait o) f j = refl
@@ -40,7 +40,7 @@ no_call (call.Print v) f j = refl
 no_call (call.Dump n) f j = refl
 
 -- what a trap fits
-ends_by : (a : Asked) (f : Fault) (j : ℕ) → fits a (Trap f j) ≡ true → (g : Fault) × (a ≡ Ends (ending.Trap g j))
+ends_by : (a : NextEntry) (f : Fault) (j : ℕ) → fits a (Trap f j) ≡ true → (g : Fault) × (a ≡ Ends (ending.Trap g j))
 ends_by (Calls c) f j h = absurd (false≢true (sym (no_call c f j) ∙ h))
 ends_by (Resumes o) f j h = absurd (false≢true h)
 ends_by (Leaves o) f j h = absurd (false≢true h)
@@ -50,7 +50,7 @@ ends_by (Ends ending.Spent) f j h = absurd (false≢true h)
 ends_by (Ends ending.Done) f j h = absurd (false≢true h)
 
 -- who asks for an end unwinds by it
-unwinds_by : (g e : Ending) (held : Option ℕ) → ◌≡◌ {A = Option Asked} (Some (unwinds g held)) (Some (Ends e)) → g ≡ e
+unwinds_by : (g e : Ending) (held : Option ℕ) → ◌≡◌ {A = Option NextEntry} (Some (unwinds g held)) (Some (Ends e)) → g ≡ e
 unwinds_by g e None h = cc
 unwinds_by g e (Some o) h = cc
 
@@ -69,5 +69,7 @@ trapped m next t f j h =
       fault = e.0;
       at = k.at;
       mode = mode_of k.s (k.s).mode (ending.Trap e.0 j) (k.asks ∙ ap (λ a. Some a) e.1);
-      after = ap (λ (n : PlainMachine). slice_get n.threads t) (sym k.is) ∙ ap (λ a. slice_get (slice_set m.threads t (behind_entry m.program (code_of m.program t) k.s a (Trap f j))) t) e.1 ∙ get_set_same m.threads t k.s _ k.at;
+      after = ap (λ (n : PlainMachine). slice_get n.threads t) (sym k.is)
+          ∙ ap (λ a. slice_get (slice_set m.threads t (after_entry m.program (code_of m.program t) k.s a (Trap f j))) t) e.1
+          ∙ get_set_same m.threads t k.s _ k.at;
     }

@@ -2,8 +2,8 @@
 use Rattle.std.specs.Prelude.{◌≡◌, ℕ, List, map, slice_get, Some, option_and_then, option_map}
 use Rattle.plain_monitor.specs.declared.entry.Logged.{Logged}
 use Rattle.object_program.specs.Program.{ProgramText}
-use Rattle.plain_machine.specs.declared.call.Asked.{Asked}
-use Rattle.plain_machine.specs.declared.call.Asked.TheVariants.{Ends}
+use Rattle.plain_machine.specs.declared.monitor_call.NextEntry.{NextEntry}
+use Rattle.plain_machine.specs.declared.monitor_call.NextEntry.TheVariants.{Ends}
 use Rattle.plain_machine.specs.Asking.{ask}
 use Rattle.plain_machine.specs.Machine.{PlainMachine}
 use Rattle.plain_machine.specs.Legal.{machine_after, IsLegal}
@@ -20,7 +20,7 @@ abbrev pub unindexed : List (List Logged) → List (List Logged)
 unindexed logs = map (λ log. map (indexed 0) log) logs
 
 -- what is asked, without the index of a trap
-abbrev pub unplaced_asked : Asked → Asked
+abbrev pub unplaced_asked : NextEntry → NextEntry
 unplaced_asked (Ends e) = Ends (unplaced e)
 unplaced_asked a = a
 

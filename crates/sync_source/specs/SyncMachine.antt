@@ -12,7 +12,7 @@ use Rattle.plain_monitor.specs.History.{RisesAbove}
 use Rattle.object_program.specs.declared.program.Code.{Code}
 use Rattle.object_program.specs.declared.program.ThreadDef.{ThreadDef}
 use Rattle.object_program.specs.Program.{ProgramText, objects_total, shape_of, numbering_of}
-use Rattle.plain_machine.specs.declared.call.Mode.TheVariants.{Unwinding}
+use Rattle.plain_machine.specs.declared.monitor_call.Mode.TheVariants.{Unwinding}
 use Rattle.plain_machine.specs.Thread.{ThreadState}
 use Rattle.sync_source.specs.Source.{Statements, Nothing, Plain, Sync, If, While, SyncText, SyncThreadText}
 use Rattle.sync_source.specs.SyncThread.{Over, Runs, SyncState, sync_run, sync_thread_after}

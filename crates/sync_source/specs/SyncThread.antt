@@ -12,11 +12,11 @@ use Rattle.plain_monitor.specs.Monitor.{only_if}
 use Rattle.plain_monitor.specs.Objects.{same_value}
 use Rattle.object_program.specs.Program.{ProgramText}
 use Rattle.object_program.specs.declared.program.Code.TheVariants as instr
-use Rattle.plain_machine.specs.declared.call.Call.{Call}
-use Rattle.plain_machine.specs.declared.call.Call.TheVariants as call
-use Rattle.plain_machine.specs.declared.call.Mode.TheVariants.{Calling, Waiting, Unwinding, Ended}
-use Rattle.plain_machine.specs.declared.call.Asked.{Asked}
-use Rattle.plain_machine.specs.declared.call.Asked.TheVariants.{Calls, Resumes, Leaves, Ends}
+use Rattle.plain_machine.specs.declared.monitor_call.MonitorCall.{MonitorCall}
+use Rattle.plain_machine.specs.declared.monitor_call.MonitorCall.TheVariants as call
+use Rattle.plain_machine.specs.declared.monitor_call.Mode.TheVariants.{Calling, Waiting, Unwinding, Ended}
+use Rattle.plain_machine.specs.declared.monitor_call.NextEntry.{NextEntry}
+use Rattle.plain_machine.specs.declared.monitor_call.NextEntry.TheVariants.{Calls, Resumes, Leaves, Ends}
 use Rattle.plain_machine.specs.Thread.{ThreadState, Step, Goes, Stops, local, step_of}
 use Rattle.plain_machine.specs.Thread as thread
 use Rattle.plain_machine.specs.Asking.{ask, fits, answered, holds_less}
@@ -43,7 +43,7 @@ pub record SyncState : Type 0 where
 -- what a unit, which costs one fuel, leads to: what is left then, a call that the thread stands before with what is left after it, or its end
 pub data SyncStep : Type 0 where
   GoesOn : Left → ThreadState → SyncStep
-  StandsBefore : Call → Left → SyncStep
+  StandsBefore : MonitorCall → Left → SyncStep
   StopsBy : Ending → SyncStep
 
 -- an ending without the index of a trap: there are no instructions that an index could number
@@ -107,13 +107,13 @@ sync_run p zero left s = record { left = Over; thread = record s { fuel = 0; mod
 sync_run p (suc n) left s = after_sync_step s n (sync_step p s left) (λ next t. sync_run p n next t)
 
 -- after the call, which is paid for: a thread that waits stands still, each other runs on
-abbrev pub sync_after_call : ProgramText → SyncState → Call → Entry → SyncState
+abbrev pub sync_after_call : ProgramText → SyncState → MonitorCall → Entry → SyncState
 sync_after_call p s (call.Wait o) e =
     record s { thread = record (s.thread) { fuel = s.thread.fuel - 1; mode = Waiting o } }
 sync_after_call p s c e = sync_run p (s.thread.fuel - 1) s.left (answered s.thread c e)
 
 -- the thread after an entry that is what it asked
-abbrev pub sync_after_entry : ProgramText → SyncState → Asked → Entry → SyncState
+abbrev pub sync_after_entry : ProgramText → SyncState → NextEntry → Entry → SyncState
 sync_after_entry p s (Calls c) e = sync_after_call p s c e
 sync_after_entry p s (Resumes o) e = sync_run p s.thread.fuel s.left s.thread
 sync_after_entry p s (Leaves o) e = record s { thread = holds_less s.thread o }

@@ -1,5 +1,6 @@
 -- What a line without a cause has, and what it leaves of the section that is open.
-use Rattle.std.proofs.Common.{◌≡◌, inl, inr, ℕ, ◌+◌, ◌≤◌, Bool, true, false, not, ◌&&◌, if◌then◌else◌, List, [], ◌∷◌, refl, subst, arith, Option, Some, None, ltb-false}
+use Rattle.std.proofs.Common.{◌≡◌, inl, inr, ℕ, ◌+◌, ◌≤◌, Bool, true, false, not, ◌&&◌, if◌then◌else◌}
+use Rattle.std.proofs.Common.{List, [], ◌∷◌, refl, subst, arith, Option, Some, None, ltb-false}
 use Rattle.std.specs.Prelude.{◌⊎◌, IsSome, is_some, option_map}
 use Rattle.std.specs.List.{AllByRecursion}
 use Rattle.std.specs.Str.{bytes_eq}
@@ -14,14 +15,14 @@ use Rattle.program_syntax.specs.State.{thread_of, before_of}
 use Rattle.program_syntax.specs.declared.keyword.Keyword.{Keyword}
 use Rattle.program_syntax.specs.declared.keyword.Keyword.TheVariants as keyword
 use Rattle.program_syntax.specs.declared.state.Section.{Section}
-use Rattle.program_syntax.specs.declared.error.Why.{Why}
+use Rattle.program_syntax.specs.declared.error.RefusalCause.{RefusalCause}
 use Rattle.program_syntax.proofs.AllowedCause.{no_cause}
 use Rattle.sync_syntax.specs.declared.word.Word.{Word}
 use Rattle.sync_syntax.specs.declared.word.Word.TheVariants as word
 use Rattle.sync_syntax.specs.declared.state.SyncReader.{SyncReader}
 use Rattle.sync_syntax.specs.Word.{is_left_out, block_spellings, plain_or, word_of, opens, weight}
 use Rattle.sync_syntax.specs.Blocks.{Blocks, OfSync, OfIf, OfWhile, code_used}
-use Rattle.sync_syntax.specs.Reading.{SyncBefore, test_on, blocks_behind}
+use Rattle.sync_syntax.specs.Reading.{SyncBefore, test_on, blocks_after}
 use Rattle.sync_syntax.specs.Refusal as refusal
 use Rattle.sync_syntax.specs.Refusal.{plain_cause, passes_code, is_stray, is_assigned, is_deep, statement_cause}
 use Rattle.sync_syntax.specs.inner.Views.{blocks_of}
@@ -59,7 +60,8 @@ has_operands b later ws (word.Plain k) h = let n = no_cause b later ws k h in (n
 has_operands b later ws k h = tt
 
 -- words of blocks
-among-block : (ss : List (List ℕ × Word)) (w : List ℕ) (k : Word) → AllByRecursion (λ s. is_block s.1 ≡ true) ss → spelled_among ss w ≡ Some k → is_block k ≡ true
+among-block : (ss : List (List ℕ × Word)) (w : List ℕ) (k : Word)
+    → AllByRecursion (λ s. is_block s.1 ≡ true) ss → spelled_among ss w ≡ Some k → is_block k ≡ true
 among-block [] w k all h = absurd (cc h)
 among-block (s ∷ ss) w k all h = by_test (bytes_eq s.0 w) h (among-block ss w k all.1) where
   by_test : (b : Bool) → (if b then Some s.1 else spelled_among ss w) ≡ Some k → (spelled_among ss w ≡ Some k → is_block k ≡ true) → is_block k ≡ true
@@ -73,7 +75,8 @@ kept_block : (k : Word) → is_block k ≡ true → is_kept k ≡ true
 kept_block (word.Plain k) h = absurd (cc h)
 kept_block k h = refl
 
-plain_kept : (k : Keyword) (l : Word) (b : Bool) → is_left_out k ≡ b → (if b then None else Some (word.Plain k)) ≡ Some l → (l ≡ word.Plain k) × (is_left_out k ≡ false)
+plain_kept : (k : Keyword) (l : Word) (b : Bool) → is_left_out k ≡ b
+    → (if b then None else Some (word.Plain k)) ≡ Some l → (l ≡ word.Plain k) × (is_left_out k ≡ false)
 plain_kept k l true e h = absurd (cc h)
 plain_kept k l false e h = (cc, e)
 
@@ -89,7 +92,8 @@ pub record IsBlockWord (w : List ℕ) (l : Word) : Type 0 where
 
 pub word_cases : (w : List ℕ) (l : Word) → word_of w ≡ Some l → ((k : Keyword) × IsPlainWord w l k) ⊎ IsBlockWord w l
 word_cases w l h = by_keyword (keyword_of w) refl h where
-  by_keyword : (o : Option Keyword) → keyword_of w ≡ o → plain_or o (spelled_among block_spellings w) ≡ Some l → ((k : Keyword) × IsPlainWord w l k) ⊎ IsBlockWord w l
+  by_keyword : (o : Option Keyword) → keyword_of w ≡ o → plain_or o (spelled_among block_spellings w) ≡ Some l
+      → ((k : Keyword) × IsPlainWord w l k) ⊎ IsBlockWord w l
   by_keyword None e h = inr (record { block = block_word w l h; other = e })
   by_keyword (Some k) e h = let p = plain_kept k l (is_left_out k) refl h in inl (k, record { same = p.0; spelled = e; kept = p.1 })
 
@@ -100,7 +104,8 @@ kept_of w l h = by_cases (word_cases w l h) where
   by_cases (inr p) = kept_block l p.block
 
 -- a line that stands outside sections doesn't follow on a section that is still to be closed
-outside_by : (t : ThreadDef) (later ws : List (List ℕ)) (k : Keyword) → (if ends_section (Some k) then is_end (Some k) else is_closed later) ≡ true → is_outside k ≡ false
+outside_by : (t : ThreadDef) (later ws : List (List ℕ)) (k : Keyword)
+    → (if ends_section (Some k) then is_end (Some k) else is_closed later) ≡ true → is_outside k ≡ false
 outside_by t later ws keyword.Class h = absurd (cc h)
 outside_by t later ws keyword.Object h = absurd (cc h)
 outside_by t later ws keyword.Array h = absurd (cc h)
@@ -121,14 +126,14 @@ outside_of s line later w ws l words e h = by_cases s (word_cases w l e) h where
   by_cases (Some t) (inr p) h = block_outside (Some t) l p.block
 
 -- the code of a block's lines
-pub used-behind : (t : ThreadDef) (b : Blocks) (ws : List (List ℕ)) (k : Word) → is_block k ≡ true → is_stray b.opened k ≡ false
-    → code_used (blocks_behind t b ws k) ≡ code_used b + weight k
-used-behind t b ws (word.Plain k) block stray = absurd (cc block)
-used-behind t b ws word.Sync block stray = used-block b (OfSync (local_at t ws 0))
-used-behind t b ws word.If block stray = used-block b (OfIf (test_on t ws))
-used-behind t b ws word.While block stray = used-block b (OfWhile (test_on t ws))
-used-behind t b ws word.Else block stray = omega (arith, used-else b.opened b.statements (not-false _ stray))
-used-behind t b ws word.Done block stray = omega (arith, used-done b.opened b.statements)
+pub used-after : (t : ThreadDef) (b : Blocks) (ws : List (List ℕ)) (k : Word) → is_block k ≡ true → is_stray b.opened k ≡ false
+    → code_used (blocks_after t b ws k) ≡ code_used b + weight k
+used-after t b ws (word.Plain k) block stray = absurd (cc block)
+used-after t b ws word.Sync block stray = used-block b (OfSync (local_at t ws 0))
+used-after t b ws word.If block stray = used-block b (OfIf (test_on t ws))
+used-after t b ws word.While block stray = used-block b (OfWhile (test_on t ws))
+used-after t b ws word.Else block stray = omega (arith, used-else b.opened b.statements (not-false _ stray))
+used-after t b ws word.Done block stray = omega (arith, used-done b.opened b.statements)
 
 -- a section is open
 mapped-some : (s : Option Section) → is_some (option_map thread_of s) ≡ true → IsSome s
@@ -147,7 +152,7 @@ block_alone k h = refl
 
 pub block_section : (b : Before) (later ws : List (List ℕ)) (k : Word) → is_block k ≡ true → plain_cause b later ws k ≡ None → is_some b.section ≡ true
 block_section b later ws k block h = by_word k block h where
-  by_test : (t : Bool) (w : Why) (o : Option Why) → (if t then o else Some w) ≡ None → t ≡ true
+  by_test : (t : Bool) (w : RefusalCause) (o : Option RefusalCause) → (if t then o else Some w) ≡ None → t ≡ true
   by_test true w o e = refl
   by_test false w o e = absurd (cc e)
 

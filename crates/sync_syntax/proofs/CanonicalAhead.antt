@@ -1,5 +1,6 @@
 -- What the lines of statements say to the lines before them: that blocks and sections are closed.
-use Rattle.std.proofs.Common.{◌≡◌, ℕ, ◌+◌, ◌-◌, ◌<◌, ◌==◌, Bool, true, false, ◌&&◌, if◌then◌else◌, List, [], ◌∷◌, ◌++◌, length, map, refl, sym, ap, ◌∙◌, arith, codes, ne_eqb}
+use Rattle.std.proofs.Common.{◌≡◌, ℕ, ◌+◌, ◌-◌, ◌<◌, ◌==◌, Bool, true, false, ◌&&◌, if◌then◌else◌, List}
+use Rattle.std.proofs.Common.{[], ◌∷◌, ◌++◌, length, map, refl, sym, ap, ◌∙◌, arith, codes, ne_eqb}
 use Rattle.object_program.specs.Valid.{IsInstruction}
 use Rattle.object_program.specs.declared.program.ClassDef.{ClassDef}
 use Rattle.object_program.specs.declared.program.ObjectDef.{ObjectDef}
@@ -13,7 +14,7 @@ use Rattle.program_syntax.proofs.CanonicalText.{AreWords, AreLines, line_of, wor
 use Rattle.program_syntax.proofs.CanonicalReading as plain_line
 use Rattle.program_syntax.proofs.CanonicalInstructions.{AreNamed, instruction_is_words, local_word}
 use Rattle.program_syntax.proofs.CanonicalAhead.{lines-append, closed_inner}
-use Rattle.program_syntax.proofs.CanonicalPrograms.{lines_behind}
+use Rattle.program_syntax.proofs.CanonicalPrograms.{lines_after}
 use Rattle.sync_source.specs.declared.source.Test.{Test}
 use Rattle.sync_source.specs.Source.{Statements, Nothing, Plain, Sync, If, While, SyncThreadText}
 use Rattle.sync_source.specs.Valid.{IsPlain, IsTest, AreStatements, is_end, HasNoEnd}
@@ -50,21 +51,25 @@ module _ (classes : List ClassDef) (ds : List ObjectDef) (section : SyncThreadTe
   while_is_words test h = (refl, (local_word classes ds t named test.x h.0, (sign_word test.equal, (local_word classes ds t named test.y h.1, tt))))
 
   block_is_lines : (body rest : List (List (List ℕ))) → AreLines body → AreLines rest → AreLines (body ++ done_words ∷ rest)
-  block_is_lines body rest h k = lines_behind body (done_words ∷ rest) h ((refl, tt), k)
+  block_is_lines body rest h k = lines_after body (done_words ∷ rest) h ((refl, tt), k)
 
   pub statements_are_lines : (s : Statements) → AreFine s → AreLines (statement_lines classes ds t s)
   statements_are_lines Nothing h = tt
   statements_are_lines (Plain c rest) h = (instruction_is_words classes ds t named c h.1, statements_are_lines rest h.2)
   statements_are_lines (Sync x body rest) h =
-      let block = block_is_lines (statement_lines classes ds t body) (statement_lines classes ds t rest) (statements_are_lines body h.1) (statements_are_lines rest h.2) in
+      let block = block_is_lines (statement_lines classes ds t body) (statement_lines classes ds t rest)
+      (statements_are_lines body h.1) (statements_are_lines rest h.2) in
       (sync_is_words x h.0, block)
   statements_are_lines (If test body other rest) h =
       let middle = else_lines other (statement_lines classes ds t other) in
       let middle_is = else_by AreLines other (statement_lines classes ds t other) tt ((refl, tt), statements_are_lines other h.2) in
-      let both = lines_behind (statement_lines classes ds t body) middle (statements_are_lines body h.1) middle_is in
-      (if_is_words test h.0, block_is_lines (statement_lines classes ds t body ++ middle) (statement_lines classes ds t rest) both (statements_are_lines rest h.3))
+      let both = lines_after (statement_lines classes ds t body) middle (statements_are_lines body h.1) middle_is in (
+        if_is_words test h.0,
+        block_is_lines (statement_lines classes ds t body ++ middle) (statement_lines classes ds t rest) both (statements_are_lines rest h.3),
+      )
   statements_are_lines (While test body rest) h =
-      let block = block_is_lines (statement_lines classes ds t body) (statement_lines classes ds t rest) (statements_are_lines body h.1) (statements_are_lines rest h.2) in
+      let block = block_is_lines (statement_lines classes ds t body) (statement_lines classes ds t rest)
+      (statements_are_lines body h.1) (statements_are_lines rest h.2) in
       (while_is_words test h.0, block)
 
   -- lines by their words
@@ -105,34 +110,35 @@ module _ (classes : List ClassDef) (ds : List ObjectDef) (section : SyncThreadTe
       → is_closed n (map line_of (statement_lines classes ds t s) ++ later) ≡ is_closed n later
   statements_stay Nothing n later h e = refl
   statements_stay (Plain c rest) n later h e =
-      let behind = map line_of (statement_lines classes ds t rest) ++ later in
-      closed-line n (instruction_words classes ds t c) behind (instruction_is_words classes ds t named c h.1)
-      ∙ code_stays n c behind h.0 h.1 e.0 ∙ statements_stay rest n later h.2 e.1
+      let after = map line_of (statement_lines classes ds t rest) ++ later in
+      closed-line n (instruction_words classes ds t c) after (instruction_is_words classes ds t named c h.1)
+      ∙ code_stays n c after h.0 h.1 e.0 ∙ statements_stay rest n later h.2 e.1
   statements_stay (Sync x body rest) n later h e =
-      let behind = map line_of (statement_lines classes ds t rest) ++ later in
+      let after = map line_of (statement_lines classes ds t rest) ++ later in
       let all = map line_of (statement_lines classes ds t body ++ done_words ∷ statement_lines classes ds t rest) ++ later in
       closed-line n (sync_words t x) all (sync_is_words x h.0) ∙ stays n (is_closed (n + 1) all)
       ∙ ap (is_closed (n + 1)) (lines-append (statement_lines classes ds t body) (done_words ∷ statement_lines classes ds t rest) later)
-      ∙ statements_stay body (n + 1) (line_of done_words ∷ behind) h.1 e.0 ∙ goes_down n behind ∙ statements_stay rest n later h.2 e.1
+      ∙ statements_stay body (n + 1) (line_of done_words ∷ after) h.1 e.0 ∙ goes_down n after ∙ statements_stay rest n later h.2 e.1
   statements_stay (If test body other rest) n later h e =
-      let behind = map line_of (statement_lines classes ds t rest) ++ later in
+      let after = map line_of (statement_lines classes ds t rest) ++ later in
       let last = done_words ∷ statement_lines classes ds t rest in
-      let closing = line_of done_words ∷ behind in
+      let closing = line_of done_words ∷ after in
       let others = map line_of (statement_lines classes ds t other) ++ closing in
       let middle = else_lines other (statement_lines classes ds t other) in
       let all = map line_of (statement_lines classes ds t body ++ middle ++ last) ++ later in
       closed-line n (test_words (codes "if") t test) all (if_is_words test h.0) ∙ stays n (is_closed (n + 1) all)
-      ∙ ap (is_closed (n + 1)) (lines-append (statement_lines classes ds t body ++ middle) last later ∙ lines-append (statement_lines classes ds t body) middle closing)
+      ∙ ap (is_closed (n + 1)) (lines-append (statement_lines classes ds t body ++ middle) last later
+      ∙ lines-append (statement_lines classes ds t body) middle closing)
       ∙ statements_stay body (n + 1) (map line_of middle ++ closing) h.1 e.0
       ∙ else_by (λ ls. is_closed (n + 1) (map line_of ls ++ closing) ≡ is_closed (n + 1) closing) other (statement_lines classes ds t other) refl
       (else_stays (n + 1) others ∙ statements_stay other (n + 1) closing h.2 e.1)
-      ∙ goes_down n behind ∙ statements_stay rest n later h.3 e.2
+      ∙ goes_down n after ∙ statements_stay rest n later h.3 e.2
   statements_stay (While test body rest) n later h e =
-      let behind = map line_of (statement_lines classes ds t rest) ++ later in
+      let after = map line_of (statement_lines classes ds t rest) ++ later in
       let all = map line_of (statement_lines classes ds t body ++ done_words ∷ statement_lines classes ds t rest) ++ later in
       closed-line n (test_words (codes "while") t test) all (while_is_words test h.0) ∙ stays n (is_closed (n + 1) all)
       ∙ ap (is_closed (n + 1)) (lines-append (statement_lines classes ds t body) (done_words ∷ statement_lines classes ds t rest) later)
-      ∙ statements_stay body (n + 1) (line_of done_words ∷ behind) h.1 e.0 ∙ goes_down n behind ∙ statements_stay rest n later h.2 e.1
+      ∙ statements_stay body (n + 1) (line_of done_words ∷ after) h.1 e.0 ∙ goes_down n after ∙ statements_stay rest n later h.2 e.1
 
   -- and no section
   block_passes : (ws later : List (List ℕ)) → AreWords ws → plain_line.closed_by (first_keyword ws) later ≡ plain.is_closed later
@@ -146,32 +152,34 @@ module _ (classes : List ClassDef) (ds : List ObjectDef) (section : SyncThreadTe
       → plain.is_closed (map line_of (statement_lines classes ds t s) ++ later) ≡ plain.is_closed later
   statements_pass Nothing later h e = refl
   statements_pass (Plain c rest) later h e =
-      let behind = map line_of (statement_lines classes ds t rest) ++ later in
-      block_passes (instruction_words classes ds t c) behind (instruction_is_words classes ds t named c h.1) (closed_inner classes ds t c behind (goes_on c e.0))
+      let after = map line_of (statement_lines classes ds t rest) ++ later in
+      block_passes (instruction_words classes ds t c) after (instruction_is_words classes ds t named c h.1) (closed_inner classes ds t c after (goes_on c e.0))
       ∙ statements_pass rest later h.2 e.1
   statements_pass (Sync x body rest) later h e =
-      let behind = map line_of (statement_lines classes ds t rest) ++ later in
-      block_passes (sync_words t x) (map line_of (statement_lines classes ds t body ++ done_words ∷ statement_lines classes ds t rest) ++ later) (sync_is_words x h.0) refl
+      let after = map line_of (statement_lines classes ds t rest) ++ later in
+      block_passes (sync_words t x)
+      (map line_of (statement_lines classes ds t body ++ done_words ∷ statement_lines classes ds t rest) ++ later) (sync_is_words x h.0) refl
       ∙ ap plain.is_closed (lines-append (statement_lines classes ds t body) (done_words ∷ statement_lines classes ds t rest) later)
-      ∙ statements_pass body (line_of done_words ∷ behind) h.1 e.0 ∙ block_passes done_words behind (refl, tt) refl ∙ statements_pass rest later h.2 e.1
+      ∙ statements_pass body (line_of done_words ∷ after) h.1 e.0 ∙ block_passes done_words after (refl, tt) refl ∙ statements_pass rest later h.2 e.1
   statements_pass (If test body other rest) later h e =
-      let behind = map line_of (statement_lines classes ds t rest) ++ later in
+      let after = map line_of (statement_lines classes ds t rest) ++ later in
       let last = done_words ∷ statement_lines classes ds t rest in
-      let closing = line_of done_words ∷ behind in
+      let closing = line_of done_words ∷ after in
       let others = map line_of (statement_lines classes ds t other) ++ closing in
       let middle = else_lines other (statement_lines classes ds t other) in
       block_passes (test_words (codes "if") t test) (map line_of (statement_lines classes ds t body ++ middle ++ last) ++ later) (if_is_words test h.0) refl
-      ∙ ap plain.is_closed (lines-append (statement_lines classes ds t body ++ middle) last later ∙ lines-append (statement_lines classes ds t body) middle closing)
+      ∙ ap plain.is_closed (lines-append (statement_lines classes ds t body ++ middle) last later
+      ∙ lines-append (statement_lines classes ds t body) middle closing)
       ∙ statements_pass body (map line_of middle ++ closing) h.1 e.0
       ∙ else_by (λ ls. plain.is_closed (map line_of ls ++ closing) ≡ plain.is_closed closing) other (statement_lines classes ds t other) refl
       (block_passes else_words others (refl, tt) refl ∙ statements_pass other closing h.2 e.1)
-      ∙ block_passes done_words behind (refl, tt) refl ∙ statements_pass rest later h.3 e.2
+      ∙ block_passes done_words after (refl, tt) refl ∙ statements_pass rest later h.3 e.2
   statements_pass (While test body rest) later h e =
-      let behind = map line_of (statement_lines classes ds t rest) ++ later in
+      let after = map line_of (statement_lines classes ds t rest) ++ later in
       let all = map line_of (statement_lines classes ds t body ++ done_words ∷ statement_lines classes ds t rest) ++ later in
       block_passes (test_words (codes "while") t test) all (while_is_words test h.0) refl
       ∙ ap plain.is_closed (lines-append (statement_lines classes ds t body) (done_words ∷ statement_lines classes ds t rest) later)
-      ∙ statements_pass body (line_of done_words ∷ behind) h.1 e.0 ∙ block_passes done_words behind (refl, tt) refl ∙ statements_pass rest later h.2 e.1
+      ∙ statements_pass body (line_of done_words ∷ after) h.1 e.0 ∙ block_passes done_words after (refl, tt) refl ∙ statements_pass rest later h.2 e.1
 
   pub end_closes : (later : List (List ℕ)) → plain.is_closed (line_of (codes "end" ∷ []) ∷ later) ≡ true
   end_closes later = plain_line.is_closed-line (codes "end" ∷ []) later (refl, tt)

@@ -47,7 +47,7 @@ module _ (final : SyncBefore) (p : ProgramText) (t : SyncThreadText) (ts : List 
   abbrev lines : Statements → List (List ℕ)
   lines s = map line_of (words s)
 
-  -- a `done`, and what stands behind it
+  -- a `done`, and what stands after it
   abbrev closing : List (List ℕ) → List (List ℕ)
   closing later = line_of done_words ∷ later
 
@@ -56,13 +56,14 @@ module _ (final : SyncBefore) (p : ProgramText) (t : SyncThreadText) (ts : List 
     pub good : IsGood (length p.classes) (length t.locals) (length p.objects) (open_syncs bl.opened) (length bl.opened) s
     pub room : code_used bl + size s ≤ most_code
 
-  -- what is left of statements behind the first
-  behind_first : (bl : Blocks) (first rest : Statements) (later : List (List ℕ)) → Reads (with_statement bl (joined first rest)) later
+  -- what is left of statements after the first
+  after_first : (bl : Blocks) (first rest : Statements) (later : List (List ℕ)) → Reads (with_statement bl (joined first rest)) later
       → Reads (with_statement (with_statement bl first) rest) later
-  behind_first bl first rest later h =
+  after_first bl first rest later h =
       subst (λ s. Reads (record { opened = bl.opened; statements = s }) later) (sym (joined-joined bl.statements first rest)) h
 
-  rest_stands : (bl : Blocks) (first rest : Statements) → IsGood (length p.classes) (length t.locals) (length p.objects) (open_syncs bl.opened) (length bl.opened) rest
+  rest_stands : (bl : Blocks) (first rest : Statements)
+      → IsGood (length p.classes) (length t.locals) (length p.objects) (open_syncs bl.opened) (length bl.opened) rest
       → code_used bl + (size first + size rest) ≤ most_code → MayStand (with_statement bl first) rest
   rest_stands bl first rest good room = record { good = good; room = omega (arith, used-with bl first) }
 
@@ -91,7 +92,7 @@ module _ (final : SyncBefore) (p : ProgramText) (t : SyncThreadText) (ts : List 
       (else_stays p.classes p.objects t named 0 (map line_of others ++ last) ∙ statements_stay p.classes p.objects t named other 0 last g f)
       ∙ done_closes p.classes p.objects t named later
 
-  -- behind the block of an `if`: its `else`, if it has one, and its `done`
+  -- after the block of an `if`: its `else`, if it has one, and its `done`
   abbrev held : Blocks → Test → Statements → Blocks
   held bl test body = record { opened = record { opener = OfIf test; earlier = bl.statements } ∷ bl.opened; statements = body }
 
@@ -125,17 +126,17 @@ module _ (final : SyncBefore) (p : ProgramText) (t : SyncThreadText) (ts : List 
       let g = m.good in
       let nested = g.nested in
       let room = m.room in
-      let behind = lines rest ++ later in
-      line_read final _ _ behind (instruction_words p.classes p.objects (heading t) c)
-      (code_line p t ts named bl behind c g.fine.0 g.fine.1 g.goes_on.0 (omega (arith, room)) (not_held c bl.opened g.keeps.0))
+      let after = lines rest ++ later in
+      line_read final _ _ after (instruction_words p.classes p.objects (heading t) c)
+      (code_line p t ts named bl after c g.fine.0 g.fine.1 g.goes_on.0 (omega (arith, room)) (not_held c bl.opened g.keeps.0))
       (statements_read rest (with_statement bl (Plain c Nothing)) later
       (rest_stands bl (Plain c Nothing) rest (record { fine = g.fine.2; goes_on = g.goes_on.1; keeps = g.keeps.1; nested = omega arith }) (omega (arith, room)))
-      (behind_first bl (Plain c Nothing) rest later h))
+      (after_first bl (Plain c Nothing) rest later h))
   statements_read (Sync x body rest) bl later m h =
       let g = m.good in
       let nested = g.nested in
       let room = m.room in
-      let behind = lines rest ++ later in
+      let after = lines rest ++ later in
       let inner : MayStand (with_block bl (OfSync x)) body = record {
         good = record { fine = g.fine.1; goes_on = g.goes_on.0; keeps = g.keeps.0; nested = omega arith };
         room = omega (arith, room);
@@ -143,17 +144,17 @@ module _ (final : SyncBefore) (p : ProgramText) (t : SyncThreadText) (ts : List 
       let rest_read = statements_read rest (with_statement bl (Sync x body Nothing)) later
       (rest_stands bl (Sync x body Nothing) rest (record { fine = g.fine.2; goes_on = g.goes_on.1; keeps = g.keeps.1; nested = omega arith })
       (omega (arith, room)))
-      (behind_first bl (Sync x body Nothing) rest later h) in
+      (after_first bl (Sync x body Nothing) rest later h) in
       subst (λ ls. Reads bl (line_of (sync_words (heading t) x) ∷ ls)) (sym (lines-append (words body) (done_words ∷ words rest) later))
-      (line_read final _ _ (lines body ++ closing behind) (sync_words (heading t) x)
-      (sync_line p t ts named bl _ x g.fine.0 (omega (arith, room)) (omega arith) (closes body behind g.fine.1 g.goes_on.0))
-      (block_read (OfSync x) bl body behind (statements_read body (with_block bl (OfSync x)) (closing behind) inner) (omega (arith, room))
+      (line_read final _ _ (lines body ++ closing after) (sync_words (heading t) x)
+      (sync_line p t ts named bl _ x g.fine.0 (omega (arith, room)) (omega arith) (closes body after g.fine.1 g.goes_on.0))
+      (block_read (OfSync x) bl body after (statements_read body (with_block bl (OfSync x)) (closing after) inner) (omega (arith, room))
       rest_read))
   statements_read (If test body other rest) bl later m h =
       let g = m.good in
       let nested = g.nested in
       let room = m.room in
-      let behind = lines rest ++ later in
+      let after = lines rest ++ later in
       let bodies = words body in
       let middle = else_lines other (words other) in
       let inner : MayStand (with_block bl (OfIf test)) body = record {
@@ -167,19 +168,19 @@ module _ (final : SyncBefore) (p : ProgramText) (t : SyncThreadText) (ts : List 
       let rest_read = statements_read rest (with_statement bl (If test body other Nothing)) later
       (rest_stands bl (If test body other Nothing) rest (record { fine = g.fine.3; goes_on = g.goes_on.2; keeps = g.keeps.2; nested = omega arith })
       (omega (arith, room)))
-      (behind_first bl (If test body other Nothing) rest later h) in
-      let others_read = statements_read other (with_block bl (OfElse test body)) (closing behind) else_inner in
-      let else_part = else_read bl test body other behind others_read (omega (arith, room)) rest_read in
-      let joins = lines-append (bodies ++ middle) (done_words ∷ words rest) later ∙ lines-append bodies middle (closing behind) in
+      (after_first bl (If test body other Nothing) rest later h) in
+      let others_read = statements_read other (with_block bl (OfElse test body)) (closing after) else_inner in
+      let else_part = else_read bl test body other after others_read (omega (arith, room)) rest_read in
+      let joins = lines-append (bodies ++ middle) (done_words ∷ words rest) later ∙ lines-append bodies middle (closing after) in
       subst (λ ls. Reads bl (line_of (test_words (codes "if") (heading t) test) ∷ ls)) (sym joins)
-      (line_read final _ _ (lines body ++ (map line_of middle ++ closing behind)) (test_words (codes "if") (heading t) test)
-      (if_line p t ts named bl _ test g.fine.0 (omega (arith, room)) (omega arith) (else_closes body other behind g.fine.1 g.goes_on.0 g.fine.2 g.goes_on.1))
-      (statements_read body (with_block bl (OfIf test)) (map line_of middle ++ closing behind) inner else_part))
+      (line_read final _ _ (lines body ++ (map line_of middle ++ closing after)) (test_words (codes "if") (heading t) test)
+      (if_line p t ts named bl _ test g.fine.0 (omega (arith, room)) (omega arith) (else_closes body other after g.fine.1 g.goes_on.0 g.fine.2 g.goes_on.1))
+      (statements_read body (with_block bl (OfIf test)) (map line_of middle ++ closing after) inner else_part))
   statements_read (While test body rest) bl later m h =
       let g = m.good in
       let nested = g.nested in
       let room = m.room in
-      let behind = lines rest ++ later in
+      let after = lines rest ++ later in
       let inner : MayStand (with_block bl (OfWhile test)) body = record {
         good = record { fine = g.fine.1; goes_on = g.goes_on.0; keeps = g.keeps.0; nested = omega arith };
         room = omega (arith, room);
@@ -187,10 +188,10 @@ module _ (final : SyncBefore) (p : ProgramText) (t : SyncThreadText) (ts : List 
       let rest_read = statements_read rest (with_statement bl (While test body Nothing)) later
       (rest_stands bl (While test body Nothing) rest (record { fine = g.fine.2; goes_on = g.goes_on.1; keeps = g.keeps.1; nested = omega arith })
       (omega (arith, room)))
-      (behind_first bl (While test body Nothing) rest later h) in
+      (after_first bl (While test body Nothing) rest later h) in
       subst (λ ls. Reads bl (line_of (test_words (codes "while") (heading t) test) ∷ ls))
       (sym (lines-append (words body) (done_words ∷ words rest) later))
-      (line_read final _ _ (lines body ++ closing behind) (test_words (codes "while") (heading t) test)
-      (while_line p t ts named bl _ test g.fine.0 (omega (arith, room)) (omega arith) (closes body behind g.fine.1 g.goes_on.0))
-      (block_read (OfWhile test) bl body behind (statements_read body (with_block bl (OfWhile test)) (closing behind) inner) (omega (arith, room))
+      (line_read final _ _ (lines body ++ closing after) (test_words (codes "while") (heading t) test)
+      (while_line p t ts named bl _ test g.fine.0 (omega (arith, room)) (omega arith) (closes body after g.fine.1 g.goes_on.0))
+      (block_read (OfWhile test) bl body after (statements_read body (with_block bl (OfWhile test)) (closing after) inner) (omega (arith, room))
       rest_read))

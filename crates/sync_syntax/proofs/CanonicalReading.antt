@@ -1,5 +1,6 @@
 -- A line of a canonical text is read as what it was written for.
-use Rattle.std.proofs.Common.{◌≡◌, ℕ, ◌+◌, ◌≤◌, ◌<◌, Bool, true, false, not, ◌&&◌, ◌||◌, if◌then◌else◌, List, [], ◌∷◌, ◌++◌, length, refl, sym, subst, ap, ◌∙◌, arith, Some, None, Ok, codes, le-ltb}
+use Rattle.std.proofs.Common.{◌≡◌, ℕ, ◌+◌, ◌≤◌, ◌<◌, Bool, true, false, not, ◌&&◌, ◌||◌, if◌then◌else◌, List, []}
+use Rattle.std.proofs.Common.{◌∷◌, ◌++◌, length, refl, sym, subst, ap, ◌∙◌, arith, Some, None, Ok, codes, le-ltb}
 use Rattle.std.specs.Prelude.{decimal, nat_lt}
 use Rattle.std.specs.List.{AllByRecursion, list_all}
 use Rattle.std.proofs.lemmas.Bool.{lt-leb, or_from}
@@ -22,21 +23,23 @@ use Rattle.program_syntax.proofs.CanonicalText.{is_word, AreWords, line_of, word
 use Rattle.program_syntax.proofs.CanonicalNames.{nth_is_among, number_among-nth}
 use Rattle.program_syntax.proofs.CanonicalReading as plain
 use Rattle.program_syntax.proofs.CanonicalRuns.{outside, opened}
-use Rattle.program_syntax.proofs.CanonicalInstructions.{keyword_for, operand_words, AreNamed, local_is_name, local_word, instruction_is_words, instruction_allowed, instruction_meant}
+use Rattle.program_syntax.proofs.CanonicalInstructions.{keyword_for, operand_words, AreNamed, local_is_name, local_word}
+use Rattle.program_syntax.proofs.CanonicalInstructions.{instruction_is_words, instruction_allowed, instruction_meant}
 use Rattle.sync_source.specs.declared.source.Test.{Test}
 use Rattle.sync_source.specs.Source.{Statements, Nothing, Plain, SyncThreadText}
 use Rattle.sync_source.specs.Valid.{most_depth, IsPlain, IsTest, is_end, assigns}
 use Rattle.sync_syntax.specs.declared.word.Word.{Word}
 use Rattle.sync_syntax.specs.declared.word.Word.TheVariants as word
 use Rattle.sync_syntax.specs.Word.{first_word, weight}
-use Rattle.sync_syntax.specs.Blocks.{Blocks, OpenBlock, Opener, OfSync, OfIf, OfElse, OfWhile, no_blocks, with_statement, with_block, joined, closed, changes_local, changes_held, code_used}
-use Rattle.sync_syntax.specs.Reading.{SyncBefore, is_equals, is_sign, test_on, behind_words}
+use Rattle.sync_syntax.specs.Blocks.{Blocks, OpenBlock, Opener, OfSync, OfIf, OfElse, OfWhile, no_blocks, with_statement}
+use Rattle.sync_syntax.specs.Blocks.{with_block, joined, closed, changes_local, changes_held, code_used}
+use Rattle.sync_syntax.specs.Reading.{SyncBefore, is_equals, is_sign, test_on, after_words}
 use Rattle.sync_syntax.specs.Refusal.{locals_cause, tested, is_closed, statement_cause, cause_or, word_cause, words_cause, read_from}
 use Rattle.sync_syntax.specs.Canonical.{heading, sync_words, sign_of, test_words, done_words, else_words}
 use Rattle.sync_syntax.proofs.BlockLines.{HasNoBlockCause}
 use Rattle.sync_syntax.proofs.Good.{with_sync, open_syncs}
 
--- what these lines declare behind a state
+-- what these lines declare after a state
 pub record ReadsAs (final b : SyncBefore) (lines : List (List ℕ)) : Type 0 where
   pub at : (n : ℕ) → read_from n b lines ≡ Ok final
 
@@ -44,18 +47,18 @@ pub record ReadsAs (final b : SyncBefore) (lines : List (List ℕ)) : Type 0 whe
 pub record IsRead (b next : SyncBefore) (later ws : List (List ℕ)) : Type 0 where
   pub words : AreWords ws
   pub cause : words_cause b later ws ≡ None
-  pub behind : behind_words b later ws (first_word ws) ≡ next
+  pub after : after_words b later ws (first_word ws) ≡ next
 
 read_line_at : (final b next : SyncBefore) (later : List (List ℕ)) (line : List ℕ) (ws : List (List ℕ)) (n : ℕ)
     → list_all is_text_byte line ≡ true → words_of line ≡ ws
-    → words_cause b later ws ≡ None → behind_words b later ws (first_word ws) ≡ next → read_from (n + 1) next later ≡ Ok final
+    → words_cause b later ws ≡ None → after_words b later ws (first_word ws) ≡ next → read_from (n + 1) next later ≡ Ok final
     → read_from n b (line ∷ later) ≡ Ok final
-read_line_at final b next later line ws n bytes words cause behind h = rw (bytes, words, cause, behind) h
+read_line_at final b next later line ws n bytes words cause after h = rw (bytes, words, cause, after) h
 
 pub line_read : (final b next : SyncBefore) (later ws : List (List ℕ)) → IsRead b next later ws → ReadsAs final next later
     → ReadsAs final b (line_of ws ∷ later)
 line_read final b next later ws is h = record {
-  at = λ n. read_line_at final b next later (line_of ws) ws n (line_bytes_allowed ws is.words) (words_of_line ws is.words) is.cause is.behind (h.at (n + 1));
+  at = λ n. read_line_at final b next later (line_of ws) ws n (line_bytes_allowed ws is.words) (words_of_line ws is.words) is.cause is.after (h.at (n + 1));
 }
 
 -- no section is open, and these threads are closed
@@ -72,7 +75,7 @@ pub class_line : (p q : ProgramText) (ts : List SyncThreadText) (c : ClassDef) (
 class_line p q ts c later is = record {
   words = is.words;
   cause = ap (λ o. cause_or o None) is.cause;
-  behind = ap (λ b. record { plain = b; threads = ts; blocks = no_blocks }) is.behind;
+  after = ap (λ b. record { plain = b; threads = ts; blocks = no_blocks }) is.after;
 }
 
 pub object_line : (p q : ProgramText) (ts : List SyncThreadText) (classes : List ClassDef) (d : ObjectDef) (later : List (List ℕ))
@@ -87,12 +90,12 @@ object_line p q ts classes d later is = by_array d.array refl where
   by_array true e = by_words (codes "array" ∷ d.name ∷ class_name classes d.class ∷ decimal d.size ∷ []) (rw e refl) (λ h. record {
     words = h.words;
     cause = ap (λ o. cause_or o None) h.cause;
-    behind = ap (λ b. record { plain = b; threads = ts; blocks = no_blocks }) h.behind;
+    after = ap (λ b. record { plain = b; threads = ts; blocks = no_blocks }) h.after;
   })
   by_array false e = by_words (codes "object" ∷ d.name ∷ class_name classes d.class ∷ []) (rw e refl) (λ h. record {
     words = h.words;
     cause = ap (λ o. cause_or o None) h.cause;
-    behind = ap (λ b. record { plain = b; threads = ts; blocks = no_blocks }) h.behind;
+    after = ap (λ b. record { plain = b; threads = ts; blocks = no_blocks }) h.after;
   })
 
 pub opening_line : (p : ProgramText) (t : ThreadDef) (ts : List SyncThreadText) (later : List (List ℕ))
@@ -101,7 +104,7 @@ pub opening_line : (p : ProgramText) (t : ThreadDef) (ts : List SyncThreadText) 
 opening_line p t ts later is = record {
   words = is.words;
   cause = ap (λ o. cause_or o None) is.cause;
-  behind = ap (λ b. record { plain = b; threads = ts; blocks = no_blocks }) is.behind;
+  after = ap (λ b. record { plain = b; threads = ts; blocks = no_blocks }) is.after;
 }
 
 pub local_line : (p : ProgramText) (t u : ThreadDef) (ts : List SyncThreadText) (name : List ℕ) (later : List (List ℕ))
@@ -109,7 +112,7 @@ pub local_line : (p : ProgramText) (t u : ThreadDef) (ts : List SyncThreadText) 
 local_line p t u ts name later is = record {
   words = is.words;
   cause = ap (λ o. cause_or o None) is.cause;
-  behind = ap (λ b. record { plain = b; threads = ts; blocks = no_blocks }) is.behind;
+  after = ap (λ b. record { plain = b; threads = ts; blocks = no_blocks }) is.after;
 }
 
 -- a line without a cause by blocks
@@ -127,7 +130,7 @@ not_held c (b ∷ bs) h = by_opener b.opener h (not_held c bs) where
   by_opener (OfElse t held) h others = others h
   by_opener (OfWhile t) h others = others h
 
--- an instruction that names no label doesn't depend on the lines behind it
+-- an instruction that names no label doesn't depend on the lines after it
 cause_alone : (b : plain_reading.Before) (later : List (List ℕ)) (classes : List ClassDef) (ds : List ObjectDef) (t : ThreadDef) (c : Code) → IsPlain c
     → keyword_cause b later (operand_words classes ds t c) (Some (keyword_for c)) ≡ keyword_cause b [] (operand_words classes ds t c) (Some (keyword_for c))
 cause_alone b later classes ds t (instr.Jump l) h = absurd h
@@ -144,17 +147,17 @@ words_cause-plain b later classes ds t (instr.Jlt x y z) h = absurd h
 words_cause-plain b later classes ds t (instr.Jeq x y z) h = absurd h
 words_cause-plain b later classes ds t c h = refl
 
-behind_words-plain : (p : ProgramText) (t : ThreadDef) (ts : List SyncThreadText) (bl : Blocks) (later : List (List ℕ))
+after_words-plain : (p : ProgramText) (t : ThreadDef) (ts : List SyncThreadText) (bl : Blocks) (later : List (List ℕ))
     (classes : List ClassDef) (ds : List ObjectDef) (u : ThreadDef) (c : Code) → IsPlain c → is_end c ≡ false
-    → behind_words (inside p t ts bl) later (instruction_words classes ds u c) (first_word (instruction_words classes ds u c))
+    → after_words (inside p t ts bl) later (instruction_words classes ds u c) (first_word (instruction_words classes ds u c))
     ≡ inside p t ts (with_statement bl (Plain (instruction_on p t [] (operand_words classes ds u c) (keyword_for c)) Nothing))
-behind_words-plain p t ts bl later classes ds u (instr.Enter x) h e = absurd h
-behind_words-plain p t ts bl later classes ds u (instr.Exit x) h e = absurd h
-behind_words-plain p t ts bl later classes ds u (instr.Jump x) h e = absurd h
-behind_words-plain p t ts bl later classes ds u (instr.Jlt x y z) h e = absurd h
-behind_words-plain p t ts bl later classes ds u (instr.Jeq x y z) h e = absurd h
-behind_words-plain p t ts bl later classes ds u instr.End h e = absurd (cc e)
-behind_words-plain p t ts bl later classes ds u c h e = refl
+after_words-plain p t ts bl later classes ds u (instr.Enter x) h e = absurd h
+after_words-plain p t ts bl later classes ds u (instr.Exit x) h e = absurd h
+after_words-plain p t ts bl later classes ds u (instr.Jump x) h e = absurd h
+after_words-plain p t ts bl later classes ds u (instr.Jlt x y z) h e = absurd h
+after_words-plain p t ts bl later classes ds u (instr.Jeq x y z) h e = absurd h
+after_words-plain p t ts bl later classes ds u instr.End h e = absurd (cc e)
+after_words-plain p t ts bl later classes ds u c h e = refl
 
 is_code : (c : Code) → is_instruction (keyword_for c) ≡ true
 is_code instr.End = refl
@@ -228,7 +231,8 @@ module _ (p : ProgramText) (t : SyncThreadText) (ts : List SyncThreadText) (name
       && changes_held (instruction_on p (heading t) [] (operand_words p.classes p.objects (heading t) c) (keyword_for c)) bl.opened) ≡ false
   not_assigned bl c k held = rw (is_code c, meant c k) held
 
-  pub code_cause_none : (bl : Blocks) (later : List (List ℕ)) (c : Code) → IsPlain c → IsInstruction (length p.classes) (length t.locals) (length p.objects) [] c
+  pub code_cause_none : (bl : Blocks) (later : List (List ℕ)) (c : Code) → IsPlain c
+      → IsInstruction (length p.classes) (length t.locals) (length p.objects) [] c
       → code_used bl + 1 ≤ most_code → changes_held c bl.opened ≡ false
       → words_cause (within bl) later (instruction_words p.classes p.objects (heading t) c) ≡ None
   code_cause_none bl later c h k room held =
@@ -251,8 +255,8 @@ module _ (p : ProgramText) (t : SyncThreadText) (ts : List SyncThreadText) (name
   code_line bl later c h k goes_on room held = record {
     words = instruction_is_words p.classes p.objects (heading t) named c k;
     cause = code_cause_none bl later c h k room held;
-    behind =
-        behind_words-plain p (heading t) ts bl later p.classes p.objects (heading t) c h goes_on
+    after =
+        after_words-plain p (heading t) ts bl later p.classes p.objects (heading t) c h goes_on
         ∙ ap (λ x. within (with_statement bl (Plain x Nothing))) (meant c k);
   }
 
@@ -264,7 +268,7 @@ module _ (p : ProgramText) (t : SyncThreadText) (ts : List SyncThreadText) (name
   end_line s later room = record {
     words = (refl, tt);
     cause = code_cause_none (record { opened = []; statements = s }) later instr.End tt tt room refl;
-    behind = refl;
+    after = refl;
   }
 
   -- a block's first line
@@ -285,7 +289,7 @@ module _ (p : ProgramText) (t : SyncThreadText) (ts : List SyncThreadText) (name
           assigned = refl;
           deep = lt-leb most_depth (length bl.opened) deep;
         });
-    behind = ap (λ n. within (with_block bl (OfSync n))) (found x lt);
+    after = ap (λ n. within (with_block bl (OfSync n))) (found x lt);
   }
 
   test_cause : (test : Test) → IsTest (length t.locals) test
@@ -317,7 +321,7 @@ module _ (p : ProgramText) (t : SyncThreadText) (ts : List SyncThreadText) (name
           assigned = refl;
           deep = lt-leb most_depth (length bl.opened) deep;
         });
-    behind = ap (λ x. within (with_block bl (OfIf x))) (test_meant test is);
+    after = ap (λ x. within (with_block bl (OfIf x))) (test_meant test is);
   }
 
   pub while_line : (bl : Blocks) (later : List (List ℕ)) (test : Test) → IsTest (length t.locals) test
@@ -334,7 +338,7 @@ module _ (p : ProgramText) (t : SyncThreadText) (ts : List SyncThreadText) (name
           assigned = refl;
           deep = lt-leb most_depth (length bl.opened) deep;
         });
-    behind = ap (λ x. within (with_block bl (OfWhile x))) (test_meant test is);
+    after = ap (λ x. within (with_block bl (OfWhile x))) (test_meant test is);
   }
 
   -- an `else`, and a `done`
@@ -348,7 +352,7 @@ module _ (p : ProgramText) (t : SyncThreadText) (ts : List SyncThreadText) (name
         words = (refl, tt);
         cause = clean_of (within bl) later [] word.Else
             (record { code = opened_fits bl 0 (omega arith); closed = refl; stray = refl; assigned = refl; deep = refl });
-        behind = refl;
+        after = refl;
       }
 
   pub done_line : (o : Opener) (earlier s : Statements) (bs : List OpenBlock) (later : List (List ℕ))
@@ -361,5 +365,5 @@ module _ (p : ProgramText) (t : SyncThreadText) (ts : List SyncThreadText) (name
         words = (refl, tt);
         cause = clean_of (within bl) later [] word.Done
             (record { code = opened_fits bl 0 (omega arith); closed = refl; stray = refl; assigned = refl; deep = refl });
-        behind = refl;
+        after = refl;
       }

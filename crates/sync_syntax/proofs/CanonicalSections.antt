@@ -1,5 +1,6 @@
 -- The section of a thread is read as the thread.
-use Rattle.std.proofs.Common.{◌≡◌, ◌⊎◌, inl, inr, ℕ, ◌+◌, ◌<◌, ◌≤◌, true, false, List, [], ◌∷◌, ◌++◌, length, map, refl, sym, ap, ap₂, ◌∙◌, subst, arith, append_assoc, codes}
+use Rattle.std.proofs.Common.{◌≡◌, ◌⊎◌, inl, inr, ℕ, ◌+◌, ◌<◌, ◌≤◌, true, false, List, [], ◌∷◌, ◌++◌}
+use Rattle.std.proofs.Common.{length, map, refl, sym, ap, ap₂, ◌∙◌, subst, arith, append_assoc, codes}
 use Rattle.object_program.specs.Limits.{most_code, most_threads}
 use Rattle.object_program.specs.Program.{ProgramText}
 use Rattle.object_program.specs.declared.program.ClassDef.{ClassDef}
@@ -98,11 +99,13 @@ lines_joined classes ds t Nothing b = refl
 lines_joined classes ds t (Plain c rest) b = ap (λ ls. instruction_words classes ds t c ∷ ls) (lines_joined classes ds t rest b)
 lines_joined classes ds t (Sync x body rest) b =
     ap (λ ls. sync_words t x ∷ statement_lines classes ds t body ++ done_words ∷ ls) (lines_joined classes ds t rest b)
-    ∙ ap (λ ls. sync_words t x ∷ ls) (sym (append_assoc (statement_lines classes ds t body) (done_words ∷ statement_lines classes ds t rest) (statement_lines classes ds t b)))
+    ∙ ap (λ ls. sync_words t x ∷ ls)
+    (sym (append_assoc (statement_lines classes ds t body) (done_words ∷ statement_lines classes ds t rest) (statement_lines classes ds t b)))
 lines_joined classes ds t (If test body other rest) b =
     let front = statement_lines classes ds t body ++ else_lines other (statement_lines classes ds t other) in
     ap (λ ls. test_words (codes "if") t test ∷ front ++ done_words ∷ ls) (lines_joined classes ds t rest b)
-    ∙ ap (λ ls. test_words (codes "if") t test ∷ ls) (sym (append_assoc front (done_words ∷ statement_lines classes ds t rest) (statement_lines classes ds t b)))
+    ∙ ap (λ ls. test_words (codes "if") t test ∷ ls)
+    (sym (append_assoc front (done_words ∷ statement_lines classes ds t rest) (statement_lines classes ds t b)))
 lines_joined classes ds t (While test body rest) b =
     ap (λ ls. test_words (codes "while") t test ∷ statement_lines classes ds t body ++ done_words ∷ ls) (lines_joined classes ds t rest b)
     ∙ ap (λ ls. test_words (codes "while") t test ∷ ls)
@@ -154,14 +157,16 @@ module _ (final : SyncBefore) (p : ProgramText) (t : SyncThreadText) (ts : List 
       [] t.locals later refl (each_unit t.locals) h
 
   pub section_read : (later : List (List ℕ)) → IsNew (map (λ t. t.name) p.threads) t.name → length p.threads < most_threads
-      → ReadsAs final (between (with_closed p t) (ts ++ t ∷ [])) later → ReadsAs final (between p ts) (map line_of (section_lines p.classes p.objects t) ++ later)
+      → ReadsAs final (between (with_closed p t) (ts ++ t ∷ [])) later
+      → ReadsAs final (between p ts) (map line_of (section_lines p.classes p.objects t) ++ later)
   section_read later new few h =
       let body = statement_lines p.classes p.objects (heading t) t.body in
-      let behind = map line_of body ++ later in
+      let after = map line_of body ++ later in
       let joins = lines-append (map local_words t.locals) body later in
       let rest = map line_of (map local_words t.locals ++ body) ++ later in
       let closes : plain.is_closed rest ≡ true =
-      ap plain.is_closed joins ∙ closed_locals t.locals behind is.locals ∙ ap plain.is_closed (body_lines later)
-      ∙ statements_pass p.classes p.objects t named front (end_text ∷ later) body_ended.good.fine body_ended.good.goes_on ∙ end_closes p.classes p.objects t named later in
+      ap plain.is_closed joins ∙ closed_locals t.locals after is.locals ∙ ap plain.is_closed (body_lines later)
+      ∙ statements_pass p.classes p.objects t named front (end_text ∷ later) body_ended.good.fine body_ended.good.goes_on
+      ∙ end_closes p.classes p.objects t named later in
       line_read final _ _ rest (opening_words (heading t)) (opening_line p (heading t) ts rest (plain_section.opening_line p (heading t) rest new few closes))
-      (subst (λ ls. ReadsAs final (inside p (new_thread t.name) ts no_blocks) ls) (sym joins) (locals_read behind (body_read later h)))
+      (subst (λ ls. ReadsAs final (inside p (new_thread t.name) ts no_blocks) ls) (sym joins) (locals_read after (body_read later h)))

@@ -15,7 +15,7 @@ use Rattle.program_syntax.proofs.CanonicalRuns as plain_line
 use Rattle.program_syntax.proofs.CanonicalRuns.{each_adds, each_unit, IsNew, new_in_middle, length_front, object_line_among}
 use Rattle.program_syntax.proofs.CanonicalInstructions.{AreNamed}
 use Rattle.program_syntax.proofs.CanonicalAhead.{lines-append}
-use Rattle.program_syntax.proofs.CanonicalPrograms.{lines_behind, class_lines, object_lines, local_lines}
+use Rattle.program_syntax.proofs.CanonicalPrograms.{lines_after, class_lines, object_lines, local_lines}
 use Rattle.plain_monitor.specs.Limits.{most_slots}
 use Rattle.sync_source.specs.Source.{SyncThreadText, SyncText}
 use Rattle.sync_source.specs.Valid.{IsSyncThread, IsSyncText}
@@ -47,16 +47,16 @@ threads_read final p done [] later is whole all h =
 threads_read final p done (t ∷ ts) later is whole all h =
     let few = is.threads_few in
     let rest = threads_read final p (done ++ t ∷ []) ts later is (append_assoc done (t ∷ []) ts ∙ whole) all.1 h in
-    let behind = map line_of (flat_map (section_lines p.classes p.objects) ts) ++ later in
+    let after = map line_of (flat_map (section_lines p.classes p.objects) ts) ++ later in
     let declared : List ThreadDef → ProgramText = λ us. record { classes = p.classes; objects = p.objects; threads = us } in
-    let closed = subst (λ us. ReadsAs final (between (declared us) (done ++ t ∷ [])) behind) (map-append closed_heading done (t ∷ [])) rest in
+    let closed = subst (λ us. ReadsAs final (between (declared us) (done ++ t ∷ [])) after) (map-append closed_heading done (t ∷ [])) rest in
     let new = subst (λ ns. IsNew ns t.name) (same_names done) (new_in_middle (λ (u : SyncThreadText). u.name) done t ts p.threads whole is.thread_names) in
     subst (λ lines. ReadsAs final (between (with_threads p done) done) lines)
     (sym (lines-append (section_lines p.classes p.objects t) (flat_map (section_lines p.classes p.objects) ts) later))
-    (section_read final (with_threads p done) t done (named_by p.classes p.objects t is.class_names is.object_names all.0) all.0 behind new
+    (section_read final (with_threads p done) t done (named_by p.classes p.objects t is.class_names is.object_names all.0) all.0 after new
     (omega (arith, length_front done t ts p.threads whole, length-map done closed_heading)) closed)
 
--- the empty line behind the last line feed
+-- the empty line after the last line feed
 last_line_read : (b : SyncBefore) → ReadsAs b b ([] ∷ [])
 last_line_read b = record { at = λ n. refl }
 
@@ -105,17 +105,17 @@ sections_are_lines classes ds [] class_names names thread_names h = tt
 sections_are_lines classes ds (t ∷ ts) class_names names thread_names h =
     let is = h.0 in
     let body = statement_lines classes ds (heading t) t.body in
-    lines_behind (section_lines classes ds t) (flat_map (section_lines classes ds) ts) (
+    lines_after (section_lines classes ds t) (flat_map (section_lines classes ds) ts) (
       opening_is_words (heading t) thread_names.0,
-      lines_behind (map local_words t.locals) body (local_lines t.locals is.locals)
+      lines_after (map local_words t.locals) body (local_lines t.locals is.locals)
           (statements_are_lines classes ds t (named_by classes ds t class_names names is) t.body is.body),
     )
     (sections_are_lines classes ds ts class_names names thread_names.2 h.1)
 
 all_lines : (p : SyncText) → IsSyncText p → AreLines (sync_lines p)
 all_lines p is =
-    lines_behind (map class_words p.classes ++ map (object_words p.classes) p.objects) (flat_map (section_lines p.classes p.objects) p.threads)
-    (lines_behind (map class_words p.classes) (map (object_words p.classes) p.objects) (class_lines p.classes is.class_names is.class_slots)
+    lines_after (map class_words p.classes ++ map (object_words p.classes) p.objects) (flat_map (section_lines p.classes p.objects) p.threads)
+    (lines_after (map class_words p.classes) (map (object_words p.classes) p.objects) (class_lines p.classes is.class_names is.class_slots)
     (object_lines p.classes 0 p.objects is.class_names is.object_names is.objects is.objects_few))
     (sections_are_lines p.classes p.objects p.threads is.class_names is.object_names is.thread_names is.threads)
 

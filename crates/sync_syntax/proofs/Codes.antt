@@ -1,4 +1,4 @@
--- The instruction of a line that uses no label doesn't depend on the lines behind it.
+-- The instruction of a line that uses no label doesn't depend on the lines after it.
 use Rattle.std.specs.Prelude.{codes}
 use Rattle.std.proofs.Common.{◌≡◌, ℕ, zero, suc, true, false, if◌then◌else◌, List, [], ◌∷◌, take, refl, sym, ◌∙◌, Some}
 use Rattle.object_program.specs.Program.{ProgramText}

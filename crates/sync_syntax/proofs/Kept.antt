@@ -1,5 +1,6 @@
 -- The program with blocks that a text has is allowed: a line without a cause keeps what holds of the lines so far.
-use Rattle.std.proofs.Common.{◌≡◌, ℕ, zero, suc, ◌+◌, ◌<◌, ◌≤◌, Bool, true, false, not, ◌||◌, ◌==◌, if◌then◌else◌, List, [], ◌∷◌, ◌++◌, length, map, refl, sym, ap, ◌∙◌, subst, arith, Option, Some, None, leb-false, ltb-false}
+use Rattle.std.proofs.Common.{◌≡◌, ℕ, zero, suc, ◌+◌, ◌<◌, ◌≤◌, Bool, true, false, not, ◌||◌, ◌==◌, if◌then◌else◌, List, [], ◌∷◌}
+use Rattle.std.proofs.Common.{◌++◌, length, map, refl, sym, ap, ◌∙◌, subst, arith, Option, Some, None, leb-false, ltb-false}
 use Rattle.std.specs.List.{AllByRecursion, list_any}
 use Rattle.std.proofs.lemmas.Bool.{or_parts, not-false}
 use Rattle.std.proofs.lemmas.Bool.Decides.{nat_tests}
@@ -28,12 +29,14 @@ use Rattle.sync_syntax.specs.declared.word.Word.{Word}
 use Rattle.sync_syntax.specs.declared.word.Word.TheVariants as word
 use Rattle.sync_syntax.specs.Word.{is_left_out, weight}
 use Rattle.sync_syntax.specs.Blocks.{Blocks, OfSync, OfIf, OfWhile, with_statement, code_used, changes_held}
-use Rattle.sync_syntax.specs.Reading.{SyncBefore, is_sign, test_on, code_on, ended, blocks_behind, behind_word}
+use Rattle.sync_syntax.specs.Reading.{SyncBefore, is_sign, test_on, code_on, ended, blocks_after, after_word}
 use Rattle.sync_syntax.specs.Refusal.{locals_cause, tested, plain_cause, passes_code, is_assigned}
 use Rattle.sync_syntax.specs.inner.Steps.{is_block}
 use Rattle.sync_syntax.proofs.Codes.{code_alone}
 use Rattle.sync_syntax.proofs.OpenBlocks.{size-joined}
-use Rattle.sync_syntax.proofs.Good.{AreBlocks, AreStatements-joined, KeepsLocals-joined, depth-joined, AreStatements-more, open_syncs, AreBlocks-more, AreBlocks-none, AreBlocks-statement, AreBlocks-block, AreBlocks-done, AreBlocks-else, KeepsLocals-front, EndsWell-push, IsInstruction-alone}
+use Rattle.sync_syntax.proofs.Good.{AreBlocks, AreStatements-joined, KeepsLocals-joined, depth-joined, AreStatements-more}
+use Rattle.sync_syntax.proofs.Good.{open_syncs, AreBlocks-more, AreBlocks-none, AreBlocks-statement, AreBlocks-block}
+use Rattle.sync_syntax.proofs.Good.{AreBlocks-done, AreBlocks-else, KeepsLocals-front, EndsWell-push, IsInstruction-alone}
 use Rattle.sync_syntax.proofs.BlockLines.{cond_none, only_none, HasNoBlockCause, block_section}
 
 -- the section that is open has no instruction and no label, as the plain language has it, and its blocks are those that a thread may have
@@ -88,7 +91,7 @@ declared_class ws = record { name = operand ws 0; slots = count_at ws 1 }
 -- a declaration, or the opening of a section
 outside_kept : (p : ProgramText) (ts : List SyncThreadText) (bl : Blocks) (later : List (List ℕ)) (w : List ℕ) (ws : List (List ℕ)) (k : Keyword) → (a : Ahead)
     → IsKept (state p None ts bl) a → HasNoCause (record { text = p; section = None }) later ws k → is_outside k ≡ true
-    → IsKept (behind_word (state p None ts bl) later ws (word.Plain k)) (ahead_of later)
+    → IsKept (after_word (state p None ts bl) later ws (word.Plain k)) (ahead_of later)
 outside_kept p ts bl later w ws keyword.Class a h n outside = record {
   plain = line_kept p None later w ws keyword.Class h.plain.text tt n;
   section = tt;
@@ -104,7 +107,8 @@ outside_kept p ts bl later w ws keyword.Object a h n outside = record {
 outside_kept p ts bl later w ws keyword.Array a h n outside = record {
   plain = line_kept p None later w ws keyword.Array h.plain.text tt n;
   section = tt;
-  threads = all_weaker _ _ (IsSyncThread-more _ _ _ _ (omega arith) (omega (arith, length_push p.objects (declared_objects p ws (count_at ws 2) true)))) ts h.threads;
+  threads = all_weaker _ _ (IsSyncThread-more _ _ _ _ (omega arith)
+      (omega (arith, length_push p.objects (declared_objects p ws (count_at ws 2) true)))) ts h.threads;
   names = h.names;
 }
 outside_kept p ts bl later w ws keyword.Thread a h n outside = record {
@@ -116,7 +120,8 @@ outside_kept p ts bl later w ws keyword.Thread a h n outside = record {
 outside_kept p ts bl later w ws k a h n outside = absurd (cc outside)
 
 -- the thread of a section that is closed
-ended_thread : (p : ProgramText) (t : ThreadDef) (bl : Blocks) (a : Ahead) → IsOpenIn p a t → AreBlocks (length p.classes) (length t.locals) (length p.objects) bl → code_used bl + 1 ≤ most_code
+ended_thread : (p : ProgramText) (t : ThreadDef) (bl : Blocks) (a : Ahead) → IsOpenIn p a t
+    → AreBlocks (length p.classes) (length t.locals) (length p.objects) bl → code_used bl + 1 ≤ most_code
     → IsSyncThread (length p.classes) (length p.objects) (ended t bl)
 ended_thread p t bl a o blocks room =
     let good = blocks.statements in
@@ -134,7 +139,7 @@ ended_thread p t bl a o blocks room =
 
 end_kept : (p : ProgramText) (t : ThreadDef) (ts : List SyncThreadText) (bl : Blocks) (later : List (List ℕ)) (w : List ℕ) (ws : List (List ℕ))
     → IsKept (state p (Some t) ts bl) (ahead_with (w ∷ ws) (Some keyword.End) later) → HasNoCause (record { text = p; section = Some t }) later ws keyword.End
-    → code_used bl + 1 ≤ most_code → IsKept (behind_word (state p (Some t) ts bl) later ws (word.Plain keyword.End)) (ahead_of later)
+    → code_used bl + 1 ≤ most_code → IsKept (after_word (state p (Some t) ts bl) later ws (word.Plain keyword.End)) (ahead_of later)
 end_kept p t ts bl later w ws h n room = record {
   plain = line_kept p (Some t) later w ws keyword.End h.plain.text h.plain.section n;
   section = tt;
@@ -145,29 +150,32 @@ end_kept p t ts bl later w ws h n room = record {
 }
 
 local_kept : (p : ProgramText) (t : ThreadDef) (ts : List SyncThreadText) (bl : Blocks) (later : List (List ℕ)) (w : List ℕ) (ws : List (List ℕ))
-    → IsKept (state p (Some t) ts bl) (ahead_with (w ∷ ws) (Some keyword.Local) later) → HasNoCause (record { text = p; section = Some t }) later ws keyword.Local
-    → IsKept (behind_word (state p (Some t) ts bl) later ws (word.Plain keyword.Local)) (ahead_of later)
+    → IsKept (state p (Some t) ts bl) (ahead_with (w ∷ ws) (Some keyword.Local) later)
+    → HasNoCause (record { text = p; section = Some t }) later ws keyword.Local
+    → IsKept (after_word (state p (Some t) ts bl) later ws (word.Plain keyword.Local)) (ahead_of later)
 local_kept p t ts bl later w ws h n = record {
   plain = line_kept p (Some t) later w ws keyword.Local h.plain.text h.plain.section n;
   section = (
     record { labels = h.section.0.labels; code = h.section.0.code },
-    AreBlocks-more (length p.classes) (length t.locals) (length (t.locals ++ operand ws 0 ∷ [])) (length p.objects) bl (omega (arith, length_push t.locals (operand ws 0))) h.section.1,
+    AreBlocks-more (length p.classes) (length t.locals) (length (t.locals ++ operand ws 0 ∷ []))
+        (length p.objects) bl (omega (arith, length_push t.locals (operand ws 0))) h.section.1,
   );
   threads = h.threads;
   names = h.names;
 }
 
 -- another instruction
-code_behind : (b : SyncBefore) (t : ThreadDef) (later ws : List (List ℕ)) (k : Keyword) → b.plain.section ≡ Some t → is_instruction k ≡ true → (k ≡ keyword.End → ⊥)
-    → behind_word b later ws (word.Plain k) ≡ record b { blocks = with_statement b.blocks (Plain (code_on b t ws k) Nothing) }
-code_behind b t later ws keyword.Class s i end = absurd (cc i)
-code_behind b t later ws keyword.Object s i end = absurd (cc i)
-code_behind b t later ws keyword.Array s i end = absurd (cc i)
-code_behind b t later ws keyword.Thread s i end = absurd (cc i)
-code_behind b t later ws keyword.Local s i end = absurd (cc i)
-code_behind b t later ws keyword.Label s i end = absurd (cc i)
-code_behind b t later ws keyword.End s i end = absurd (end refl)
-code_behind b t later ws k s i end = rw s refl
+code_after : (b : SyncBefore) (t : ThreadDef) (later ws : List (List ℕ)) (k : Keyword)
+    → b.plain.section ≡ Some t → is_instruction k ≡ true → (k ≡ keyword.End → ⊥)
+    → after_word b later ws (word.Plain k) ≡ record b { blocks = with_statement b.blocks (Plain (code_on b t ws k) Nothing) }
+code_after b t later ws keyword.Class s i end = absurd (cc i)
+code_after b t later ws keyword.Object s i end = absurd (cc i)
+code_after b t later ws keyword.Array s i end = absurd (cc i)
+code_after b t later ws keyword.Thread s i end = absurd (cc i)
+code_after b t later ws keyword.Local s i end = absurd (cc i)
+code_after b t later ws keyword.Label s i end = absurd (cc i)
+code_after b t later ws keyword.End s i end = absurd (end refl)
+code_after b t later ws k s i end = rw s refl
 
 plain_code : (p : ProgramText) (t : ThreadDef) (ws : List (List ℕ)) (k : Keyword) → is_left_out k ≡ false → IsPlain (instruction_on p t [] ws k)
 plain_code p t ws keyword.Label h = absurd (cc h)
@@ -178,7 +186,8 @@ plain_code p t ws keyword.Jlt h = absurd (cc h)
 plain_code p t ws keyword.Jeq h = absurd (cc h)
 plain_code p t ws k h = tt
 
-code_goes_on : (p : ProgramText) (t : ThreadDef) (ws : List (List ℕ)) (k : Keyword) → is_instruction k ≡ true → (k ≡ keyword.End → ⊥) → ends_here (instruction_on p t [] ws k) ≡ false
+code_goes_on : (p : ProgramText) (t : ThreadDef) (ws : List (List ℕ)) (k : Keyword)
+    → is_instruction k ≡ true → (k ≡ keyword.End → ⊥) → ends_here (instruction_on p t [] ws k) ≡ false
 code_goes_on p t ws keyword.Class i end = absurd (cc i)
 code_goes_on p t ws keyword.Object i end = absurd (cc i)
 code_goes_on p t ws keyword.Array i end = absurd (cc i)
@@ -202,7 +211,7 @@ code_closed later k i end h = h
 code_kept : (p : ProgramText) (t : ThreadDef) (ts : List SyncThreadText) (bl : Blocks) (later : List (List ℕ)) (w : List ℕ) (ws : List (List ℕ)) (k : Keyword)
     → IsKept (state p (Some t) ts bl) (ahead_with (w ∷ ws) (Some k) later) → HasNoCause (record { text = p; section = Some t }) later ws k
     → is_instruction k ≡ true → (k ≡ keyword.End → ⊥) → is_left_out k ≡ false → changes_held (instruction_on p t [] ws k) bl.opened ≡ false
-    → IsKept (behind_word (state p (Some t) ts bl) later ws (word.Plain k)) (ahead_of later)
+    → IsKept (after_word (state p (Some t) ts bl) later ws (word.Plain k)) (ahead_of later)
 code_kept p t ts bl later w ws k h n i end kept held =
     let c = instruction_on p t [] ws k in
     let classes = length p.classes in
@@ -212,8 +221,11 @@ code_kept p t ts bl later w ws k h n i end kept held =
     let there = instruction_fine p t later ws k n.operands in
     let same : instruction_on p t later ws k ≡ c = code_alone p t later [] ws k kept in
     let fine : IsInstruction classes l o [] c = IsInstruction-alone classes l o _ c plain (subst (IsInstruction classes l o _) same there) in
-    subst (λ b. IsKept b (ahead_of later)) (sym (code_behind (state p (Some t) ts bl) t later ws k refl i end)) (record {
-      plain = record { text = h.plain.text; section = passed p t _ (ahead_of later) h.section.0 h.plain.section (code_closed later k i end h.plain.section.closed) };
+    subst (λ b. IsKept b (ahead_of later)) (sym (code_after (state p (Some t) ts bl) t later ws k refl i end)) (record {
+      plain = record {
+        text = h.plain.text;
+        section = passed p t _ (ahead_of later) h.section.0 h.plain.section (code_closed later k i end h.plain.section.closed);
+      };
       section = (h.section.0, AreBlocks-statement classes l o bl c h.section.1 plain fine (code_goes_on p t ws k i end) held);
       threads = h.threads;
       names = h.names;
@@ -228,10 +240,11 @@ code_held : (p : ProgramText) (t : ThreadDef) (ts : List SyncThreadText) (bl : B
 code_held p t ts bl ws k i h = rw i at h
 
 -- a line of the plain language in an open section
-section_kept : (p : ProgramText) (t : ThreadDef) (ts : List SyncThreadText) (bl : Blocks) (later : List (List ℕ)) (w : List ℕ) (ws : List (List ℕ)) (k : Keyword)
+section_kept : (p : ProgramText) (t : ThreadDef) (ts : List SyncThreadText)
+    (bl : Blocks) (later : List (List ℕ)) (w : List ℕ) (ws : List (List ℕ)) (k : Keyword)
     → IsKept (state p (Some t) ts bl) (ahead_with (w ∷ ws) (Some k) later) → HasNoCause (record { text = p; section = Some t }) later ws k
     → HasNoBlockCause (state p (Some t) ts bl) later ws (word.Plain k) → is_left_out k ≡ false
-    → IsKept (behind_word (state p (Some t) ts bl) later ws (word.Plain k)) (ahead_of later)
+    → IsKept (after_word (state p (Some t) ts bl) later ws (word.Plain k)) (ahead_of later)
 section_kept p t ts bl later w ws keyword.Class h n m kept = absurd (cc (h.plain.section.closed))
 section_kept p t ts bl later w ws keyword.Object h n m kept = absurd (cc (h.plain.section.closed))
 section_kept p t ts bl later w ws keyword.Array h n m kept = absurd (cc (h.plain.section.closed))
@@ -242,10 +255,11 @@ section_kept p t ts bl later w ws keyword.End h n m kept = end_kept p t ts bl la
 section_kept p t ts bl later w ws k h n m kept =
     code_kept p t ts bl later w ws k h n refl (λ e. absurd (cc e)) kept (code_held p t ts bl ws k refl m.assigned)
 
-pub keyword_kept : (p : ProgramText) (s : Option ThreadDef) (ts : List SyncThreadText) (bl : Blocks) (later : List (List ℕ)) (w : List ℕ) (ws : List (List ℕ)) (k : Keyword)
+pub keyword_kept : (p : ProgramText) (s : Option ThreadDef) (ts : List SyncThreadText)
+    (bl : Blocks) (later : List (List ℕ)) (w : List ℕ) (ws : List (List ℕ)) (k : Keyword)
     → IsKept (state p s ts bl) (ahead_with (w ∷ ws) (Some k) later) → HasNoCause (record { text = p; section = s }) later ws k
     → HasNoBlockCause (state p s ts bl) later ws (word.Plain k) → is_left_out k ≡ false
-    → IsKept (behind_word (state p s ts bl) later ws (word.Plain k)) (ahead_of later)
+    → IsKept (after_word (state p s ts bl) later ws (word.Plain k)) (ahead_of later)
 keyword_kept p None ts bl later w ws k h n m kept = outside_kept p ts bl later w ws k _ h n (place k n.place) where
   place : (k : Keyword) → (is_outside k || false) ≡ true → is_outside k ≡ true
   place k e = by_test (is_outside k) e where
@@ -255,7 +269,8 @@ keyword_kept p None ts bl later w ws k h n m kept = outside_kept p ts bl later w
 keyword_kept p (Some t) ts bl later w ws k h n m kept = section_kept p t ts bl later w ws k h n m kept
 
 -- the locals of a block's line are declared
-known_at : (b : Before) (ws : List (List ℕ)) (i : ℕ) → list_any (is_undeclared b [] a_local) ws ≡ false → i < length ws → is_among (local_names b.section) (operand ws i) ≡ true
+known_at : (b : Before) (ws : List (List ℕ)) (i : ℕ) → list_any (is_undeclared b [] a_local) ws ≡ false
+    → i < length ws → is_among (local_names b.section) (operand ws i) ≡ true
 known_at b [] i h lt = absurd (omega arith)
 known_at b (w ∷ ws) zero h lt = not-false _ (or_parts (is_undeclared b [] a_local w) _ h).0
 known_at b (w ∷ ws) (suc i) h lt = known_at b ws i (or_parts (is_undeclared b [] a_local w) _ h).1 (omega arith)
@@ -278,13 +293,15 @@ local_below : (p : ProgramText) (t : ThreadDef) (n : ℕ) (ws : List (List ℕ))
     → number_among t.locals (operand ws i) < length t.locals
 local_below p t n ws i h lt = number_among-lt t.locals (operand ws i) (h.known i lt)
 
-test_fine : (p : ProgramText) (t : ThreadDef) (ws : List (List ℕ)) → locals_cause (record { text = p; section = Some t }) 2 (tested ws) ≡ None → IsTest (length t.locals) (test_on t ws)
+test_fine : (p : ProgramText) (t : ThreadDef) (ws : List (List ℕ))
+    → locals_cause (record { text = p; section = Some t }) 2 (tested ws) ≡ None → IsTest (length t.locals) (test_on t ws)
 test_fine p t [] h = absurd (cc h)
 test_fine p t (x ∷ []) h = absurd (cc h)
 test_fine p t (x ∷ sign ∷ []) h = absurd (cc h)
 test_fine p t (x ∷ sign ∷ y ∷ z ∷ ws) h = absurd (cc h)
 test_fine p t (x ∷ sign ∷ y ∷ []) h = by_sign (is_sign sign) h where
-  by_sign : (b : Bool) → locals_cause (record { text = p; section = Some t }) 2 (if b then x ∷ y ∷ [] else []) ≡ None → IsTest (length t.locals) (test_on t (x ∷ sign ∷ y ∷ []))
+  by_sign : (b : Bool) → locals_cause (record { text = p; section = Some t }) 2 (if b then x ∷ y ∷ [] else []) ≡ None
+      → IsTest (length t.locals) (test_on t (x ∷ sign ∷ y ∷ []))
   by_sign false e = absurd (cc e)
   by_sign true e =
       let known = locals_known (record { text = p; section = Some t }) 2 (x ∷ y ∷ []) e in
@@ -293,7 +310,7 @@ test_fine p t (x ∷ sign ∷ y ∷ []) h = by_sign (is_sign sign) h where
 -- a block's line
 blocks_kept : (p : ProgramText) (t : ThreadDef) (ts : List SyncThreadText) (bl : Blocks) (later ws : List (List ℕ)) (k : Word) → is_block k ≡ true
     → AreBlocks (length p.classes) (length t.locals) (length p.objects) bl → plain_cause (record { text = p; section = Some t }) later ws k ≡ None
-    → HasNoBlockCause (state p (Some t) ts bl) later ws k → AreBlocks (length p.classes) (length t.locals) (length p.objects) (blocks_behind t bl ws k)
+    → HasNoBlockCause (state p (Some t) ts bl) later ws k → AreBlocks (length p.classes) (length t.locals) (length p.objects) (blocks_after t bl ws k)
 blocks_kept p t ts bl later ws (word.Plain k) block h plain m = absurd (cc block)
 blocks_kept p t ts bl later ws word.Sync block h plain m =
     let known = locals_known (record { text = p; section = Some t }) 1 ws plain in
@@ -303,18 +320,19 @@ blocks_kept p t ts bl later ws word.While block h plain m = AreBlocks-block _ _ 
 blocks_kept p t ts bl later ws word.Else block h plain m = AreBlocks-else _ _ _ bl.opened bl.statements (not-false _ m.stray) h
 blocks_kept p t ts bl later ws word.Done block h plain m = AreBlocks-done _ _ _ bl.opened bl.statements h
 
-block_behind : (b : SyncBefore) (t : ThreadDef) (later ws : List (List ℕ)) (k : Word) → b.plain.section ≡ Some t → is_block k ≡ true
-    → behind_word b later ws k ≡ record b { blocks = blocks_behind t b.blocks ws k }
-block_behind b t later ws (word.Plain k) s block = absurd (cc block)
-block_behind b t later ws k s block = rw s refl
+block_after : (b : SyncBefore) (t : ThreadDef) (later ws : List (List ℕ)) (k : Word) → b.plain.section ≡ Some t → is_block k ≡ true
+    → after_word b later ws k ≡ record b { blocks = blocks_after t b.blocks ws k }
+block_after b t later ws (word.Plain k) s block = absurd (cc block)
+block_after b t later ws k s block = rw s refl
 
-pub block_kept : (p : ProgramText) (s : Option ThreadDef) (ts : List SyncThreadText) (bl : Blocks) (later : List (List ℕ)) (w : List ℕ) (ws : List (List ℕ)) (k : Word) → is_block k ≡ true
+pub block_kept : (p : ProgramText) (s : Option ThreadDef) (ts : List SyncThreadText) (bl : Blocks)
+    (later : List (List ℕ)) (w : List ℕ) (ws : List (List ℕ)) (k : Word) → is_block k ≡ true
     → IsKept (state p s ts bl) (ahead_with (w ∷ ws) None later) → plain_cause (record { text = p; section = s }) later ws k ≡ None
-    → HasNoBlockCause (state p s ts bl) later ws k → IsKept (behind_word (state p s ts bl) later ws k) (ahead_of later)
+    → HasNoBlockCause (state p s ts bl) later ws k → IsKept (after_word (state p s ts bl) later ws k) (ahead_of later)
 block_kept p None ts bl later w ws k block h plain m =
     let none : false ≡ true = block_section (record { text = p; section = None }) later ws k block plain in absurd (cc none)
 block_kept p (Some t) ts bl later w ws k block h plain m =
-    subst (λ b. IsKept b (ahead_of later)) (sym (block_behind (state p (Some t) ts bl) t later ws k refl block)) (record {
+    subst (λ b. IsKept b (ahead_of later)) (sym (block_after (state p (Some t) ts bl) t later ws k refl block)) (record {
       plain = record { text = h.plain.text; section = passed p t _ (ahead_of later) h.section.0 h.plain.section h.plain.section.closed };
       section = (h.section.0, blocks_kept p t ts bl later ws k block h.section.1 plain m);
       threads = h.threads;

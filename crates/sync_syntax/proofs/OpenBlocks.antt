@@ -10,7 +10,9 @@ use Rattle.sync_source.specs.Source.{Statements, Nothing, Plain, Sync, If, While
 use Rattle.sync_source.specs.BlockView.{before, all_of}
 use Rattle.sync_source.specs.Compiled.{size}
 use Rattle.sync_syntax.specs.declared.block.OpenBlock as block
-use Rattle.sync_syntax.specs.Blocks.{Blocks, OpenBlock, Opener, OfSync, OfIf, OfElse, OfWhile, joined, closed, with_statement, with_block, without_block, with_else, in_else, changes_local, changes_held, opened_size, opener_size, code_used, is_if, takes_else}
+use Rattle.sync_syntax.specs.Blocks.{Blocks, OpenBlock, Opener, OfSync, OfIf, OfElse, OfWhile, joined, closed}
+use Rattle.sync_syntax.specs.Blocks.{with_statement, with_block, without_block, with_else, in_else, changes_local}
+use Rattle.sync_syntax.specs.Blocks.{changes_held, opened_size, opener_size, code_used, is_if, takes_else}
 use Rattle.sync_syntax.specs.inner.Views.{opener_of, block_of, opened_of}
 
 -- a statement stands before the others
@@ -46,7 +48,8 @@ any-map p f [] = refl
 any-map p f (x ∷ xs) = ap (λ b. p (f x) || b) (any-map p f xs)
 
 pub changes-opened : (c : Code) (bs : List block.OpenBlock) → changes_held c (opened_of bs) ≡ list_any (λ b. changes_local c (opener_of b.opener)) bs
-changes-opened c bs = any-map (λ (b : OpenBlock). changes_local c b.opener) block_of (reverse bs) ∙ any-reverse (λ (b : block.OpenBlock). changes_local c (opener_of b.opener)) bs
+changes-opened c bs = any-map (λ (b : OpenBlock). changes_local c b.opener) block_of (reverse bs)
+    ∙ any-reverse (λ (b : block.OpenBlock). changes_local c (opener_of b.opener)) bs
 
 -- sizes
 pub size-joined : (a b : Statements) → size (joined a b) ≡ size a + size b

@@ -30,8 +30,8 @@ else_written classes ds t ss old mid some e =
     ap (λ bs. bs ++ statements_text classes ds t (all_of ss)) e ∙ append_assoc old (line_text else_words) (statements_text classes ds t (all_of ss))
     ∙ ap (λ bs. old ++ bs) (sym (else_text classes ds t ss some))
 
-one_behind_another : (old a b c d : List ℕ) → (((old ++ a) ++ b) ++ c) ++ d ≡ old ++ (a ++ ((b ++ c) ++ d))
-one_behind_another old a b c d = simp append_assoc
+one_after_another : (old a b c d : List ℕ) → (((old ++ a) ++ b) ++ c) ++ d ≡ old ++ (a ++ ((b ++ c) ++ d))
+one_after_another old a b c d = simp append_assoc
 
 -- an `if`, its block, its `else`, and a `done`
 pub if_written : (classes : List ClassDef) (ds : List ObjectDef) (t : ThreadDef) (test : Test) (body other : Statements) (old first second third : List ℕ)
@@ -48,5 +48,5 @@ if_written classes ds t test body other old first second third e f g =
     flat_map-append line_text (bodies ++ others) (done_words ∷ []) in
     let parts = all ∙ ap (λ bs. lines_text (bodies ++ others) ++ bs) (append-nil last) ∙ ap (λ bs. bs ++ last) one in
     ap (λ bs. bs ++ last) (g ∙ ap (λ bs. bs ++ lines_text others) (f ∙ ap (λ bs. bs ++ lines_text bodies) e))
-    ∙ one_behind_another old a (lines_text bodies) (lines_text others) last
+    ∙ one_after_another old a (lines_text bodies) (lines_text others) last
     ∙ ap (λ bs. old ++ (a ++ bs)) (sym parts)

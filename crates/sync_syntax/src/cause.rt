@@ -9,42 +9,42 @@ ghost use Rattle.sync_syntax.specs.inner.Steps.{is_kept, HasOperands};
 use crate::block::Blocks;
 use crate::blocks::{changes_held, takes_done, takes_else};
 use crate::closing::is_closed;
-use crate::error::SyncWhy;
+use crate::error::SyncRefusalCause;
 use crate::section::code_on;
 use crate::spelling::{opens, weight};
 use crate::state::SyncReader;
 use crate::word::Word;
-use program_syntax::{CODE, Lines, Why, Words, is_instruction};
+use program_syntax::{CODE, Lines, RefusalCause, Words, is_instruction};
 
 /// How many blocks may be open.
 const DEPTH: usize = 32;
 
-/// Why a line with this word and these operands is refused, with these lines behind it, where it has no cause of the
+/// Why a line with this word and these operands is refused, with these lines after it, where it has no cause of the
 /// plain language.
 pub fn statement_cause(
     reader: &SyncReader,
     word: Word,
     operands: &Words<'_>,
     later: &Lines<'_>,
-) -> Option<SyncWhy>
+) -> Option<SyncRefusalCause>
     requires kept { is_kept word ≡ true }
     requires operands { HasOperands word operands.now }
     ensures { result ≡ statement_cause (sync_before reader.now) later.now operands.now word }
 {
     if reader.used + weight(word) > CODE {
-        return Some(SyncWhy::Plain(Why::Limit));
+        return Some(SyncRefusalCause::Plain(RefusalCause::Limit));
     }
     if opens(word) && !is_closed(later) {
-        return Some(SyncWhy::Open);
+        return Some(SyncRefusalCause::Open);
     }
     if is_stray(&reader.blocks, word) {
-        return Some(SyncWhy::Stray);
+        return Some(SyncRefusalCause::Stray);
     }
     if is_assigned(reader, word, operands) {
-        return Some(SyncWhy::Assigned);
+        return Some(SyncRefusalCause::Assigned);
     }
     if opens(word) && reader.blocks.opened.len() >= DEPTH {
-        return Some(SyncWhy::Deep);
+        return Some(SyncRefusalCause::Deep);
     }
     None
 }

@@ -1,7 +1,7 @@
 //! The lines ahead of a block: whether one of them closes it.
 
 ghost use Rattle.std.specs.Prelude.{◌≡◌, ◌<◌, ◌^◌};
-ghost use Rattle.sync_syntax.specs.Refusal.{inner_behind, is_closed};
+ghost use Rattle.sync_syntax.specs.Refusal.{inner_after, is_closed};
 
 use crate::spelling::{ends, first_word, is_done, opens};
 use crate::word::Word;
@@ -21,15 +21,15 @@ pub fn is_closed(lines: &Lines<'_>) -> bool
         if inner == 0 && is_done(word) {
             return true;
         }
-        inner = inner_behind(inner, word);
+        inner = inner_after(inner, word);
     }
     false
 }
 
-/// How many blocks are open behind a line with this word, of those that were opened behind a block's line.
-fn inner_behind(inner: usize, word: Option<Word>) -> usize
+/// How many blocks are open after a line with this word, of those that were opened after a block's line.
+fn inner_after(inner: usize, word: Option<Word>) -> usize
     requires { inner < 2 ^ 32 }
-    ensures { result ≡ inner_behind inner word }
+    ensures { result ≡ inner_after inner word }
 {
     match word {
         None => inner,

@@ -1,15 +1,15 @@
 //! Why a text has no program with blocks.
 
-use program_syntax::Why;
+use program_syntax::RefusalCause;
 use thiserror::Error;
 
 /// The cause of a refusal: of the causes that a line has, the first in this order is named. Those of the plain language
-/// come first, as `Why` numbers them; the others have the numbers 21 to 24. `specs/Refusal.antt` says of each where it
+/// come first, as `RefusalCause` numbers them; the others have the numbers 21 to 24. `specs/Refusal.antt` says of each where it
 /// comes.
 #[derive(Clone, Copy, Debug, PartialEq, Eq)]
-pub enum SyncWhy {
+pub enum SyncRefusalCause {
     /// A cause that texts without blocks have too.
-    Plain(Why),
+    Plain(RefusalCause),
     /// The section ends before the `done` of this line's block.
     Open,
     /// A `done` where no block is open, or an `else` where the innermost open block isn't an `if` without `else`.
@@ -25,5 +25,5 @@ pub enum SyncWhy {
 #[error("line {line}: {why:?}")]
 pub struct SyncError {
     pub line: u32,
-    pub why: SyncWhy,
+    pub why: SyncRefusalCause,
 }

@@ -19,7 +19,7 @@ mod state;
 mod word;
 mod write;
 
-pub use error::{SyncError, SyncWhy};
+pub use error::{SyncError, SyncRefusalCause};
 pub use laws::{canonical_texts_are_read_back, no_block_is_open_at_an_end};
 pub use reader::read_sync;
 pub use write::write_sync;

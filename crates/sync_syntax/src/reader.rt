@@ -5,7 +5,7 @@ ghost use Rattle.std.specs.Prelude.{◌≡◌, ◌⊎◌, ◌≤◌, ◌∷◌, 
 ghost use Rattle.program_syntax.specs.State.{before_of};
 ghost use Rattle.program_syntax.specs.Text.{most_bytes};
 ghost use Rattle.program_syntax.specs.Refusal.{lines_of};
-ghost use Rattle.program_syntax.specs.declared.error.Why.TheVariants as why;
+ghost use Rattle.program_syntax.specs.declared.error.RefusalCause.TheVariants as why;
 ghost use Rattle.sync_source.specs.SourceView.{sync_text};
 ghost use Rattle.sync_source.specs.Valid.{IsSyncText};
 ghost use Rattle.sync_syntax.specs.Reading.{nothing_read, text_read};
@@ -15,60 +15,60 @@ ghost use Rattle.sync_syntax.specs.inner.Steps.{is_kept, IsOutside, ClosesSectio
 
 use crate::blocks::no_blocks;
 use crate::cause::statement_cause;
-use crate::error::{SyncError, SyncWhy};
+use crate::error::{SyncError, SyncRefusalCause};
 use crate::plain::plain_cause;
-use crate::section::behind_word;
+use crate::section::after_word;
 use crate::spelling::word_of;
 use crate::state::SyncReader;
 use crate::word::Word;
 use plain_monitor::{List, NoMemory};
-use program_syntax::{BYTES, Declared, Directory, Lines, Reader, Why, Words, is_text};
+use program_syntax::{BYTES, Declared, Directory, Lines, Reader, RefusalCause, Words, is_text};
 use std::alloc::Global;
 use sync_source::SyncProgram;
 
-/// A line with this word and these operands, with these lines behind it.
+/// A line with this word and these operands, with these lines after it.
 fn word_line(
     alloc: Global,
     reader: SyncReader,
     word: Word,
     operands: &Words<'_>,
     later: &Lines<'_>,
-) -> Result<SyncReader, SyncWhy>
+) -> Result<SyncReader, SyncRefusalCause>
     requires kept { is_kept word ≡ true }
     requires outside { IsOutside (before_of reader.plain).section word }
     ensures { IsWordStep reader later.now operands.now word result }
 {
     if let Some(why) = plain_cause(&reader.plain, word, operands, later) {
-        return Err(SyncWhy::Plain(why));
+        return Err(SyncRefusalCause::Plain(why));
     }
     if let Some(why) = statement_cause(&reader, word, operands, later) {
         return Err(why);
     }
-    match behind_word(alloc, reader, word, operands, later) {
+    match after_word(alloc, reader, word, operands, later) {
         Ok(reader) => Ok(reader),
-        Err(NoMemory) => Err(SyncWhy::Plain(Why::NoMemory)),
+        Err(NoMemory) => Err(SyncRefusalCause::Plain(RefusalCause::NoMemory)),
     }
 }
 
-/// A line, between those before it and those behind it.
+/// A line, between those before it and those after it.
 fn read_line(
     alloc: Global,
     reader: SyncReader,
     line: &[u8],
     later: &Lines<'_>,
-) -> Result<SyncReader, SyncWhy>
+) -> Result<SyncReader, SyncRefusalCause>
     requires { ClosesSection (before_of reader.plain).section (line.now ∷ later.now) }
     ensures { IsLineStep reader later.now line.now result }
 {
     if !is_text(line) {
-        return Err(SyncWhy::Plain(Why::NotAscii));
+        return Err(SyncRefusalCause::Plain(RefusalCause::NotAscii));
     }
     let mut words = Words::of(line);
     let Some(first) = words.next() else {
         return Ok(reader);
     };
     let Some(word) = word_of(first) else {
-        return Err(SyncWhy::Plain(Why::UnknownWord));
+        return Err(SyncRefusalCause::Plain(RefusalCause::UnknownWord));
     };
     word_line(alloc, reader, word, &words, later)
 }
@@ -122,7 +122,7 @@ fn read_lines(alloc: Global, bytes: &[u8]) -> Result<SyncReader, SyncError>
 /// # Errors
 ///
 /// `Limit` at line 0 where the text has more than 1,048,576 bytes. Else the first line that has a cause of refusal,
-/// lines counted from 1, with its lowest-numbered cause, as `SyncWhy` numbers them. Else `NoThread` at line 0 where no
+/// lines counted from 1, with its lowest-numbered cause, as `SyncRefusalCause` numbers them. Else `NoThread` at line 0 where no
 /// line opens a section. `NoMemory` at line 0 where an allocation fails, whatever the text. Nothing is kept.
 pub fn read_sync(alloc: Global, bytes: &[u8]) -> Result<SyncProgram, SyncError>
     ensures ok { IfOk result (λ p. sync_program_of bytes.now ≡ Ok (sync_text p)) }
@@ -130,32 +130,32 @@ pub fn read_sync(alloc: Global, bytes: &[u8]) -> Result<SyncProgram, SyncError>
     ensures err { IfErr result (λ e. (sync_program_of bytes.now ≡ Err e) ⊎ (e ≡ of_text why.NoMemory)) }
 {
     if bytes.len() > BYTES {
-        return Err(of_text(Why::Limit));
+        return Err(of_text(RefusalCause::Limit));
     }
     let reader = read_lines(alloc, bytes)?;
     if reader.threads.is_empty() {
-        return Err(of_text(Why::NoThread));
+        return Err(of_text(RefusalCause::NoThread));
     }
     Ok(program(reader))
 }
 
 /// A refusal of the line with this number. Want of memory is no line's.
-fn refusal(line: u32, why: SyncWhy) -> SyncError
+fn refusal(line: u32, why: SyncRefusalCause) -> SyncError
     ensures { result ≡ refusal line why }
 {
     match why {
-        SyncWhy::Plain(Why::NoMemory) => of_text(Why::NoMemory),
+        SyncRefusalCause::Plain(RefusalCause::NoMemory) => of_text(RefusalCause::NoMemory),
         why => SyncError { line, why },
     }
 }
 
 /// A refusal of the text as a whole.
-fn of_text(why: Why) -> SyncError
+fn of_text(why: RefusalCause) -> SyncError
     ensures { result ≡ of_text why }
 {
     SyncError {
         line: 0,
-        why: SyncWhy::Plain(why),
+        why: SyncRefusalCause::Plain(why),
     }
 }
 

@@ -4,13 +4,13 @@ ghost use Rattle.std.specs.Prelude.{◌≡◌, ◌==◌, ◌≤◌, ◌+◌, ℕ
 ghost use Rattle.object_program.specs.Limits.{most_code};
 ghost use Rattle.object_program.specs.Name.{is_name};
 ghost use Rattle.program_syntax.specs.Line.{is_instruction, is_outside, operands_of};
-ghost use Rattle.program_syntax.specs.Reading.{operand, new_thread, instruction_on, behind_keyword};
+ghost use Rattle.program_syntax.specs.Reading.{operand, new_thread, instruction_on, after_keyword};
 ghost use Rattle.program_syntax.specs.Refusal.{is_bad_number, some_operand, keyword_cause, locals_full};
 ghost use Rattle.program_syntax.specs.declared.keyword.Keyword.TheVariants as keyword;
 ghost use Rattle.program_syntax.specs.State.{text_of, thread_of, before_of};
 ghost use Rattle.sync_source.specs.SourceView.{thread_text};
 ghost use Rattle.sync_syntax.specs.Word.{is_left_out, weight};
-ghost use Rattle.sync_syntax.specs.Reading.{test_on, ended, blocks_behind, behind_word};
+ghost use Rattle.sync_syntax.specs.Reading.{test_on, ended, blocks_after, after_word};
 ghost use Rattle.sync_syntax.specs.Refusal.{plain_cause, statement_cause, is_stray};
 ghost use Rattle.sync_syntax.specs.declared.word.Word.TheVariants as word;
 ghost use Rattle.sync_syntax.specs.inner.State.{sync_before};
@@ -26,7 +26,7 @@ use crate::word::Word;
 use object_program::{Code, Name};
 use plain_monitor::{List, NoMemory};
 use program_syntax::{
-    Declared, Directory, Keyword, Lines, Reader, Section, Words, behind_declaration, closed,
+    Declared, Directory, Keyword, Lines, Reader, Section, Words, after_declaration, closed,
     instruction_on, is_outside, with_code, with_local, with_thread,
 };
 use std::alloc::Global;
@@ -75,8 +75,8 @@ fn test_on(section: &Section, operands: &Words<'_>) -> Test
     }
 }
 
-/// The blocks behind a block's line.
-fn blocks_behind(
+/// The blocks after a block's line.
+fn blocks_after(
     alloc: Global,
     section: &Section,
     blocks: Blocks,
@@ -85,7 +85,7 @@ fn blocks_behind(
 ) -> Result<Blocks, NoMemory>
     requires stray { is_stray (blocks_of blocks).opened word ≡ false }
     ensures { IfOk result (λ b. blocks_of b
-        ≡ blocks_behind (thread_of section.now) (blocks_of blocks) operands.now word) }
+        ≡ blocks_after (thread_of section.now) (blocks_of blocks) operands.now word) }
 {
     match word {
         Word::Sync => {
@@ -112,7 +112,7 @@ fn blocks_behind(
 /// # Errors
 ///
 /// `NoMemory` where an allocation fails.
-pub fn behind_word(
+pub fn after_word(
     alloc: Global,
     reader: SyncReader,
     word: Word,
@@ -123,16 +123,16 @@ pub fn behind_word(
     requires outside { IsOutside (before_of reader.plain).section word }
     requires plain { plain_cause (before_of reader.plain) later.now operands.now word ≡ None }
     requires clean { statement_cause (sync_before reader) later.now operands.now word ≡ None }
-    ensures { IfOk result (λ r. sync_before r ≡ behind_word (sync_before reader) later.now operands.now word) }
+    ensures { IfOk result (λ r. sync_before r ≡ after_word (sync_before reader) later.now operands.now word) }
 {
     match word {
-        Word::Plain(keyword) => behind_keyword(alloc, reader, keyword, operands, later),
-        word => behind_block(alloc, reader, word, operands),
+        Word::Plain(keyword) => after_keyword(alloc, reader, keyword, operands, later),
+        word => after_block(alloc, reader, word, operands),
     }
 }
 
 /// Makes of the state what such a line of the plain language makes of it.
-fn behind_keyword(
+fn after_keyword(
     alloc: Global,
     reader: SyncReader,
     keyword: Keyword,
@@ -144,20 +144,20 @@ fn behind_keyword(
     requires plain { keyword_cause (before_of reader.plain) later.now operands.now (Some keyword) ≡ None }
     requires room { reader.used + weight (word.Plain keyword) ≤ most_code }
     ensures { IfOk result (λ r. sync_before r
-        ≡ behind_word (sync_before reader) later.now operands.now (word.Plain keyword)) }
+        ≡ after_word (sync_before reader) later.now operands.now (word.Plain keyword)) }
 {
     if is_outside(keyword) {
-        return behind_outside(alloc, reader, keyword, operands, later);
+        return after_outside(alloc, reader, keyword, operands, later);
     }
     match keyword {
-        Keyword::Local => behind_local(reader, operands),
-        Keyword::End => behind_end(alloc, reader),
-        keyword => behind_code(reader, keyword, operands),
+        Keyword::Local => after_local(reader, operands),
+        Keyword::End => after_end(alloc, reader),
+        keyword => after_code(reader, keyword, operands),
     }
 }
 
 /// Adds a declaration, or opens a section.
-fn behind_outside(
+fn after_outside(
     alloc: Global,
     reader: SyncReader,
     keyword: Keyword,
@@ -168,7 +168,7 @@ fn behind_outside(
     requires section { reader.plain.section ≡ None }
     requires clean { keyword_cause (before_of reader.plain) later.now operands.now (Some keyword) ≡ None }
     ensures { IfOk result (λ r. sync_before r
-        ≡ behind_word (sync_before reader) later.now operands.now (word.Plain keyword)) }
+        ≡ after_word (sync_before reader) later.now operands.now (word.Plain keyword)) }
 {
     let SyncReader {
         plain,
@@ -181,15 +181,15 @@ fn behind_outside(
         section: _,
     } = plain;
     Ok(SyncReader {
-        plain: behind_declared(alloc, declared, keyword, operands, later)?,
+        plain: after_declared(alloc, declared, keyword, operands, later)?,
         threads,
         blocks: no_blocks(alloc),
         used: 0,
     })
 }
 
-/// The names behind such a line.
-fn behind_declared(
+/// The names after such a line.
+fn after_declared(
     alloc: Global,
     declared: Declared,
     keyword: Keyword,
@@ -198,8 +198,8 @@ fn behind_declared(
 ) -> Result<Reader, NoMemory>
     requires outside { is_outside keyword ≡ true }
     requires clean { keyword_cause (only_declared declared) later.now operands.now (Some keyword) ≡ None }
-    ensures behind { IfOk result (λ r. before_of r
-        ≡ behind_keyword (only_declared declared) later.now operands.now keyword) }
+    ensures after { IfOk result (λ r. before_of r
+        ≡ after_keyword (only_declared declared) later.now operands.now keyword) }
     ensures bare { IfOk result (λ r. IsBare r.section) }
 {
     match keyword {
@@ -207,17 +207,17 @@ fn behind_declared(
             declared,
             section: Some(new_section(alloc, operands)),
         }),
-        keyword => behind_declaration(alloc, declared, keyword, operands, later),
+        keyword => after_declaration(alloc, declared, keyword, operands, later),
     }
 }
 
 /// Adds a local to the section.
-fn behind_local(reader: SyncReader, operands: &Words<'_>) -> Result<SyncReader, NoMemory>
+fn after_local(reader: SyncReader, operands: &Words<'_>) -> Result<SyncReader, NoMemory>
     requires section { IsSome reader.plain.section }
     requires name { is_name (operand operands.now 0) ≡ true }
     requires room { locals_full (before_of reader.plain).section ≡ false }
     ensures { IfOk result (λ r. (later : List (List ℕ)) → sync_before r
-        ≡ behind_word (sync_before reader) later operands.now (word.Plain keyword.Local)) }
+        ≡ after_word (sync_before reader) later operands.now (word.Plain keyword.Local)) }
 {
     let SyncReader {
         plain,
@@ -239,7 +239,7 @@ fn behind_local(reader: SyncReader, operands: &Words<'_>) -> Result<SyncReader, 
 }
 
 /// Adds an instruction other than `end`.
-fn behind_code(
+fn after_code(
     reader: SyncReader,
     keyword: Keyword,
     operands: &Words<'_>,
@@ -250,7 +250,7 @@ fn behind_code(
     requires operands { HasOperands (word.Plain keyword) operands.now }
     requires room { reader.used + 1 ≤ most_code }
     ensures { IfOk result (λ r. (later : List (List ℕ)) → sync_before r
-        ≡ behind_word (sync_before reader) later operands.now (word.Plain keyword)) }
+        ≡ after_word (sync_before reader) later operands.now (word.Plain keyword)) }
 {
     let SyncReader {
         plain,
@@ -275,7 +275,7 @@ fn behind_code(
 }
 
 /// Opens, turns over or closes a block, as its line says.
-fn behind_block(
+fn after_block(
     alloc: Global,
     reader: SyncReader,
     word: Word,
@@ -286,7 +286,7 @@ fn behind_block(
     requires stray { is_stray (blocks_of reader.blocks).opened word ≡ false }
     requires room { reader.used + weight word ≤ most_code }
     ensures { IfOk result (λ r. (later : List (List ℕ)) → sync_before r
-        ≡ behind_word (sync_before reader) later operands.now word) }
+        ≡ after_word (sync_before reader) later operands.now word) }
 {
     let SyncReader {
         plain,
@@ -298,7 +298,7 @@ fn behind_block(
     let Some(section) = section else {
         unreachable!();
     };
-    let blocks = blocks_behind(alloc, &section, blocks, word, operands)?;
+    let blocks = blocks_after(alloc, &section, blocks, word, operands)?;
     Ok(SyncReader {
         plain: Reader {
             declared,
@@ -311,10 +311,10 @@ fn behind_block(
 }
 
 /// Closes the section, by its `end`.
-fn behind_end(alloc: Global, reader: SyncReader) -> Result<SyncReader, NoMemory>
+fn after_end(alloc: Global, reader: SyncReader) -> Result<SyncReader, NoMemory>
     requires section { IsSome reader.plain.section }
     ensures { IfOk result (λ r. (later ws : List (List ℕ)) → sync_before r
-        ≡ behind_word (sync_before reader) later ws (word.Plain keyword.End)) }
+        ≡ after_word (sync_before reader) later ws (word.Plain keyword.End)) }
 {
     let SyncReader {
         plain,
@@ -343,7 +343,7 @@ fn behind_end(alloc: Global, reader: SyncReader) -> Result<SyncReader, NoMemory>
     })
 }
 
-/// The thread of a section behind its `end`.
+/// The thread of a section after its `end`.
 fn ended(alloc: Global, section: &Section, blocks: Blocks) -> Result<SyncThread, NoMemory>
     ensures { IfOk result (λ t. thread_text t ≡ ended (thread_of section.now) (blocks_of blocks)) }
 {

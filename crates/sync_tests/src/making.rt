@@ -8,13 +8,13 @@ use crate::fuel::take;
 use crate::texts::is_refused;
 use plain_machine::{Machine, Offer};
 use plain_monitor::{Entry, Path, Value};
-use program_syntax::{Why, write_program};
+use program_syntax::{RefusalCause, write_program};
 use std::process::Abort;
 use std::test::Fail;
 use sync_source::compile;
-use sync_syntax::{SyncWhy, read_sync, write_sync};
+use sync_syntax::{SyncRefusalCause, read_sync, write_sync};
 
-/// Thirteen lines, behind which the others of the thread follow.
+/// Thirteen lines, after which the others of the thread follow.
 const FRONT: &str = "\
 class C 1
 class D 2
@@ -105,7 +105,7 @@ const PASSES: [Entry; 12] = [
 ];
 
 /// The thirteen lines, and then these.
-fn behind_lines<R: AllocGlobal>(rt: &R, lines: &str) -> Result<Vec<u8>, Fail> {
+fn after_lines<R: AllocGlobal>(rt: &R, lines: &str) -> Result<Vec<u8>, Fail> {
     let mut text = Vec::new(rt.alloc());
     text.extend_from_slice(FRONT.as_bytes())?;
     text.extend_from_slice(lines.as_bytes())?;
@@ -114,19 +114,19 @@ fn behind_lines<R: AllocGlobal>(rt: &R, lines: &str) -> Result<Vec<u8>, Fail> {
 
 #[test]
 fn a_new_is_an_instruction_of_the_code(rt: HostRuntime) -> Result<(), Fail> {
-    let text = behind_lines(&rt, LOOP)?;
+    let text = after_lines(&rt, LOOP)?;
     let source = read_sync(rt.alloc(), text.as_slice())?;
     let program = compile(rt.alloc(), &source)?;
     let mut out = Vec::new(rt.alloc());
     write_program(&program, &mut out)?;
-    let code = behind_lines(&rt, CODE)?;
+    let code = after_lines(&rt, CODE)?;
     assert!(rt; out.as_slice() == code.as_slice());
     Ok(())
 }
 
 #[test]
 fn a_new_is_written_as_it_was_read(rt: HostRuntime) -> Result<(), Fail> {
-    let text = behind_lines(&rt, LOOP)?;
+    let text = after_lines(&rt, LOOP)?;
     let source = read_sync(rt.alloc(), text.as_slice())?;
     let out = write_sync(rt.alloc(), &source)?;
     assert!(rt; out.as_slice() == text.as_slice());
@@ -135,7 +135,7 @@ fn a_new_is_written_as_it_was_read(rt: HostRuntime) -> Result<(), Fail> {
 
 /// Asserts that the thread makes these entries, then this one, and then no more.
 fn expect<R: Abort + AllocGlobal>(rt: &R, fuel: u32, last: Entry) -> Result<(), Fail> {
-    let text = behind_lines(rt, LOOP)?;
+    let text = after_lines(rt, LOOP)?;
     let source = read_sync(rt.alloc(), text.as_slice())?;
     let program = compile(rt.alloc(), &source)?;
     let mut machine = Machine::new(rt.alloc(), &program, fuel)?;
@@ -158,10 +158,10 @@ fn twenty_four_units_are_spent(rt: HostRuntime) -> Result<(), Fail> {
 }
 
 #[test]
-fn lines_of_a_new_that_are_refused(rt: HostRuntime) -> Result<(), Fail> {
-    let undeclared = SyncWhy::Plain(Why::Undeclared);
-    let operands = SyncWhy::Plain(Why::Operands);
-    let rows: [(&str, u32, SyncWhy); 8] = [
+fn wrong_lines_of_a_new_are_refused(rt: HostRuntime) -> Result<(), Fail> {
+    let undeclared = SyncRefusalCause::Plain(RefusalCause::Undeclared);
+    let operands = SyncRefusalCause::Plain(RefusalCause::Operands);
+    let rows: [(&str, u32, SyncRefusalCause); 8] = [
         ("while i < n\nnew p E\ndone\nend\n", 15, undeclared),
         ("new p a\nend\n", 14, undeclared),
         ("sync o\nnew q D\ndone\nend\n", 15, undeclared),
@@ -169,11 +169,19 @@ fn lines_of_a_new_that_are_refused(rt: HostRuntime) -> Result<(), Fail> {
         ("new p E\nend\nclass E 0\n", 14, undeclared),
         ("new p\nend\n", 14, operands),
         ("new p D D\nend\n", 14, operands),
-        ("new 1 D\nend\n", 14, SyncWhy::Plain(Why::BadName)),
-        ("sync o\nnew o D\ndone\nend\n", 15, SyncWhy::Assigned),
+        (
+            "new 1 D\nend\n",
+            14,
+            SyncRefusalCause::Plain(RefusalCause::BadName),
+        ),
+        (
+            "sync o\nnew o D\ndone\nend\n",
+            15,
+            SyncRefusalCause::Assigned,
+        ),
     ];
     for (lines, line, why) in rows {
-        let text = behind_lines(&rt, lines)?;
+        let text = after_lines(&rt, lines)?;
         assert!(rt;
             is_refused(rt.alloc(), text.as_slice(), line, why),
             "{line} {why:?}"

@@ -5,7 +5,7 @@ use crate::texts::is_refused;
 use program_syntax::write_program;
 use std::test::Fail;
 use sync_source::compile;
-use sync_syntax::{SyncWhy, read_sync};
+use sync_syntax::{SyncRefusalCause, read_sync};
 
 const DECLARED: &str = "\
 class C 1
@@ -38,21 +38,21 @@ fn a_text_is_compiled(rt: HostRuntime) -> Result<(), Fail> {
 }
 
 #[test]
-fn a_loop_without_its_done(rt: HostRuntime) -> Result<(), Fail> {
+fn a_loop_without_its_done_is_refused(rt: HostRuntime) -> Result<(), Fail> {
     let alloc = rt.alloc();
     let mut text = Vec::new(alloc);
     text.extend_from_slice(DECLARED.as_bytes())?;
     text.extend_from_slice(b"print i\ndone\nadd i i one\nend\n")?;
-    assert!(rt; is_refused(alloc, text.as_slice(), 12, SyncWhy::Open));
+    assert!(rt; is_refused(alloc, text.as_slice(), 12, SyncRefusalCause::Open));
     Ok(())
 }
 
 #[test]
-fn a_reference_that_is_changed_under_its_monitor(rt: HostRuntime) -> Result<(), Fail> {
+fn a_change_of_a_reference_under_its_monitor_is_refused(rt: HostRuntime) -> Result<(), Fail> {
     let alloc = rt.alloc();
     let mut text = Vec::new(alloc);
     text.extend_from_slice(DECLARED.as_bytes())?;
     text.extend_from_slice(b"ref o a\ndone\nadd i i one\ndone\nend\n")?;
-    assert!(rt; is_refused(alloc, text.as_slice(), 14, SyncWhy::Assigned));
+    assert!(rt; is_refused(alloc, text.as_slice(), 14, SyncRefusalCause::Assigned));
     Ok(())
 }

@@ -1,12 +1,12 @@
 //! Each cause of refusal that blocks bring, with its line, and those of the plain language at the lines of blocks.
 
-use crate::texts::{behind_front, is_read, is_refused};
-use program_syntax::Why;
+use crate::texts::{after_front, is_read, is_refused};
+use program_syntax::RefusalCause;
 use std::test::Fail;
-use sync_syntax::SyncWhy;
+use sync_syntax::SyncRefusalCause;
 
 #[test]
-fn blocks_that_are_not_closed(rt: HostRuntime) -> Result<(), Fail> {
+fn blocks_that_are_not_closed_are_refused(rt: HostRuntime) -> Result<(), Fail> {
     let alloc = rt.alloc();
     let rows: [(&[u8], u32); 9] = [
         (b"sync o\nend\n", 7),
@@ -20,9 +20,9 @@ fn blocks_that_are_not_closed(rt: HostRuntime) -> Result<(), Fail> {
         (b"while x < y\nlabel done\nend\n", 7),
     ];
     for (lines, line) in rows {
-        let text = behind_front(alloc, lines)?;
+        let text = after_front(alloc, lines)?;
         assert!(rt;
-            is_refused(alloc, text.as_slice(), line, SyncWhy::Open),
+            is_refused(alloc, text.as_slice(), line, SyncRefusalCause::Open),
             "{line}"
         );
     }
@@ -30,7 +30,7 @@ fn blocks_that_are_not_closed(rt: HostRuntime) -> Result<(), Fail> {
 }
 
 #[test]
-fn lines_that_close_no_block(rt: HostRuntime) -> Result<(), Fail> {
+fn lines_that_close_no_block_are_refused(rt: HostRuntime) -> Result<(), Fail> {
     let alloc = rt.alloc();
     let rows: [(&[u8], u32); 8] = [
         (b"done\nend\n", 7),
@@ -46,9 +46,9 @@ fn lines_that_close_no_block(rt: HostRuntime) -> Result<(), Fail> {
         ),
     ];
     for (lines, line) in rows {
-        let text = behind_front(alloc, lines)?;
+        let text = after_front(alloc, lines)?;
         assert!(rt;
-            is_refused(alloc, text.as_slice(), line, SyncWhy::Stray),
+            is_refused(alloc, text.as_slice(), line, SyncRefusalCause::Stray),
             "{line}"
         );
     }
@@ -56,7 +56,7 @@ fn lines_that_close_no_block(rt: HostRuntime) -> Result<(), Fail> {
 }
 
 #[test]
-fn locals_of_open_syncs(rt: HostRuntime) -> Result<(), Fail> {
+fn locals_of_open_syncs_may_not_be_changed(rt: HostRuntime) -> Result<(), Fail> {
     let alloc = rt.alloc();
     let rows: [(&[u8], u32); 11] = [
         (b"sync o\nset o 1\ndone\nend\n", 8),
@@ -75,9 +75,9 @@ fn locals_of_open_syncs(rt: HostRuntime) -> Result<(), Fail> {
         (b"sync o\nsync o\ndone\nset o 1\ndone\nend\n", 10),
     ];
     for (lines, line) in rows {
-        let text = behind_front(alloc, lines)?;
+        let text = after_front(alloc, lines)?;
         assert!(rt;
-            is_refused(alloc, text.as_slice(), line, SyncWhy::Assigned),
+            is_refused(alloc, text.as_slice(), line, SyncRefusalCause::Assigned),
             "{line}"
         );
     }
@@ -85,34 +85,34 @@ fn locals_of_open_syncs(rt: HostRuntime) -> Result<(), Fail> {
 }
 
 #[test]
-fn causes_of_the_plain_language(rt: HostRuntime) -> Result<(), Fail> {
+fn lines_are_refused_for_causes_of_the_plain_language(rt: HostRuntime) -> Result<(), Fail> {
     let alloc = rt.alloc();
-    let rows: [(&[u8], u32, Why); 20] = [
-        (b"if x y\ndone\nend\n", 7, Why::Operands),
-        (b"if x < y x\ndone\nend\n", 7, Why::Operands),
-        (b"if x > y\ndone\nend\n", 7, Why::Operands),
-        (b"while < x y\ndone\nend\n", 7, Why::Operands),
-        (b"while x <= y\ndone\nend\n", 7, Why::Operands),
-        (b"sync\ndone\nend\n", 7, Why::Operands),
-        (b"sync o x\ndone\nend\n", 7, Why::Operands),
-        (b"if x < y\nelse x\ndone\nend\n", 8, Why::Operands),
-        (b"sync o\ndone o\nend\n", 8, Why::Operands),
-        (b"sync 1\nend\n", 7, Why::BadName),
-        (b"if x < 1\nend\n", 7, Why::BadName),
-        (b"sync a\nend\n", 7, Why::Undeclared),
-        (b"while z = x\nend\n", 7, Why::Undeclared),
-        (b"sync o\nset z 1\ndone\nend\n", 8, Why::Undeclared),
-        (b"sync o\nset o z\ndone\nend\n", 8, Why::BadNumber),
-        (b"sync o\nlocal o\ndone\nend\n", 8, Why::Twice),
-        (b"label l\nend\n", 7, Why::UnknownWord),
-        (b"enter o\nexit o\nend\n", 7, Why::UnknownWord),
-        (b"jump l\nend\n", 7, Why::UnknownWord),
-        (b"end\nsync o\n", 8, Why::UnknownWord),
+    let rows: [(&[u8], u32, RefusalCause); 20] = [
+        (b"if x y\ndone\nend\n", 7, RefusalCause::Operands),
+        (b"if x < y x\ndone\nend\n", 7, RefusalCause::Operands),
+        (b"if x > y\ndone\nend\n", 7, RefusalCause::Operands),
+        (b"while < x y\ndone\nend\n", 7, RefusalCause::Operands),
+        (b"while x <= y\ndone\nend\n", 7, RefusalCause::Operands),
+        (b"sync\ndone\nend\n", 7, RefusalCause::Operands),
+        (b"sync o x\ndone\nend\n", 7, RefusalCause::Operands),
+        (b"if x < y\nelse x\ndone\nend\n", 8, RefusalCause::Operands),
+        (b"sync o\ndone o\nend\n", 8, RefusalCause::Operands),
+        (b"sync 1\nend\n", 7, RefusalCause::BadName),
+        (b"if x < 1\nend\n", 7, RefusalCause::BadName),
+        (b"sync a\nend\n", 7, RefusalCause::Undeclared),
+        (b"while z = x\nend\n", 7, RefusalCause::Undeclared),
+        (b"sync o\nset z 1\ndone\nend\n", 8, RefusalCause::Undeclared),
+        (b"sync o\nset o z\ndone\nend\n", 8, RefusalCause::BadNumber),
+        (b"sync o\nlocal o\ndone\nend\n", 8, RefusalCause::Twice),
+        (b"label l\nend\n", 7, RefusalCause::UnknownWord),
+        (b"enter o\nexit o\nend\n", 7, RefusalCause::UnknownWord),
+        (b"jump l\nend\n", 7, RefusalCause::UnknownWord),
+        (b"end\nsync o\n", 8, RefusalCause::UnknownWord),
     ];
     for (lines, line, why) in rows {
-        let text = behind_front(alloc, lines)?;
+        let text = after_front(alloc, lines)?;
         assert!(rt;
-            is_refused(alloc, text.as_slice(), line, SyncWhy::Plain(why)),
+            is_refused(alloc, text.as_slice(), line, SyncRefusalCause::Plain(why)),
             "{line} {why:?}"
         );
     }
@@ -120,11 +120,11 @@ fn causes_of_the_plain_language(rt: HostRuntime) -> Result<(), Fail> {
 }
 
 #[test]
-fn sections_that_are_not_closed(rt: HostRuntime) {
+fn sections_that_are_not_closed_are_refused(rt: HostRuntime) {
     let alloc = rt.alloc();
-    let no_end = SyncWhy::Plain(Why::NoEnd);
-    let no_thread = SyncWhy::Plain(Why::NoThread);
-    let rows: [(&[u8], u32, SyncWhy); 4] = [
+    let no_end = SyncRefusalCause::Plain(RefusalCause::NoEnd);
+    let no_thread = SyncRefusalCause::Plain(RefusalCause::NoThread);
+    let rows: [(&[u8], u32, SyncRefusalCause); 4] = [
         (b"", 0, no_thread),
         (b"class C 1\n", 0, no_thread),
         (b"thread t\nlocal o\nsync o\ndone\n", 1, no_end),
@@ -140,7 +140,7 @@ fn sections_that_are_not_closed(rt: HostRuntime) {
 }
 
 #[test]
-fn texts_that_are_read(rt: HostRuntime) -> Result<(), Fail> {
+fn allowed_texts_are_read(rt: HostRuntime) -> Result<(), Fail> {
     let alloc = rt.alloc();
     let rows: [&[u8]; 8] = [
         b"end\n",
@@ -153,7 +153,7 @@ fn texts_that_are_read(rt: HostRuntime) -> Result<(), Fail> {
         b"\tsync  o # on o\r\n\n done\nend",
     ];
     for lines in rows {
-        let text = behind_front(alloc, lines)?;
+        let text = after_front(alloc, lines)?;
         assert!(rt; is_read(alloc, text.as_slice()));
     }
     Ok(())

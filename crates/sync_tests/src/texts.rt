@@ -1,15 +1,15 @@
 //! What the tests of texts share.
 
 ghost use Rattle.std.specs.Prelude.{◌≡◌, ◌⊎◌, true, Ok, Err};
-ghost use Rattle.program_syntax.specs.declared.error.Why.TheVariants.{NoMemory};
+ghost use Rattle.program_syntax.specs.declared.error.RefusalCause.TheVariants.{NoMemory};
 ghost use Rattle.sync_source.specs.Source.{SyncText};
 ghost use Rattle.sync_syntax.specs.Refusal.{sync_program_of};
-ghost use Rattle.sync_syntax.specs.declared.error.SyncWhy.TheVariants.{Plain};
+ghost use Rattle.sync_syntax.specs.declared.error.SyncRefusalCause.TheVariants.{Plain};
 
 use std::alloc::{AllocError, Global};
-use sync_syntax::{SyncWhy, read_sync};
+use sync_syntax::{SyncRefusalCause, read_sync};
 
-/// Six lines, behind which those of a thread follow.
+/// Six lines, after which those of a thread follow.
 const FRONT: &[u8] = b"class C 1\nobject a C\nthread t\nlocal o\nlocal x\nlocal y\n";
 
 /// Whether the text has a program with blocks.
@@ -23,7 +23,7 @@ pub fn is_read(alloc: Global, text: &[u8]) -> bool
 }
 
 /// Whether the text is refused at this line for this cause.
-pub fn is_refused(alloc: Global, text: &[u8], line: u32, why: SyncWhy) -> bool
+pub fn is_refused(alloc: Global, text: &[u8], line: u32, why: SyncRefusalCause) -> bool
     ensures { (result ≡ true) → (why ≡ Plain NoMemory)
         ⊎ (sync_program_of text.now ≡ Err (record { line = line; why = why })) }
 {
@@ -33,8 +33,8 @@ pub fn is_refused(alloc: Global, text: &[u8], line: u32, why: SyncWhy) -> bool
     }
 }
 
-/// The lines of a thread, behind the six.
-pub fn behind_front(alloc: Global, lines: &[u8]) -> Result<Vec<u8>, AllocError> {
+/// The lines of a thread, after the six.
+pub fn after_front(alloc: Global, lines: &[u8]) -> Result<Vec<u8>, AllocError> {
     let mut text = Vec::new(alloc);
     text.extend_from_slice(FRONT)?;
     text.extend_from_slice(lines)?;

@@ -1,5 +1,6 @@
--- Lists of numbers, element by element, and how often a thread holds objects behind an entry.
-use Rattle.std.proofs.Common.{◌≡◌, ◌≢◌, ℕ, zero, suc, ◌+◌, ◌-◌, ◌<◌, ◌≤◌, ◌==◌, if◌then◌else◌, eq-eqb, ne_eqb, ltb-true, ltb-false, nat_lt, Bool, true, false, List, [], ◌∷◌, ◌++◌, length, sum, slice_index, refl, sym, ap, ◌∙◌, arith}
+-- Lists of numbers, element by element, and how often a thread holds objects after an entry.
+use Rattle.std.proofs.Common.{◌≡◌, ◌≢◌, ℕ, zero, suc, ◌+◌, ◌-◌, ◌<◌, ◌≤◌, ◌==◌, if◌then◌else◌, eq-eqb, ne_eqb, ltb-true, ltb-false}
+use Rattle.std.proofs.Common.{nat_lt, Bool, true, false, List, [], ◌∷◌, ◌++◌, length, sum, slice_index, refl, sym, ap, ◌∙◌, arith}
 use Rattle.std.proofs.lemmas.List.{ext_get_or, get_or_past}
 use Rattle.std.proofs.lemmas.List.Sums.{sum_by-cons}
 use Rattle.plain_monitor.specs.declared.entry.Entry.{Entry}
@@ -63,7 +64,7 @@ sum_less (suc o) (x ∷ a) (y ∷ b) e l h at =
     let rest = sum_less o a b (omega (arith, e)) (omega (arith, l)) (λ i l d. h (suc i) (omega (arith, l)) (λ z. d (omega (arith, z)))) at in
     omega (arith, here, rest, sum_by-cons (λ (z : ℕ). z) x a, sum_by-cons (λ (z : ℕ). z) y b)
 
--- ENTRIES. What a thread holds behind one more
+-- ENTRIES. What a thread holds after one more
 pub held_more : (held : ℕ → ℕ) (log : List Logged) (l : Logged) (o : ℕ) → held_by held (log ++ l ∷ []) o ≡ held_after l.entry (held_by held log) o
 held_more held [] l o = refl
 held_more held (x ∷ log) l o = held_more (held_after x.entry held) log l o
@@ -87,14 +88,14 @@ one_other o i d = ap one (ne_eqb o i (λ e. d (sym e)))
 one_here : (o : ℕ) → one (o == o) ≡ 1
 one_here o = ap one (eq-eqb o o refl)
 
--- the holds of a list are those of another behind the entry
-pub record AreBehind (e : Entry) (a b : List ℕ) : Type 0 where
+-- the holds of a list are those of another after the entry
+pub record AreAfter (e : Entry) (a b : List ℕ) : Type 0 where
   pub count : length a ≡ length b
   pub each : (i : ℕ) → i < length a → slice_index a i ≡ held_after e (λ j. slice_index b j) i
 
 -- an enter is one hold more at most, and every other entry none
-pub sum_behind : (e : Entry) (a b : List ℕ) → AreBehind e a b → sum a ≤ sum b + 1
-sum_behind (Enter object path) a b h = cases (nat_lt object (length a)) refl
+pub sum_after : (e : Entry) (a b : List ℕ) → AreAfter e a b → sum a ≤ sum b + 1
+sum_after (Enter object path) a b h = cases (nat_lt object (length a)) refl
   where
     past : slice_index a object ≡ 0 → slice_index a object ≤ slice_index b object + 1
     past z = omega (arith, z)
@@ -108,11 +109,11 @@ sum_behind (Enter object path) a b h = cases (nat_lt object (length a)) refl
         let l : length a ≤ object = ltb-false object (length a) w in
         sum_more object a b h.count (λ i l d. let e = h.each i l in let z = one_other object i d in omega (arith, e, z))
         (past (get_or_past a object 0 l))
-sum_behind (Exit object) a b h = let l = sum_fewer a b h.count (λ i l. let e = h.each i l in omega (arith, e)) in omega (arith, l)
-sum_behind e a b h = let l = sum_fewer a b h.count (λ i l. let e = h.each i l in omega (arith, e)) in omega (arith, l)
+sum_after (Exit object) a b h = let l = sum_fewer a b h.count (λ i l. let e = h.each i l in omega (arith, e)) in omega (arith, l)
+sum_after e a b h = let l = sum_fewer a b h.count (λ i l. let e = h.each i l in omega (arith, e)) in omega (arith, l)
 
 -- an exit of a held object is one less
-pub sum_left : (object : ℕ) (a b : List ℕ) → AreBehind (Exit object) a b → object < length a → 1 ≤ slice_index b object → sum a + 1 ≤ sum b
+pub sum_left : (object : ℕ) (a b : List ℕ) → AreAfter (Exit object) a b → object < length a → 1 ≤ slice_index b object → sum a + 1 ≤ sum b
 sum_left object a b h l held =
     sum_less object a b h.count l (λ i l d. let e = h.each i l in omega (arith, e))
     (let e = h.each object l in let z = one_here object in omega (arith, e, z, held))
@@ -123,7 +124,7 @@ keeps (Enter object path) = false
 keeps (Exit object) = false
 keeps e = true
 
-pub sum_kept : (e : Entry) (a b : List ℕ) → keeps e ≡ true → AreBehind e a b → sum a ≤ sum b
+pub sum_kept : (e : Entry) (a b : List ℕ) → keeps e ≡ true → AreAfter e a b → sum a ≤ sum b
 sum_kept (Enter object path) a b k h = absurd (cc k)
 sum_kept (Exit object) a b k h = absurd (cc k)
 sum_kept e a b k h = sum_fewer a b h.count (λ i l. let e = h.each i l in omega (arith, e))

@@ -1,5 +1,6 @@
 -- A frame of a thread, and its pass, by the thread's log.
-use Rattle.std.proofs.Common.{◌≡◌, ℕ, ◌+◌, ◌<◌, ◌≤◌, ◌++◌, ◌∷◌, [], true, List, length, sum, slice_index, Some, option_and_then, refl, sym, ap, ◌∙◌, subst, arith}
+use Rattle.std.proofs.Common.{◌≡◌, ℕ, ◌+◌, ◌<◌, ◌≤◌, ◌++◌, ◌∷◌, [], true, List, length, sum}
+use Rattle.std.proofs.Common.{slice_index, Some, option_and_then, refl, sym, ap, ◌∙◌, subst, arith}
 use Rattle.plain_monitor.specs.declared.entry.Entry.{Entry}
 use Rattle.plain_monitor.specs.declared.entry.Logged.{Logged}
 use Rattle.plain_monitor.specs.Monitor.{only_if}
@@ -13,52 +14,52 @@ use Rattle.own_logs.specs.HoldsByLog.{AreHolds}
 use Rattle.own_logs.proofs.OwnHolds.{own_number, own_all}
 use Rattle.object_program.specs.Program.{ProgramText, objects_total}
 use Rattle.object_program.specs.Valid.{IsProgram}
-use Rattle.plain_machine.specs.declared.call.Asked.{Asked}
-use Rattle.plain_machine.specs.declared.call.Mode.{Mode}
-use Rattle.plain_machine.specs.Asking.{ask, fits, behind_entry, thread_after}
+use Rattle.plain_machine.specs.declared.monitor_call.NextEntry.{NextEntry}
+use Rattle.plain_machine.specs.declared.monitor_call.Mode.{Mode}
+use Rattle.plain_machine.specs.Asking.{ask, fits, after_entry, thread_after}
 use Rattle.plain_machine.specs.Machine.{code_of}
 use Rattle.machine_laws.specs.ReachedThread.{IsThreadOf}
 use Rattle.plain_machine.specs.Thread.{ThreadState}
-use Rattle.thread_frame.specs.Frames.{FrameSeen, frame_behind, next_state, locals_of}
+use Rattle.thread_frame.specs.Frames.{FrameSeen, frame_after, next_state, locals_of}
 use Rattle.thread_frame.specs.Sights.{counts_from}
 use Rattle.thread_frame.proofs.Moves.{moves}
-use Rattle.thread_logs.specs.Followed.{Follows, HaveValues, HasValue}
+use Rattle.thread_logs.specs.Followed.{FollowsCode, HaveValues, HasValue}
 use Rattle.thread_logs.proofs.Logs.{next_follows, followed_thread}
 use Rattle.thread_logs.proofs.Standing.{holds_told}
 use Rattle.thread_calls.specs.Asked.{unfinished_of, IsAtMost}
 use Rattle.thread_calls.specs.Between.{IsHeapOf, IsOn, StandsFor, state_by}
-use Rattle.thread_calls.specs.inner.Made.{IsBehind}
+use Rattle.thread_calls.specs.inner.Made.{IsAfter}
 use Rattle.thread_calls.proofs.Shapes.{as_many}
-use Rattle.thread_calls.proofs.Counts.{counts_length, counts_at, are_counts, held_more, held_same, AreBehind}
+use Rattle.thread_calls.proofs.Counts.{counts_length, counts_at, are_counts, held_more, held_same, AreAfter}
 
 -- a frame with these holds stands where this log led
 pub record IsFramed (p : ProgramText) (fuel t : ℕ) (log : List Logged) (holds : List ℕ) (f : FrameSeen) : Type 0 where
   pub count : length holds ≡ objects_total p
   pub each : (o : ℕ) → o < objects_total p → slice_index holds o ≡ held_by nothing_held log o
-  pub follows : Follows p fuel t log (next_state p t holds f)
+  pub follows : FollowsCode p fuel t log (next_state p t holds f)
   pub values : HaveValues p log
 
--- the holds of its thread behind an entry that it asks
-abbrev pub holds_with : ProgramText → ℕ → List ℕ → FrameSeen → Asked → Entry → List ℕ
-holds_with p t holds f a e = (behind_entry p (code_of p t) (next_state p t holds f) a e).holds
+-- the holds of its thread after an entry that it asks
+abbrev pub holds_with : ProgramText → ℕ → List ℕ → FrameSeen → NextEntry → Entry → List ℕ
+holds_with p t holds f a e = (after_entry p (code_of p t) (next_state p t holds f) a e).holds
 
 -- a thread that asks for it takes the entry
-pub takes : (p : ProgramText) (t : ℕ) (s : ThreadState) (a : Asked) (e : Entry) → ask s ≡ Some a → fits a e ≡ true
-    → thread_after p (code_of p t) s e ≡ Some (behind_entry p (code_of p t) s a e)
+pub takes : (p : ProgramText) (t : ℕ) (s : ThreadState) (a : NextEntry) (e : Entry) → ask s ≡ Some a → fits a e ≡ true
+    → thread_after p (code_of p t) s e ≡ Some (after_entry p (code_of p t) s a e)
 takes p t s a e asks fit =
-    ap (option_and_then (λ asked. only_if (fits asked e) (behind_entry p (code_of p t) s asked e))) asks
-    ∙ ap (λ b. only_if b (behind_entry p (code_of p t) s a e)) fit
+    ap (option_and_then (λ asked. only_if (fits asked e) (after_entry p (code_of p t) s asked e))) asks
+    ∙ ap (λ b. only_if b (after_entry p (code_of p t) s a e)) fit
 
 module _ (p : ProgramText) (fuel t : ℕ) (log : List Logged) (holds : List ℕ) (f : FrameSeen) (valid : IsProgram p) (is : IsFramed p fuel t log holds f) where
   pub framed_thread : IsThreadOf p (next_state p t holds f)
   framed_thread = followed_thread p fuel t log (next_state p t holds f) valid is.values is.follows
 
-  module _ (m : Mode) (a : Asked) (l : Logged) (mode : f.mode ≡ Some m) (asks : ask (next_state p t holds f) ≡ Some a)
+  module _ (m : Mode) (a : NextEntry) (l : Logged) (mode : f.mode ≡ Some m) (asks : ask (next_state p t holds f) ≡ Some a)
       (fit : fits a l.entry ≡ true) (value : HasValue (objects_total p) l.entry) where
-    pub framed_next : IsFramed p fuel t (log ++ l ∷ []) (holds_with p t holds f a l.entry) (frame_behind f a l.entry)
+    pub framed_next : IsFramed p fuel t (log ++ l ∷ []) (holds_with p t holds f a l.entry) (frame_after f a l.entry)
     framed_next =
         let s = next_state p t holds f in
-        let next = behind_entry p (code_of p t) s a l.entry in
+        let next = after_entry p (code_of p t) s a l.entry in
         let more = log ++ l ∷ [] in
         let there = next_follows p fuel t log l s next is.follows (takes p t s a l.entry asks fit) in
         let values = all_push (λ (x : Logged). HasValue (objects_total p) x.entry) log l is.values value in
@@ -67,13 +68,13 @@ module _ (p : ProgramText) (fuel t : ℕ) (log : List Logged) (holds : List ℕ)
         record {
           count = thread.state.holds;
           each = λ o within. holds_told p fuel t o more next there within;
-          follows = subst (Follows p fuel t more) (sym same) there;
+          follows = subst (FollowsCode p fuel t more) (sym same) there;
           values = values;
         }
 
     -- its holds are those before, with this entry
-    pub holds_behind_entry : AreBehind l.entry (holds_with p t holds f a l.entry) holds
-    holds_behind_entry =
+    pub holds_after_entry : AreAfter l.entry (holds_with p t holds f a l.entry) holds
+    holds_after_entry =
         let n = framed_next in
         record {
           count = n.count ∙ sym is.count;
@@ -112,12 +113,12 @@ module _ (h : HeapSeen) (p : ProgramText) (of : IsHeapOf h p) (fuel : ℕ) (q : 
   pub counts_count : length counts ≡ objects_total p
   counts_count = counts_length 0 n q.known.holds ∙ as_many h p of
 
-  pub framed_by : (f : FrameSeen) → Follows p fuel q.known.thread q.known.log (state_by h p q f) → HaveValues p q.known.log
+  pub framed_by : (f : FrameSeen) → FollowsCode p fuel q.known.thread q.known.log (state_by h p q f) → HaveValues p q.known.log
       → IsFramed p fuel q.known.thread q.known.log counts f
   framed_by f follows values = record { count = counts_count; each = counts_are; follows = follows; values = values }
 
 -- A PASS THAT CAME FROM ANOTHER, on whose frame this one stands
-module _ (h : HeapSeen) (p : ProgramText) (of : IsHeapOf h p) (fuel : ℕ) (k q : PassSeen) (f g : FrameSeen) (on : IsOn h p fuel k f) (b : IsBehind h k q)
+module _ (h : HeapSeen) (p : ProgramText) (of : IsHeapOf h p) (fuel : ℕ) (k q : PassSeen) (f g : FrameSeen) (on : IsOn h p fuel k f) (b : IsAfter h k q)
     (holds : List ℕ) (is : IsFramed p fuel k.known.thread q.known.log holds g) (spent : g.fuel ≤ f.fuel) where
   abbrev s : ThreadState
   s = next_state p k.known.thread holds g
@@ -128,10 +129,10 @@ module _ (h : HeapSeen) (p : ProgramText) (of : IsHeapOf h p) (fuel : ℕ) (k q 
   pub on_from : IsAtMost q.known.unfinished (unfinished_of (ask s))
       → (q.known.requesting ≡ true → StandsFor g q.known.unfinished (unfinished_of (ask s))) → IsOn h p fuel q g
   on_from unfinished asks =
-      let follows = subst (λ (t : ℕ). Follows p fuel t q.known.log (next_state p t holds g)) (sym b.thread) is.follows in
+      let follows = subst (λ (t : ℕ). FollowsCode p fuel t q.known.log (next_state p t holds g)) (sym b.thread) is.follows in
       record {
         rests = b.rests;
-        follows = subst (λ (hs : List ℕ). Follows p fuel q.known.thread q.known.log (next_state p q.known.thread hs g))
+        follows = subst (λ (hs : List ℕ). FollowsCode p fuel q.known.thread q.known.log (next_state p q.known.thread hs g))
             (same_counts h p of fuel q b.rests holds is.count is.each) follows;
         values = is.values;
         few = on.few;

@@ -1,5 +1,6 @@
 -- The least object that the hold words of a thread at rest name is the least that it holds.
-use Rattle.std.proofs.Common.{◌≡◌, ℕ, zero, suc, ◌+◌, ◌<◌, ◌≤◌, ◌==◌, min, nat_le, nat_lt, le-leb, ltb-true, ltb-false, eq-eqb, ne_eqb, if◌then◌else◌, Bool, true, false, List, [], ◌∷◌, length, slice_index, Option, Some, None, refl, sym, ap, ◌∙◌, subst, arith, inl, inr}
+use Rattle.std.proofs.Common.{◌≡◌, ℕ, zero, suc, ◌+◌, ◌<◌, ◌≤◌, ◌==◌, min, nat_le, nat_lt, le-leb, ltb-true, ltb-false, eq-eqb, ne_eqb, if◌then◌else◌}
+use Rattle.std.proofs.Common.{Bool, true, false, List, [], ◌∷◌, length, slice_index, Option, Some, None, refl, sym, ap, ◌∙◌, subst, arith, inl, inr}
 use Rattle.std.proofs.lemmas.Bool.{cases_eq}
 use Rattle.plain_monitor.specs.Limits.{most_holds}
 use Rattle.mark_word.specs.declared.hold.HoldForm.{HoldForm}
@@ -7,7 +8,7 @@ use Rattle.mark_word.specs.declared.hold.HoldForm.TheVariants.{Empty, Holds}
 use Rattle.mark_word.specs.Hold.{read_hold}
 use Rattle.core_world.specs.Clauses.WordForms.{IsHold}
 use Rattle.core_world.specs.Locks.{count_where, hold_count}
-use Rattle.core_world.specs.Threads.Known.{Known}
+use Rattle.core_world.specs.Threads.ThreadView.{ThreadView}
 use Rattle.core_world.specs.Threads.Stages.{one_if}
 use Rattle.core_world.specs.Words.Forms.{names, names_form}
 use Rattle.core_world.specs.Words.Shape.{Shape}
@@ -115,7 +116,7 @@ forms h k rests j =
     let z = settled h k rests in
     let t = k.known.thread in
     let there = subst (λ word. IsHold z.world.shape (read_hold word)) (z.fits.holds.stored t j) (z.fits.forms.holds t j) in
-    let here = subst (λ (x : Known). IsHold z.world.shape (read_hold (slice_index x.holds j))) z.knew there in
+    let here = subst (λ (x : ThreadView). IsHold z.world.shape (read_hold (slice_index x.holds j))) z.knew there in
     subst (λ (x : Shape). IsHold x (read_hold (slice_index k.known.holds j))) z.shape here
 
 pub least_is : (h : HeapSeen) (k : PassSeen) → Rests h k
@@ -124,4 +125,4 @@ least_is h k rests =
     sym (held_is (length h.heap.shape.objects) k.known.holds (least_in k.known.holds) (all_words h.heap.shape 0 k.known.holds (forms h k rests)))
 
 pub places : (h : HeapSeen) (k : PassSeen) → Rests h k → length k.known.holds ≡ most_holds
-places h k rests = let z = settled h k rests in subst (λ (x : Known). length x.holds ≡ most_holds) z.knew (z.fits.holds.places k.known.thread)
+places h k rests = let z = settled h k rests in subst (λ (x : ThreadView). length x.holds ≡ most_holds) z.knew (z.fits.holds.places k.known.thread)

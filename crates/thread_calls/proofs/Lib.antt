@@ -5,9 +5,9 @@ pub mod Least
 pub mod Kept
 pub mod May
 pub mod Values
-pub mod Behind
+pub mod After
 pub mod Advanced
-pub mod BehindCall
+pub mod AfterCall
 pub mod Waited
 pub mod Walked
 pub mod OnTime

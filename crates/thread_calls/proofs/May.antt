@@ -1,5 +1,6 @@
 -- A thread of a program may make the call that it asks, and isn't refused.
-use Rattle.std.proofs.Common.{◌≡◌, ℕ, ◌+◌, ◌*◌, ◌<◌, ◌≤◌, ◌==◌, ◌&&◌, ◌||◌, not, nat_le, nat_lt, lt-ltb, le-leb, eq-eqb, Bool, true, false, cond, List, [], ◌∷◌, length, sum, Option, Some, None, is_some, is_none, refl, sym, ap, ◌∙◌, subst, arith, inl, inr}
+use Rattle.std.proofs.Common.{◌≡◌, ℕ, ◌+◌, ◌*◌, ◌<◌, ◌≤◌, ◌==◌, ◌&&◌, ◌||◌, not, nat_le, nat_lt, lt-ltb, le-leb, eq-eqb, Bool, true, false, cond}
+use Rattle.std.proofs.Common.{List, [], ◌∷◌, length, sum, Option, Some, None, is_some, is_none, refl, sym, ap, ◌∙◌, subst, arith, inl, inr}
 use Rattle.std.specs.List.{AllByRecursion}
 use Rattle.std.proofs.lemmas.Bool.{and_from, or_left, or_right, and_left}
 use Rattle.plain_monitor.specs.declared.entry.Entry.{Entry}
@@ -11,15 +12,15 @@ use Rattle.plain_monitor.specs.declared.entry.Value.{Value}
 use Rattle.plain_monitor.specs.declared.entry.Value.TheVariants.{Nil}
 use Rattle.plain_monitor.specs.Made.{needs, refers}
 use Rattle.plain_history.specs.Known.{news, knows_by_log}
-use Rattle.core_world.specs.declared.task.Op.{Op}
-use Rattle.core_world.specs.declared.task.Op.TheVariants as op
-use Rattle.core_world.specs.declared.task.Task.{Task}
-use Rattle.core_world.specs.declared.task.Task.TheVariants as task
-use Rattle.core_world.specs.declared.task.Unfinished.{Unfinished}
+use Rattle.core_world.specs.declared.heap_call.Operation.{Operation}
+use Rattle.core_world.specs.declared.heap_call.Operation.TheVariants as op
+use Rattle.core_world.specs.declared.heap_call.HeapCall.{HeapCall}
+use Rattle.core_world.specs.declared.heap_call.HeapCall.TheVariants as task
+use Rattle.core_world.specs.declared.heap_call.Unfinished.{Unfinished}
 use Rattle.core_world.specs.Clauses.Lengths.{log_limit}
 use Rattle.core_world.specs.Clauses.Safepoints.{ends, is_ending}
 use Rattle.core_world.specs.Shots.{dumps_from, placed}
-use Rattle.core_world.specs.Threads.Known.{Known}
+use Rattle.core_world.specs.Threads.ThreadView.{ThreadView}
 use Rattle.core_world.specs.Threads.References.{has_reference, has_value}
 use Rattle.core_world.specs.Trees.Calls.{may_begin, may_operate, is_free_for, most_logged}
 use Rattle.core_world.specs.Trees.Operations.{goes_on_with, same_op}
@@ -31,12 +32,12 @@ use Rattle.own_logs.specs.HoldsByLog.{AreHolds}
 use Rattle.own_logs.proofs.OwnHolds.{own_full, own_none}
 use Rattle.own_logs.proofs.OwnShots.{own_shots}
 use Rattle.object_program.specs.Program.{ProgramText, objects_total, slots_of, numbering_of}
-use Rattle.plain_machine.specs.declared.call.Asked.{Asked}
-use Rattle.plain_machine.specs.declared.call.Asked.TheVariants.{Calls, Leaves}
-use Rattle.plain_machine.specs.declared.call.Call.{Call}
-use Rattle.plain_machine.specs.declared.call.Call.TheVariants as call
-use Rattle.plain_machine.specs.declared.call.Mode.{Mode}
-use Rattle.plain_machine.specs.declared.call.Mode.TheVariants.{Calling, Waiting, Unwinding, Ended}
+use Rattle.plain_machine.specs.declared.monitor_call.NextEntry.{NextEntry}
+use Rattle.plain_machine.specs.declared.monitor_call.NextEntry.TheVariants.{Calls, Leaves}
+use Rattle.plain_machine.specs.declared.monitor_call.MonitorCall.{MonitorCall}
+use Rattle.plain_machine.specs.declared.monitor_call.MonitorCall.TheVariants as call
+use Rattle.plain_machine.specs.declared.monitor_call.Mode.{Mode}
+use Rattle.plain_machine.specs.declared.monitor_call.Mode.TheVariants.{Calling, Waiting, Unwinding, Ended}
 use Rattle.plain_machine.specs.Asking.{ask, ask_in, fits}
 use Rattle.plain_machine.specs.Machine.{is_live}
 use Rattle.plain_machine.specs.Values.{IsValueOf}
@@ -85,11 +86,11 @@ waits_two : (b : Bool) → cond b 1 2 ≤ 2
 waits_two true = omega arith
 waits_two false = omega arith
 
-two_at_most : (k : Known) (w : Task) → most_logged k w ≤ 2
+two_at_most : (k : ThreadView) (w : HeapCall) → most_logged k w ≤ 2
 two_at_most k (task.Wait o now) = waits_two (waits_on k.wait o)
 two_at_most k w = omega arith
 
-same_self : (o : Op) → same_op o o ≡ true
+same_self : (o : Operation) → same_op o o ≡ true
 same_self op.Enter = refl
 same_self op.Exit = refl
 same_self op.Wait = refl
@@ -99,7 +100,7 @@ same_self op.Hash = refl
 same_self op.Dump = refl
 same_self op.Create = refl
 
-goes_self : (w : Op) (o : ℕ) (u : Option Unfinished) → u ≡ unfinished_on w o → goes_on_with w o u ≡ true
+goes_self : (w : Operation) (o : ℕ) (u : Option Unfinished) → u ≡ unfinished_on w o → goes_on_with w o u ≡ true
 goes_self w o u e = ap (goes_on_with w o) e ∙ and_from (same_op w w) (o == o) (same_self w) (eq-eqb o o refl)
 
 some_none : (u v : Option Unfinished) → is_some u ≡ true → u ≡ v → v ≡ None → ⊥
@@ -110,13 +111,13 @@ at_most_none : (u v : Option Unfinished) → IsAtMost u v → v ≡ None → is_
 at_most_none u v (inl e) n = ap is_none e
 at_most_none u v (inr e) n = ap is_none (e ∙ n)
 
-asks_lives : (s : ThreadState) (m : Mode) (a : Asked) → ask_in s m ≡ Some a → is_live (record s { mode = m }) ≡ true
+asks_lives : (s : ThreadState) (m : Mode) (a : NextEntry) → ask_in s m ≡ Some a → is_live (record s { mode = m }) ≡ true
 asks_lives s (Calling c) a h = refl
 asks_lives s (Waiting o) a h = refl
 asks_lives s (Unwinding e) a h = refl
 asks_lives s (Ended e) a h = absurd (cc h)
 
-asks_work : (s : ThreadState) (m : Mode) (a : Asked) → ask_in s m ≡ Some a → 1 ≤ mode_work m
+asks_work : (s : ThreadState) (m : Mode) (a : NextEntry) → ask_in s m ≡ Some a → 1 ≤ mode_work m
 asks_work s (Calling c) a h = omega arith
 asks_work s (Waiting o) a h = omega arith
 asks_work s (Unwinding e) a h = omega arith
@@ -156,7 +157,7 @@ module _ (h : HeapSeen) (p : ProgramText) (fuel : ℕ) (k : PassSeen) (f : _) (o
   made_are : length (news k.known.log) ≡ s.made
   made_are = sym (made_told p fuel t k.known.log s of.program may.on.follows)
 
-  module _ (a : Asked) (asks : ask s ≡ Some a) where
+  module _ (a : NextEntry) (asks : ask s ≡ Some a) where
     -- its log tells each object that an entry needs which fits what it asks
     needs_known : (e : Entry) → fits a e ≡ true → AllByRecursion Knows (needs e)
     needs_known e fit = needs_told p fuel t k.known.log s of.program may.on.follows a e asks fit
@@ -179,7 +180,7 @@ module _ (h : HeapSeen) (p : ProgramText) (fuel : ℕ) (k : PassSeen) (f : _) (o
     short = lt-ltb (length k.known.log) log_limit (omega (arith, one_more, may.on.few))
 
     -- in any heap for each call
-    short_for : (w : Task) → nat_le (length k.known.log + most_logged k.known w) log_limit ≡ true
+    short_for : (w : HeapCall) → nat_le (length k.known.log + most_logged k.known w) log_limit ≡ true
     short_for w = le-leb (length k.known.log + most_logged k.known w) log_limit (omega (arith, one_more, may.on.few, two_at_most k.known w))
 
     pub room : length k.known.log + 2 ≤ k.limit
@@ -189,7 +190,7 @@ module _ (h : HeapSeen) (p : ProgramText) (fuel : ℕ) (k : PassSeen) (f : _) (o
     unchecked = ap not may.unchecked
 
     -- the operation that it asks may begin, or go on
-    pub op_ready : (w : Op) (o : ℕ) → unfinished_of (ask s) ≡ unfinished_on w o → may_operate k.known (goes_on_with w o k.known.unfinished) ≡ true
+    pub op_ready : (w : Operation) (o : ℕ) → unfinished_of (ask s) ≡ unfinished_on w o → may_operate k.known (goes_on_with w o k.known.unfinished) ≡ true
     op_ready w o is = all_five _ _ _ _ _ unchecked goes free still_open short
       where
         goes : (k.known.running || (k.known.requesting && goes_on_with w o k.known.unfinished)) ≡ true
@@ -219,11 +220,11 @@ module _ (h : HeapSeen) (p : ProgramText) (fuel : ℕ) (k : PassSeen) (f : _) (o
         free : is_free_for k.known false ≡ true
         free = or_left (is_none k.known.unfinished) false (at_most_none k.known.unfinished (unfinished_of (ask s)) may.on.unfinished is)
 
-    pub may_do : (w : Task) → may_begin h.heap.shape h.heap.biasing k.known w ≡ true → MayOperate h k w
+    pub may_do : (w : HeapCall) → may_begin h.heap.shape h.heap.biasing k.known w ≡ true → MayOperate h k w
     may_do w begins = record { call = record { rests = may.on.rests; may = begins }; room = omega (arith, room, two_at_most k.known w) }
 
     -- an operation on an object of the program, which the entry names that it is to log
-    pub may_on : (e : Entry) (o : ℕ) (w : Op) → fits a e ≡ true → needs e ≡ o ∷ [] → o < objects_total p → unfinished_of (ask s) ≡ unfinished_on w o
+    pub may_on : (e : Entry) (o : ℕ) (w : Operation) → fits a e ≡ true → needs e ≡ o ∷ [] → o < objects_total p → unfinished_of (ask s) ≡ unfinished_on w o
         → (has_reference h.heap.shape k.known o && may_operate k.known (goes_on_with w o k.known.unfinished)) ≡ true
     may_on e o w fit names l is = and_from _ _ (named_known e o [] fit names l) (op_ready w o is)
 
@@ -238,7 +239,7 @@ module _ (h : HeapSeen) (p : ProgramText) (fuel : ℕ) (k : PassSeen) (f : _) (o
   value_known : (v : Value) → AllByRecursion Knows (refers v) → IsValueOf (objects_total p) v → has_value h.heap.shape k.known v ≡ true
   value_known v knows is = value_is h k.known (objects_total p) Knows v known_is knows is
 
-  may_make_of : (c : Call) → ask s ≡ Some (Calls c) → ((o : ℕ) → c ≡ call.Wait o → ⊥) → IsCallOf p s.holds s.dumps s.made c → MayMake h k c
+  may_make_of : (c : MonitorCall) → ask s ≡ Some (Calls c) → ((o : ℕ) → c ≡ call.Wait o → ⊥) → IsCallOf p s.holds s.dumps s.made c → MayMake h k c
   may_make_of (call.Enter o) asks other is = (
     λ now. may_do _ asks (task.Enter o now) (may_on _ asks (entry.Enter o BiasOwn) o op.Enter (eq-eqb o o refl) refl is.0 (ap unfinished_of asks)),
     and_left _ _ (own_full h k s.holds may.on.rests are_held is.1),
@@ -287,11 +288,12 @@ module _ (h : HeapSeen) (p : ProgramText) (fuel : ℕ) (k : PassSeen) (f : _) (o
       (may_do _ asks task.Dump (op_ready _ asks op.Dump 0 (ap unfinished_of asks)), omega (arith, next, dumps), is.1)
 
   -- the call that it asks, if it isn't a wait
-  pub may_make : (c : Call) → ask s ≡ Some (Calls c) → ((o : ℕ) → c ≡ call.Wait o → ⊥) → MayMake h k c
+  pub may_make : (c : MonitorCall) → ask s ≡ Some (Calls c) → ((o : ℕ) → c ≡ call.Wait o → ⊥) → MayMake h k c
   may_make c asks other = may_make_of c asks other (asked_of p s (Calls c) thread_is asks).call
 
   -- a wait that it asks, or goes on with, which is to log this entry
-  pub may_wait : (a : Asked) (e : Entry) (o now : ℕ) → ask s ≡ Some a → fits a e ≡ true → needs e ≡ o ∷ [] → unfinished_of (Some a) ≡ unfinished_on op.Wait o
+  pub may_wait : (a : NextEntry) (e : Entry) (o now : ℕ) → ask s ≡ Some a
+      → fits a e ≡ true → needs e ≡ o ∷ [] → unfinished_of (Some a) ≡ unfinished_on op.Wait o
       → o < objects_total p → MayOperate h k (task.Wait o now)
   may_wait a e o now asks fit names is l =
       may_do a asks (task.Wait o now)

@@ -3,9 +3,9 @@ use Rattle.std.proofs.Common.{◌≡◌, ℕ, List, [], ◌∷◌, ◌++◌, Som
 use Rattle.std.specs.List.{AllByRecursion}
 use Rattle.std.proofs.lemmas.Option.{same_Some}
 use Rattle.core_calls.specs.Moments.{moment_of, IsDecidedBy, IsStepOf, HasCalled}
-use Rattle.core_world.specs.declared.task.Task.{Task}
+use Rattle.core_world.specs.declared.heap_call.HeapCall.{HeapCall}
 use Rattle.core_world.specs.Threads.Counts.{CountedVerdict}
-use Rattle.core_world.specs.Threads.Known.{Known, StepMade}
+use Rattle.core_world.specs.Threads.ThreadView.{ThreadView, StepMade}
 use Rattle.thread_calls.specs.Timed.{IsMoment, IsOnTime, IsCountedOnTime, IsTimed}
 
 both : {A : Type 0} (P : A → Type 0) (xs ys : List A) → AllByRecursion P xs → AllByRecursion P ys → AllByRecursion P (xs ++ ys)
@@ -16,7 +16,7 @@ so_all : {A : Type 0} (P Q : A → Type 0) (xs : List A) → ((x : A) → P x �
 so_all P Q [] so h = tt
 so_all P Q (x ∷ xs) so h = (so x h.0, so_all P Q xs so h.1)
 
-module _ (tick : ℕ) (t : Task) (k l : Known) where
+module _ (tick : ℕ) (t : HeapCall) (k l : ThreadView) where
   -- a call on time
   pub timed_on : IsOnTime tick t → HasCalled t k l → IsTimed tick k → IsTimed tick l
   timed_on on h timed =

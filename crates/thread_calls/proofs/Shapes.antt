@@ -1,5 +1,6 @@
 -- The objects of a heap are those of its program.
-use Rattle.std.proofs.Common.{◌≡◌, ℕ, zero, suc, ◌+◌, ◌-◌, ◌*◌, ◌<◌, ◌≤◌, ◌++◌, ◌∷◌, [], Bool, true, false, nat_le, nat_lt, lt-ltb, le-leb, ltb-true, ltb-false, if◌then◌else◌, List, length, map, take, replicate, slice_index_or, refl, sym, ap, ◌∙◌, subst, arith}
+use Rattle.std.proofs.Common.{◌≡◌, ℕ, zero, suc, ◌+◌, ◌-◌, ◌*◌, ◌<◌, ◌≤◌, ◌++◌, ◌∷◌, [], Bool, true, false, nat_le, nat_lt, lt-ltb, le-leb, ltb-true}
+use Rattle.std.proofs.Common.{ltb-false, if◌then◌else◌, List, length, map, take, replicate, slice_index_or, refl, sym, ap, ◌∙◌, subst, arith}
 use Rattle.std.proofs.lemmas.Bool.{and_from}
 use Rattle.std.proofs.lemmas.Bool.Decides.{nat_tests}
 use Rattle.std.proofs.lemmas.List.{length-replicate, map-append, get_or-replicate, get_or_append_left, get_or-append_right}
@@ -7,13 +8,14 @@ use Rattle.std.proofs.Math.Seq.{take-append_seam}
 use Rattle.plain_monitor.specs.Limits.{most_made}
 use Rattle.plain_monitor.specs.Made.{Numbering}
 use Rattle.heap_table.specs.Seen.{HeapSeen}
-use Rattle.core_world.specs.Threads.Known.{Known}
+use Rattle.core_world.specs.Threads.ThreadView.{ThreadView}
 use Rattle.core_world.specs.Threads.References.{is_object, numbering, knows_by_log, has_reference}
 use Rattle.core_world.specs.Trees.Calls.{has_made_numbers}
 use Rattle.core_world.specs.Words.Shape.{slots_of as slots_in_heap}
 use Rattle.object_program.specs.declared.program.ClassDef.{ClassDef}
 use Rattle.object_program.specs.declared.program.ObjectDef.{ObjectDef}
-use Rattle.object_program.specs.Program.{ProgramText, total_of, declared_total, made_total, made_slots, objects_total, shape_from, shape_of, slots_of_class, class_of, slots_of, has_object, has_new, class_from, classes_from, numbering_of}
+use Rattle.object_program.specs.Program.{ProgramText, total_of, declared_total, made_total, made_slots, objects_total, shape_from, shape_of}
+use Rattle.object_program.specs.Program.{slots_of_class, class_in_program, slots_of, has_object, has_new, class_from, classes_from, numbering_of}
 use Rattle.object_program.proofs.Made.{shape_length, shape_total}
 use Rattle.object_program.specs.Valid.{AreObjects}
 use Rattle.plain_machine.proofs.NeededObjects.{first_is_total}
@@ -63,7 +65,7 @@ same_numbering h p of =
     λ i. record { declared = declared i; threads = of.threads i; classes = of.classes i }
 
 -- a thread of the program has a reference to each of them that it knows by its log
-pub known_there : (h : HeapSeen) (p : ProgramText) (k : Known) (o : ℕ) → IsHeapOf h p → o < objects_total p
+pub known_there : (h : HeapSeen) (p : ProgramText) (k : ThreadView) (o : ℕ) → IsHeapOf h p → o < objects_total p
     → knows_by_log (numbering_of p) k.log o ≡ true → has_reference h.heap.shape k o ≡ true
 known_there h p k o of l knows =
     and_from (is_object h.heap.shape o) (knows_by_log (numbering h.heap.shape) k.log o)
@@ -111,13 +113,14 @@ shape_slots classes n k (d ∷ ds) o h l =
 
 -- SLOTS: those of its class of a declared object, and of each other as many as of any that a thread makes
 declared_slots : (p : ProgramText) (o : ℕ) → AreObjects (length p.classes) 0 p.objects → o < declared_total p
-    → (slice_index_or (shape_of p) o (0, 0)).1 ≡ slots_of_class p.classes (class_of p o)
+    → (slice_index_or (shape_of p) o (0, 0)).1 ≡ slots_of_class p.classes (class_in_program p o)
 declared_slots p o are l =
     let zero : 0 + o ≡ o = omega arith in
     let total = shape_length p.classes p.objects in
-    ap (λ (x : ℕ × ℕ). x.1) (get_or_append_left (shape_from p.classes p.objects) (replicate (made_total p) (0, made_slots p)) (0, 0) o (omega (arith, l, total)))
+    ap (λ (x : ℕ × ℕ). x.1) (get_or_append_left (shape_from p.classes p.objects)
+    (replicate (made_total p) (0, made_slots p)) (0, 0) o (omega (arith, l, total)))
     ∙ shape_slots p.classes (length p.classes) 0 p.objects o are l
-    ∙ ap (λ (i : ℕ). slots_of_class p.classes (class_of p i)) zero
+    ∙ ap (λ (i : ℕ). slots_of_class p.classes (class_in_program p i)) zero
 
 other_slots : (p : ProgramText) (o : ℕ) → declared_total p ≤ o → o < objects_total p → (slice_index_or (shape_of p) o (0, 0)).1 ≡ made_slots p
 other_slots p o l m =
@@ -132,7 +135,7 @@ slots_at : (p : ProgramText) (o : ℕ) → AreObjects (length p.classes) 0 p.obj
 slots_at p o are l = by_test (nat_lt o (declared_total p)) refl
   where
     by_test : (b : Bool) → nat_lt o (declared_total p) ≡ b
-        → (slice_index_or (shape_of p) o (0, 0)).1 ≡ (if b then slots_of_class p.classes (class_of p o) else made_slots p)
+        → (slice_index_or (shape_of p) o (0, 0)).1 ≡ (if b then slots_of_class p.classes (class_in_program p o) else made_slots p)
     by_test true w = declared_slots p o are (ltb-true o (declared_total p) w)
     by_test false w = other_slots p o (ltb-false o (declared_total p) w) l
 

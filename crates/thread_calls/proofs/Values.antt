@@ -6,7 +6,7 @@ use Rattle.plain_monitor.specs.declared.entry.Value.{Value}
 use Rattle.plain_monitor.specs.declared.entry.Value.TheVariants.{Nil, Int, Ref}
 use Rattle.plain_monitor.specs.Made.{refers}
 use Rattle.plain_monitor.specs.Numbers.{IsInRange, is_in_range}
-use Rattle.core_world.specs.Threads.Known.{Known}
+use Rattle.core_world.specs.Threads.ThreadView.{ThreadView}
 use Rattle.core_world.specs.Threads.References.{is_object, numbering, knows_by_log, has_reference, has_value}
 use Rattle.core_world.specs.Trees.Calls.{is_value}
 use Rattle.heap_table.specs.Seen.{HeapSeen}
@@ -19,7 +19,7 @@ in_range : (z : _) → is_in_range z ≡ true → IsInRange z
 in_range z r = grind (arith, ints)
 
 -- the thread may store and print such a value where it knows the object to which the value refers
-pub value_is : (h : HeapSeen) (k : Known) (n : ℕ) (Knows : ℕ → Type 0) (v : Value)
+pub value_is : (h : HeapSeen) (k : ThreadView) (n : ℕ) (Knows : ℕ → Type 0) (v : Value)
     → ((o : ℕ) → o < n → Knows o → has_reference h.heap.shape k o ≡ true) → AllByRecursion Knows (refers v) → IsValueOf n v
     → has_value h.heap.shape k v ≡ true
 value_is h k n Knows Nil has knows is = refl
@@ -31,7 +31,7 @@ first_of : (a b : Bool) → (a && b) ≡ true → a ≡ true
 first_of true b is = refl
 first_of false b is = absurd (cc (is))
 
-pub within : (h : HeapSeen) (k : Known) (o : ℕ) → has_reference h.heap.shape k o ≡ true → o < length h.heap.shape.objects
+pub within : (h : HeapSeen) (k : ThreadView) (o : ℕ) → has_reference h.heap.shape k o ≡ true → o < length h.heap.shape.objects
 within h k o is =
     ltb-true o (length h.heap.shape.objects) (first_of (is_object h.heap.shape o) (knows_by_log (numbering h.heap.shape) k.log o) is)
 

@@ -1,20 +1,20 @@
--- How a thread and its pass stand behind a local instruction, which leaves its pass.
+-- How a thread and its pass stand after a local instruction, which leaves its pass.
 use Rattle.std.proofs.Common.{◌≡◌, ℕ, ◌<◌, ◌≤◌, Bool, true, false, List, length, Option, Some, None, is_some, refl, sym, ap, ◌∙◌, subst, arith, inl, inr}
-use Rattle.core_world.specs.declared.answer.Turn.{Turn}
-use Rattle.core_world.specs.declared.answer.Turn.TheVariants.{Done, Pending}
+use Rattle.core_world.specs.declared.answer.Progress.{Progress}
+use Rattle.core_world.specs.declared.answer.Progress.TheVariants.{Done, Pending}
 use Rattle.heap_table.specs.Seen.{HeapSeen, PassSeen}
 use Rattle.lock_runtime.specs.Standing.{IsRunning}
 use Rattle.object_program.specs.Program.{ProgramText}
-use Rattle.plain_machine.specs.declared.call.Call.{Call}
-use Rattle.plain_machine.specs.declared.call.Mode.{Mode}
-use Rattle.plain_machine.specs.declared.call.Mode.TheVariants.{Calling, Waiting, Unwinding, Ended}
+use Rattle.plain_machine.specs.declared.monitor_call.MonitorCall.{MonitorCall}
+use Rattle.plain_machine.specs.declared.monitor_call.Mode.{Mode}
+use Rattle.plain_machine.specs.declared.monitor_call.Mode.TheVariants.{Calling, Waiting, Unwinding, Ended}
 use Rattle.plain_machine.specs.Asking.{ask}
 use Rattle.plain_machine.specs.Thread.{ThreadState}
 use Rattle.thread_frame.specs.declared.walk.Walked.TheVariants.{Ran, Spent}
 use Rattle.thread_frame.specs.Frames.{FrameSeen, next_state, is_ended_mode, is_in_wait, unspent, rank_of, mode_rank}
 use Rattle.thread_frame.specs.Sights.{counts_from, AreOf}
-use Rattle.thread_frame.specs.Walking.{HasWalked, IsBehindLocal}
-use Rattle.thread_logs.specs.Followed.{Follows}
+use Rattle.thread_frame.specs.Walking.{HasWalked, IsAfterLocal}
+use Rattle.thread_logs.specs.Followed.{FollowsCode}
 use Rattle.thread_calls.specs.Advances.{HasAdvanced, HasFallen, HasSpent, MakesCall, MayAdvance}
 use Rattle.thread_calls.specs.Asked.{unfinished_of, IsAtMost}
 use Rattle.thread_calls.specs.Between.{IsHeapOf, IsOn}
@@ -25,28 +25,29 @@ record IsLow (m : Option Mode) : Type 0 where
   wait : is_in_wait m ≡ 0
   rank : mode_rank m ≤ 2
 
-behind_local : (m : Option Mode) → IsBehindLocal m → IsLow m
-behind_local None b = record { wait = refl; rank = omega arith }
-behind_local (Some (Unwinding g)) b = record { wait = refl; rank = omega arith }
-behind_local (Some (Calling c)) b = absurd b
-behind_local (Some (Waiting o)) b = absurd b
-behind_local (Some (Ended g)) b = absurd b
+after_local : (m : Option Mode) → IsAfterLocal m → IsLow m
+after_local None b = record { wait = refl; rank = omega arith }
+after_local (Some (Unwinding g)) b = record { wait = refl; rank = omega arith }
+after_local (Some (Calling c)) b = absurd b
+after_local (Some (Waiting o)) b = absurd b
+after_local (Some (Ended g)) b = absurd b
 
 none_before : (m : Option Mode) → m ≡ None → is_some m ≡ true → ⊥
 none_before m e s = let z = ap is_some e in absurd (cc (z, s))
 
 -- from a frame that has as much left and to do
-same_spent : (f g e : FrameSeen) (turn : Turn Bool) → unspent f ≡ unspent g → HasSpent g e turn → HasSpent f e turn
+same_spent : (f g e : FrameSeen) (progress : Progress Bool) → unspent f ≡ unspent g → HasSpent g e progress → HasSpent f e progress
 same_spent f g e (Done true) s x = s ∙ x
 same_spent f g e (Done false) s x = s ∙ x
 same_spent f g e (Pending why) s x = (s ∙ x.0, x.1)
 
-same_calls : (h : HeapSeen) (k q : PassSeen) (f g : FrameSeen) (turn : Turn Bool) → f.mode ≡ None → MakesCall h k q g turn → MakesCall h k q f turn
+same_calls : (h : HeapSeen) (k q : PassSeen) (f g : FrameSeen) (progress : Progress Bool)
+    → f.mode ≡ None → MakesCall h k q g progress → MakesCall h k q f progress
 same_calls h k q f g (Done b) local (inl none) = inl (local, none.1)
 same_calls h k q f g (Done b) local (inr one) = inr one
 same_calls h k q f g (Pending why) local one = one
 
-same_fallen : (k q : PassSeen) (f g e : FrameSeen) (turn : Turn Bool) → rank_of f ≡ rank_of g → HasFallen k q g e turn → HasFallen k q f e turn
+same_fallen : (k q : PassSeen) (f g e : FrameSeen) (progress : Progress Bool) → rank_of f ≡ rank_of g → HasFallen k q g e progress → HasFallen k q f e progress
 same_fallen k q f g e (Done b) s x = omega (arith, s, x)
 same_fallen k q f g e (Pending why) s x = tt
 
@@ -81,7 +82,7 @@ module _ (h : HeapSeen) (p : ProgramText) (fuel : ℕ) (k : PassSeen) (f : Frame
     moved fewer =
         record {
           rests = may.on.rests;
-          follows = subst (Follows p fuel t k.known.log) (sym leads) may.on.follows;
+          follows = subst (FollowsCode p fuel t k.known.log) (sym leads) may.on.follows;
           values = may.on.values;
           few = may.on.few;
           limit = may.on.limit;
@@ -93,7 +94,7 @@ module _ (h : HeapSeen) (p : ProgramText) (fuel : ℕ) (k : PassSeen) (f : Frame
 
     pub ran : HasWalked f g Ran → HasAdvanced h p fuel k k f g (Done true)
     ran w =
-        let low = behind_local g.mode w.1 in
+        let low = after_local g.mode w.1 in
         let paid = w.0 in
         let v = ap is_in_wait local in
         let r = ap mode_rank local in
@@ -125,12 +126,12 @@ module _ (h : HeapSeen) (p : ProgramText) (fuel : ℕ) (k : PassSeen) (f : Frame
         }
 
     -- at a call, by the frame that would stand before it
-    pub arrived : (c : Call) → g.mode ≡ Some (Calling c) → g.fuel ≡ f.fuel → MayAdvance h p fuel k g
+    pub arrived : (c : MonitorCall) → g.mode ≡ Some (Calling c) → g.fuel ≡ f.fuel → MayAdvance h p fuel k g
     arrived c at same = record { on = moved (omega (arith, same)); unchecked = may.unchecked; goes = inl runs; live = ap is_ended_mode at }
 
-    pub from_there : (q : PassSeen) (e : FrameSeen) (turn : Turn Bool) (c : Call) → g.mode ≡ Some (Calling c) → g.fuel ≡ f.fuel
-        → HasAdvanced h p fuel k q g e turn → HasAdvanced h p fuel k q f e turn
-    from_there q e turn c at same a =
+    pub from_there : (q : PassSeen) (e : FrameSeen) (progress : Progress Bool) (c : MonitorCall) → g.mode ≡ Some (Calling c) → g.fuel ≡ f.fuel
+        → HasAdvanced h p fuel k q g e progress → HasAdvanced h p fuel k q f e progress
+    from_there q e progress c at same a =
         let v = ap is_in_wait local in
         let r = ap mode_rank local in
         let x = ap is_in_wait at in
@@ -140,7 +141,7 @@ module _ (h : HeapSeen) (p : ProgramText) (fuel : ℕ) (k : PassSeen) (f : Frame
           unchecked = a.unchecked;
           thread = a.thread;
           stands = a.stands;
-          calls = same_calls h k q f g turn local a.calls;
-          spent = same_spent f g e turn (omega (arith, same, v, x)) a.spent;
-          fallen = same_fallen k q f g e turn (omega (arith, same, r, y)) a.fallen;
+          calls = same_calls h k q f g progress local a.calls;
+          spent = same_spent f g e progress (omega (arith, same, v, x)) a.spent;
+          fallen = same_fallen k q f g e progress (omega (arith, same, r, y)) a.fallen;
         }

@@ -1,18 +1,18 @@
 -- Which operation on the heap is the one that a thread of a program asks next.
 use Rattle.std.specs.Prelude.{◌≡◌, ◌⊎◌, ℕ, Option, Some, None}
-use Rattle.core_world.specs.declared.task.Op.{Op}
-use Rattle.core_world.specs.declared.task.Op.TheVariants as op
-use Rattle.core_world.specs.declared.task.Unfinished.{Unfinished}
-use Rattle.plain_machine.specs.declared.call.Call.{Call}
-use Rattle.plain_machine.specs.declared.call.Call.TheVariants as call
-use Rattle.plain_machine.specs.declared.call.Asked.{Asked}
-use Rattle.plain_machine.specs.declared.call.Asked.TheVariants.{Calls, Resumes, Leaves, Ends}
+use Rattle.core_world.specs.declared.heap_call.Operation.{Operation}
+use Rattle.core_world.specs.declared.heap_call.Operation.TheVariants as op
+use Rattle.core_world.specs.declared.heap_call.Unfinished.{Unfinished}
+use Rattle.plain_machine.specs.declared.monitor_call.MonitorCall.{MonitorCall}
+use Rattle.plain_machine.specs.declared.monitor_call.MonitorCall.TheVariants as call
+use Rattle.plain_machine.specs.declared.monitor_call.NextEntry.{NextEntry}
+use Rattle.plain_machine.specs.declared.monitor_call.NextEntry.TheVariants.{Calls, Resumes, Leaves, Ends}
 
-abbrev pub unfinished_on : Op → ℕ → Option Unfinished
+abbrev pub unfinished_on : Operation → ℕ → Option Unfinished
 unfinished_on op o = Some (record { op = op; object = o })
 
 -- what a pending call leaves unfinished; a call that makes its entry at once leaves nothing
-abbrev pub unfinished_of_call : Call → Option Unfinished
+abbrev pub unfinished_of_call : MonitorCall → Option Unfinished
 unfinished_of_call (call.Enter o) = unfinished_on op.Enter o
 unfinished_of_call (call.Exit o) = unfinished_on op.Exit o
 unfinished_of_call (call.Wait o) = unfinished_on op.Wait o
@@ -23,7 +23,7 @@ unfinished_of_call (call.Dump n) = unfinished_on op.Dump 0
 unfinished_of_call c = None
 
 -- A thread that waits goes on with its wait, and one that unwinds leaves its holds by exits.
-abbrev pub unfinished_of : Option Asked → Option Unfinished
+abbrev pub unfinished_of : Option NextEntry → Option Unfinished
 unfinished_of (Some (Calls c)) = unfinished_of_call c
 unfinished_of (Some (Resumes o)) = unfinished_on op.Wait o
 unfinished_of (Some (Leaves o)) = unfinished_on op.Exit o

@@ -1,7 +1,7 @@
 -- What holds of a pass, and of the state of its thread, between two calls.
 use Rattle.std.specs.Prelude.{◌≡◌, ℕ, ◌≤◌, true, false, length, Option, is_some}
 use Rattle.plain_monitor.specs.Limits.{most_fuel, entries_for}
-use Rattle.core_world.specs.declared.task.Unfinished.{Unfinished}
+use Rattle.core_world.specs.declared.heap_call.Unfinished.{Unfinished}
 use Rattle.heap_table.specs.Resting.{Rests}
 use Rattle.heap_table.specs.Seen.{HeapSeen, PassSeen}
 use Rattle.object_program.specs.Program.{ProgramText, declared_total, shape_of}
@@ -11,7 +11,7 @@ use Rattle.plain_machine.specs.Thread.{ThreadState}
 use Rattle.thread_calls.specs.Asked.{unfinished_of, IsAtMost}
 use Rattle.thread_frame.specs.Frames.{FrameSeen, next_state, has_ended}
 use Rattle.thread_frame.specs.Sights.{counts_from}
-use Rattle.thread_logs.specs.Followed.{Follows, HaveValues}
+use Rattle.thread_logs.specs.Followed.{FollowsCode, HaveValues}
 
 -- The heap is one for the program: it has a place for each thread and each class, and the program's objects, of which the declared ones have the first
 -- numbers; the others are those that threads may make.
@@ -38,7 +38,7 @@ pub record StandsFor (frame : FrameSeen) (unfinished asked : Option Unfinished) 
 -- the one that the thread asks next. The log has room for all that the thread may still log.
 pub record IsOn (h : HeapSeen) (p : ProgramText) (fuel : ℕ) (pass : PassSeen) (frame : FrameSeen) : Type 0 where
   pub rests : Rests h pass
-  pub follows : Follows p fuel pass.known.thread pass.known.log (state_by h p pass frame)
+  pub follows : FollowsCode p fuel pass.known.thread pass.known.log (state_by h p pass frame)
   pub values : HaveValues p pass.known.log
   pub few : fuel ≤ most_fuel
   pub limit : pass.limit ≡ entries_for fuel

@@ -2,28 +2,28 @@
 
 ghost use Rattle.std.specs.Prelude.{◌≡◌, Some};
 ghost use Rattle.core_calls.specs.Causes.{of_waits};
-ghost use Rattle.plain_machine.specs.declared.call.Call.TheVariants as call;
-ghost use Rattle.plain_machine.specs.declared.call.Mode.TheVariants.{Calling};
-ghost use Rattle.thread_calls.specs.Advances.{HasAdvanced, MayAdvance, turn_of};
+ghost use Rattle.plain_machine.specs.declared.monitor_call.MonitorCall.TheVariants as call;
+ghost use Rattle.plain_machine.specs.declared.monitor_call.Mode.TheVariants.{Calling};
+ghost use Rattle.thread_calls.specs.Advances.{HasAdvanced, MayAdvance, progress_of};
 ghost use Rattle.thread_calls.specs.Between.{IsHeapOf};
-ghost use Rattle.thread_calls.specs.inner.Made.{IsBehindCall};
+ghost use Rattle.thread_calls.specs.inner.Made.{IsAfterCall};
 ghost use Rattle.thread_calls.specs.Timed.{StaysTimed};
 ghost use Rattle.thread_frame.specs.Frames.{before_call, IsAtInstruction};
 
 use crate::came::{Went, tell};
-use crate::makes::{enter, exit, get, make, put};
+use crate::runtime_calls::{call_runtime, enter, exit, get, put};
 use crate::timing::time_now;
-use core_world::{Turn, Why};
+use core_world::{PendingCause, Progress};
 use heap_table::{Heap, Pass};
 use lock_runtime as runtime;
 use object_program::Program;
-use plain_machine::{Asked, Call};
+use plain_machine::{MonitorCall, NextEntry};
 use plain_monitor::Entry;
 use run_io::Clock;
 use thread_frame::Frame;
 
 /// Makes the call that the thread is at. Only where it is pending does the frame stand before it then, and is a cause written. The calls that most
-/// instructions are have places of their own, so that no answer of theirs goes through memory; `make` makes the rest.
+/// instructions are have places of their own, so that no answer of theirs goes through memory; `call_runtime` makes the rest.
 #[inline]
 pub(crate) fn call<C: Clock>(
     program: &Program,
@@ -33,75 +33,80 @@ pub(crate) fn call<C: Clock>(
     fuel: u32,
     pass: &mut Pass,
     frame: &mut Frame,
-    call: Call,
-    cause: &mut Why,
+    call: MonitorCall,
+    cause: &mut PendingCause,
 ) -> Went
     requires heap { IsHeapOf heap.now program.now }
     requires may { MayAdvance heap.now program.now fuel pass.old (before_call frame.old call) }
     requires placed { IsAtInstruction frame.old.place frame.old.made (Some (Calling call)) }
     ensures advanced { HasAdvanced heap.now program.now fuel pass.old pass.new (before_call frame.old call) frame.new
-        (turn_of result cause.new) }
+        (progress_of result cause.new) }
     ensures timed { StaysTimed tick pass.old pass.new }
 {
     match call {
-        Call::Enter { object } => {
-            let turn = enter(heap, pass, object, time_now(clock, tick));
-            go_behind(frame, Call::Enter { object }, turn, cause)
+        MonitorCall::Enter { object } => {
+            let progress = enter(heap, pass, object, time_now(clock, tick));
+            go_past(frame, MonitorCall::Enter { object }, progress, cause)
         }
-        Call::Exit { object } => {
-            let turn = exit(heap, pass, object);
-            go_behind(frame, Call::Exit { object }, turn, cause)
+        MonitorCall::Exit { object } => {
+            let progress = exit(heap, pass, object);
+            go_past(frame, MonitorCall::Exit { object }, progress, cause)
         }
-        Call::Get {
+        MonitorCall::Get {
             local,
             object,
             slot,
         } => {
-            let turn = get(heap, pass, local, object, slot);
-            let made = Call::Get {
+            let progress = get(heap, pass, local, object, slot);
+            let made = MonitorCall::Get {
                 local,
                 object,
                 slot,
             };
-            go_behind(frame, made, turn, cause)
+            go_past(frame, made, progress, cause)
         }
-        Call::Put {
+        MonitorCall::Put {
             object,
             slot,
             value,
         } => {
-            let turn = put(heap, pass, object, slot, value);
-            let made = Call::Put {
+            let progress = put(heap, pass, object, slot, value);
+            let made = MonitorCall::Put {
                 object,
                 slot,
                 value,
             };
-            go_behind(frame, made, turn, cause)
+            go_past(frame, made, progress, cause)
         }
-        Call::Wait { object } => {
-            let turn = begin_wait(program, heap, clock, tick, fuel, pass, frame, object);
-            tell(turn, cause)
+        MonitorCall::Wait { object } => {
+            let progress = begin_wait(program, heap, clock, tick, fuel, pass, frame, object);
+            tell(progress, cause)
         }
         _ => {
-            let turn = make(heap, clock, tick, pass, call);
-            go_behind(frame, call, turn, cause)
+            let progress = call_runtime(heap, clock, tick, pass, call);
+            go_past(frame, call, progress, cause)
         }
     }
 }
 
-// Moves on behind the call that was made, or stands before it where it is pending. It is built into each place that calls it, where the compiler
+// Moves on past the call that was made, or stands before it where it is pending. It is built into each place that calls it, where the compiler
 // knows the call, and so what of its answer the frame takes.
 #[inline(always)]
-fn go_behind(frame: &mut Frame, call: Call, turn: Turn<Entry>, cause: &mut Why) -> Went
+fn go_past(
+    frame: &mut Frame,
+    call: MonitorCall,
+    progress: Progress<Entry>,
+    cause: &mut PendingCause,
+) -> Went
     requires { IsAtInstruction frame.old.place frame.old.made (Some (Calling call)) }
-    ensures { IsBehindCall frame.old frame.new call turn (turn_of result cause.new) }
+    ensures { IsAfterCall frame.old frame.new call progress (progress_of result cause.new) }
 {
-    match turn {
-        Turn::Done(entry) => {
-            frame.follow(Asked::Calls { call }, &entry);
+    match progress {
+        Progress::Done(entry) => {
+            frame.follow(NextEntry::Calls { call }, &entry);
             Went::Done
         }
-        Turn::Pending(why) => {
+        Progress::Pending(why) => {
             frame.stand_before(call);
             *cause = why;
             Went::Pending
@@ -110,10 +115,13 @@ fn go_behind(frame: &mut Frame, call: Call, turn: Turn<Entry>, cause: &mut Why) 
 }
 
 // Whether a wait that is pending for this has let go.
-fn has_let_go(why: Why) -> bool
+fn has_let_go(why: PendingCause) -> bool
     ensures { result ≡ of_waits why }
 {
-    matches!(why, Why::Owned { .. } | Why::NotNotified { .. })
+    matches!(
+        why,
+        PendingCause::Owned { .. } | PendingCause::NotNotified { .. }
+    )
 }
 
 // Begins to wait on the object, and may go on up to the end of the wait.
@@ -127,7 +135,7 @@ fn begin_wait<C: Clock>(
     pass: &mut Pass,
     frame: &mut Frame,
     object: u32,
-) -> Turn<bool>
+) -> Progress<bool>
     requires heap { IsHeapOf heap.now program.now }
     requires may { MayAdvance heap.now program.now fuel pass.old (before_call frame.old (call.Wait object)) }
     requires placed { IsAtInstruction frame.old.place frame.old.made (Some (Calling (call.Wait object))) }
@@ -135,23 +143,23 @@ fn begin_wait<C: Clock>(
         (before_call frame.old (call.Wait object)) frame.new result }
     ensures timed { StaysTimed tick pass.old pass.new }
 {
-    let call = Call::Wait { object };
-    let asked = Asked::Calls { call };
+    let call = MonitorCall::Wait { object };
+    let asked = NextEntry::Calls { call };
     let entry = Entry::Wait { object };
     match runtime::wait(heap, pass, object, time_now(clock, tick)) {
-        Ok(turn) => match turn {
-            Turn::Done(()) => {
+        Ok(progress) => match progress {
+            Progress::Done(()) => {
                 frame.follow(asked, &entry);
-                frame.follow(Asked::Resumes { object }, &Entry::Resume { object });
-                Turn::Done(true)
+                frame.follow(NextEntry::Resumes { object }, &Entry::Resume { object });
+                Progress::Done(true)
             }
-            Turn::Pending(why) => {
+            Progress::Pending(why) => {
                 if has_let_go(why) {
                     frame.follow(asked, &entry);
-                    return Turn::Pending(why);
+                    return Progress::Pending(why);
                 }
                 frame.stand_before(call);
-                Turn::Pending(why)
+                Progress::Pending(why)
             }
         },
         Err(_) => unreachable!(),

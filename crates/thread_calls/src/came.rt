@@ -1,9 +1,9 @@
 //! What one instruction or one entry came to.
 
 ghost use Rattle.std.specs.Prelude.{◌≡◌};
-ghost use Rattle.thread_calls.specs.Advances.{turn_of};
+ghost use Rattle.thread_calls.specs.Advances.{progress_of};
 
-use core_world::{Turn, Why};
+use core_world::{PendingCause, Progress};
 
 /// What one instruction or one entry came to. The cause of a pending call is written apart, and only there: so this fits a register.
 #[derive(Clone, Copy, Debug, PartialEq, Eq)]
@@ -17,13 +17,13 @@ pub enum Went {
 }
 
 /// Tells what the answer came to, and writes its cause where it is pending.
-pub(crate) fn tell(turn: Turn<bool>, cause: &mut Why) -> Went
-    ensures { turn_of result cause.new ≡ turn }
+pub(crate) fn tell(progress: Progress<bool>, cause: &mut PendingCause) -> Went
+    ensures { progress_of result cause.new ≡ progress }
 {
-    match turn {
-        Turn::Done(true) => Went::Done,
-        Turn::Done(false) => Went::On,
-        Turn::Pending(why) => {
+    match progress {
+        Progress::Done(true) => Went::Done,
+        Progress::Done(false) => Went::On,
+        Progress::Pending(why) => {
             *cause = why;
             Went::Pending
         }

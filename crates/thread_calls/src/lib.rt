@@ -5,13 +5,13 @@
 //! code, and its unfinished operation is the one that the thread asks next.
 #![tactic(auto)]
 
-mod asks;
 mod calls;
 mod came;
 mod laws;
-mod makes;
 mod next;
+mod runtime_calls;
 mod timing;
+mod waiting_and_unwinding;
 
 pub use came::Went;
 pub use laws::unused_passes_are_on;

@@ -1,18 +1,18 @@
 //! The next instruction or entry of a thread.
 
 ghost use Rattle.std.specs.Prelude.{◌≡◌, None};
-ghost use Rattle.thread_calls.specs.Advances.{HasAdvanced, MayAdvance, turn_of};
+ghost use Rattle.thread_calls.specs.Advances.{HasAdvanced, MayAdvance, progress_of};
 ghost use Rattle.thread_calls.specs.Between.{IsHeapOf};
 ghost use Rattle.thread_calls.specs.inner.Reached.{HasReached};
 ghost use Rattle.thread_calls.specs.Timed.{StaysTimed};
 
-use crate::asks::{resume, unwind};
 use crate::calls::call;
 use crate::came::{Went, tell};
-use core_world::Why;
+use crate::waiting_and_unwinding::{continue_wait, unwind};
+use core_world::PendingCause;
 use heap_table::{Heap, Pass};
 use object_program::Program;
-use plain_machine::{Call, Mode};
+use plain_machine::{Mode, MonitorCall};
 use plain_monitor::Ending;
 use run_io::Clock;
 use thread_frame::{Frame, Walked};
@@ -36,12 +36,12 @@ pub fn advance<C: Clock>(
     fuel: u32,
     pass: &mut Pass,
     frame: &mut Frame,
-    cause: &mut Why,
+    cause: &mut PendingCause,
 ) -> Went
     requires heap { IsHeapOf heap.now program.now }
     requires may { MayAdvance heap.now program.now fuel pass.old frame.old }
     ensures advanced { HasAdvanced heap.now program.now fuel pass.old pass.new frame.old frame.new
-        (turn_of result cause.new) }
+        (progress_of result cause.new) }
     ensures timed { StaysTimed tick pass.old pass.new }
 {
     match reach(program, heap, fuel, pass, frame) {
@@ -51,12 +51,12 @@ pub fn advance<C: Clock>(
             call(program, heap, clock, tick, fuel, pass, frame, next, cause)
         }
         Reached::Waits { object } => {
-            let turn = resume(program, heap, clock, tick, fuel, pass, frame, object);
-            tell(turn, cause)
+            let progress = continue_wait(program, heap, clock, tick, fuel, pass, frame, object);
+            tell(progress, cause)
         }
         Reached::Unwinds { ending } => {
-            let turn = unwind(program, heap, fuel, pass, frame, ending);
-            tell(turn, cause)
+            let progress = unwind(program, heap, fuel, pass, frame, ending);
+            tell(progress, cause)
         }
     }
 }
@@ -70,7 +70,7 @@ pub(crate) enum Reached {
     Spent,
     /// It is at this call, or has stood before it since it was pending: there is one place in the code that makes a call, so that each
     /// instruction goes straight to what it calls.
-    Calls { call: Call },
+    Calls { call: MonitorCall },
     /// It goes on with its wait.
     Waits { object: u32 },
     /// It leaves what it holds, and then ends so.

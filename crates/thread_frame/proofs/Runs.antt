@@ -1,5 +1,6 @@
 -- A run doesn't ask for the fuel and the mode that its thread has, and leaves the thread's holds as they are.
-use Rattle.std.proofs.Common.{◌≡◌, ℕ, zero, suc, ◌+ℤ◌, ◌-ℤ◌, ◌*ℤ◌, ℤ, Bool, true, false, if◌then◌else◌, List, slice_get, sum, nat_le, nat_lt, Option, refl, ap, sym, ◌∙◌}
+use Rattle.std.proofs.Common.{◌≡◌, ℕ, zero, suc, ◌+ℤ◌, ◌-ℤ◌, ◌*ℤ◌, ℤ, Bool, true, false, if◌then◌else◌}
+use Rattle.std.proofs.Common.{List, slice_get, sum, nat_le, nat_lt, Option, refl, ap, sym, ◌∙◌}
 use Rattle.plain_monitor.specs.Limits.{most_holds, most_made}
 use Rattle.plain_monitor.specs.declared.entry.Fault.{Fault}
 use Rattle.plain_monitor.specs.declared.entry.Fault.TheVariants.{IllegalMonitorState, Unguarded}
@@ -11,11 +12,12 @@ use Rattle.object_program.specs.declared.program.Code.{Code}
 use Rattle.object_program.specs.declared.program.Code.TheVariants as code
 use Rattle.object_program.specs.declared.program.ObjectDef.{ObjectDef}
 use Rattle.object_program.specs.Program.{ProgramText, slots_of}
-use Rattle.plain_machine.specs.declared.call.Call.{Call}
-use Rattle.plain_machine.specs.declared.call.Call.TheVariants as call
-use Rattle.plain_machine.specs.declared.call.Mode.{Mode}
+use Rattle.plain_machine.specs.declared.monitor_call.MonitorCall.{MonitorCall}
+use Rattle.plain_machine.specs.declared.monitor_call.MonitorCall.TheVariants as call
+use Rattle.plain_machine.specs.declared.monitor_call.Mode.{Mode}
 use Rattle.plain_machine.specs.Running.{instruction_at, after_step, run_on}
-use Rattle.plain_machine.specs.Thread.{ThreadState, Step, Goes, Calls, Stops, step_of, local, on_object, on_slot, owner_only, computes, combines, holds_of, size_of, is_element, element, jumps_where, jumps_below}
+use Rattle.plain_machine.specs.Thread.{ThreadState, Step, Goes, Calls, Stops, step_of, local, on_object, on_slot, owner_only}
+use Rattle.plain_machine.specs.Thread.{computes, combines, holds_of, size_of, is_element, element, jumps_where, jumps_below}
 
 -- the same thread with other fuel, in another mode
 abbrev pub in_mode : ℕ → Mode → ThreadState → ThreadState
@@ -47,11 +49,11 @@ element_in : (s : ThreadState) (n : ℕ) (m : Mode) (x : ℕ) (d : Option Object
 element_in s n m x d (Int i) = either_in (in_mode n m s) (is_element i (size_of d)) _ _ _ _ refl refl
 element_in s n m x d v = refl
 
-owner_in : (s : ThreadState) (n : ℕ) (m : Mode) (o : ℕ) (f : Fault) (c : Call)
+owner_in : (s : ThreadState) (n : ℕ) (m : Mode) (o : ℕ) (f : Fault) (c : MonitorCall)
     → owner_only (in_mode n m s) o f (Calls c) ≡ step_in (in_mode n m s) (owner_only s o f (Calls c))
 owner_in s n m o f c = either_in (in_mode n m s) (nat_le 1 (holds_of s o)) _ _ _ _ refl refl
 
-slot_in : (p : ProgramText) (s : ThreadState) (n : ℕ) (m : Mode) (o k : ℕ) (c : Call)
+slot_in : (p : ProgramText) (s : ThreadState) (n : ℕ) (m : Mode) (o k : ℕ) (c : MonitorCall)
     → on_slot p (in_mode n m s) o k c ≡ step_in (in_mode n m s) (on_slot p s o k c)
 slot_in p s n m o k c = either_in (in_mode n m s) (nat_lt k (slots_of p o)) _ _ _ _ (owner_in s n m o Unguarded c) refl
 

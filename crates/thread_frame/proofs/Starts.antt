@@ -8,7 +8,7 @@ use Rattle.plain_monitor.specs.declared.entry.Value.TheVariants.{Nil}
 use Rattle.object_program.specs.declared.program.ThreadDef.{ThreadDef}
 use Rattle.object_program.specs.Program.{ProgramText, objects_total}
 use Rattle.object_program.specs.Valid.{IsProgram, IsThread}
-use Rattle.plain_machine.specs.declared.call.Mode.TheVariants.{Unwinding}
+use Rattle.plain_machine.specs.declared.monitor_call.Mode.TheVariants.{Unwinding}
 use Rattle.plain_machine.specs.Machine.{new_machine}
 use Rattle.plain_machine.specs.Running.{first_state, run_on}
 use Rattle.plain_machine.specs.Thread.{ThreadState}

@@ -3,14 +3,14 @@ use Rattle.std.proofs.Common.{◌≡◌, ℕ, ◌-◌, ◌<◌, List, Option, So
 use Rattle.plain_monitor.specs.declared.entry.Ending.TheVariants.{Spent, Done}
 use Rattle.object_program.specs.declared.program.Code.{Code}
 use Rattle.object_program.specs.Program.{ProgramText}
-use Rattle.plain_machine.specs.declared.call.Mode.{Mode}
-use Rattle.plain_machine.specs.declared.call.Mode.TheVariants.{Unwinding}
+use Rattle.plain_machine.specs.declared.monitor_call.Mode.{Mode}
+use Rattle.plain_machine.specs.declared.monitor_call.Mode.TheVariants.{Unwinding}
 use Rattle.plain_machine.specs.declared.step.Next.{Next}
 use Rattle.plain_machine.specs.declared.step.Next.TheVariants as next
-use Rattle.plain_machine.specs.declared.call.Call.TheVariants as call
+use Rattle.plain_machine.specs.declared.monitor_call.MonitorCall.TheVariants as call
 use Rattle.plain_machine.specs.Next.{meant, IsReadyNext}
 use Rattle.plain_machine.specs.Running.{instruction_at, run_on}
-use Rattle.plain_machine.specs.Thread.{ThreadState, step_of, behind, with_local}
+use Rattle.plain_machine.specs.Thread.{ThreadState, step_of, past, with_local}
 use Rattle.plain_machine.proofs.Runs.{run_goes, run_calls, run_stops, run_spent}
 use Rattle.thread_frame.specs.Frames.{FrameSeen, state_in, led_on}
 use Rattle.thread_frame.specs.inner.Walking.{frame_moved, IsPlacedFor}
@@ -28,8 +28,8 @@ walks_in : (p : ProgramText) (cs : List Code) (n : ℕ) (holds : List ℕ) (f : 
 walks_in p cs n holds f (next.Sets x v) l e =
     let s = state_in n holds (in_option f None) in
     let left = f.fuel - 1 in
-    let went = behind (with_local s x v) in
-    ap (λ locals. run_on p cs left (in_mode left (Unwinding Done) (behind (record s { locals = locals }))))
+    let went = past (with_local s x v) in
+    ap (λ locals. run_on p cs left (in_mode left (Unwinding Done) (past (record s { locals = locals }))))
     (take_set n f.locals x v)
     ∙ sym (run_same p cs left left (Unwinding Done) went)
     ∙ sym (run_goes p cs f.fuel s went l e)

@@ -1,5 +1,6 @@
 -- A thread of a program between two of its entries, apart from its holds: its pass knows those.
-use Rattle.std.specs.Prelude.{ℕ, pos, ◌+◌, ◌-◌, ◌*◌, ◌<◌, Bool, true, false, List, [], length, map, replicate, take, slice_index_or, slice_set, Option, Some, None}
+use Rattle.std.specs.Prelude.{ℕ, pos, ◌+◌, ◌-◌, ◌*◌, ◌<◌, Bool, true, false, List, [], length, map}
+use Rattle.std.specs.Prelude.{replicate, take, slice_index_or, slice_set, Option, Some, None}
 use Rattle.plain_monitor.specs.Limits.{most_made}
 use Rattle.plain_monitor.specs.declared.entry.Ending.TheVariants.{Done}
 use Rattle.plain_monitor.specs.declared.entry.Entry.{Entry}
@@ -9,12 +10,12 @@ use Rattle.plain_monitor.specs.declared.entry.Value.TheVariants.{Nil, Int, Ref}
 use Rattle.object_program.specs.Limits.{most_code}
 use Rattle.object_program.specs.declared.program.Code.{Code}
 use Rattle.object_program.specs.Program.{ProgramText}
-use Rattle.plain_machine.specs.declared.call.Call.{Call}
-use Rattle.plain_machine.specs.declared.call.Call.TheVariants as call
-use Rattle.plain_machine.specs.declared.call.Mode.{Mode}
-use Rattle.plain_machine.specs.declared.call.Mode.TheVariants.{Calling, Waiting, Unwinding, Ended}
-use Rattle.plain_machine.specs.declared.call.Asked.{Asked}
-use Rattle.plain_machine.specs.declared.call.Asked.TheVariants.{Calls, Resumes, Leaves, Ends}
+use Rattle.plain_machine.specs.declared.monitor_call.MonitorCall.{MonitorCall}
+use Rattle.plain_machine.specs.declared.monitor_call.MonitorCall.TheVariants as call
+use Rattle.plain_machine.specs.declared.monitor_call.Mode.{Mode}
+use Rattle.plain_machine.specs.declared.monitor_call.Mode.TheVariants.{Calling, Waiting, Unwinding, Ended}
+use Rattle.plain_machine.specs.declared.monitor_call.NextEntry.{NextEntry}
+use Rattle.plain_machine.specs.declared.monitor_call.NextEntry.TheVariants.{Calls, Resumes, Leaves, Ends}
 use Rattle.plain_machine.specs.Machine.{code_of}
 use Rattle.plain_machine.specs.Running.{run_on}
 use Rattle.plain_machine.specs.Thread.{ThreadState}
@@ -68,7 +69,7 @@ abbrev pub next_state : ProgramText → ℕ → List ℕ → FrameSeen → Threa
 next_state p t holds f = led_on p (code_of p t) f.mode (state_in (locals_of p t) holds f)
 
 -- what the call's answer makes of it
-abbrev pub frame_answered : FrameSeen → Call → Entry → FrameSeen
+abbrev pub frame_answered : FrameSeen → MonitorCall → Entry → FrameSeen
 frame_answered f (call.Get x o k) (entry.Get object slot value) = record f { locals = slice_set f.locals x value }
 frame_answered f (call.Hash x o) (entry.Hash object value drawn) =
     record f { locals = slice_set f.locals x (Int (pos value)) }
@@ -77,20 +78,20 @@ frame_answered f (call.New x c) (entry.New object class) =
 frame_answered f (call.Dump n) e = record f { dumps = n }
 frame_answered f c e = f
 
--- behind the call, which is paid for: a thread that waits stands still, each other goes on with its local instructions
-abbrev pub frame_behind_call : FrameSeen → Call → Entry → FrameSeen
-frame_behind_call f (call.Wait o) e = record f { place = f.place + 1; fuel = f.fuel - 1; mode = Some (Waiting o) }
-frame_behind_call f c e = record (frame_answered f c e) { place = f.place + 1; fuel = f.fuel - 1; mode = None }
+-- after the call, which is paid for: a thread that waits stands still, each other goes on with its local instructions
+abbrev pub frame_after_call : FrameSeen → MonitorCall → Entry → FrameSeen
+frame_after_call f (call.Wait o) e = record f { place = f.place + 1; fuel = f.fuel - 1; mode = Some (Waiting o) }
+frame_after_call f c e = record (frame_answered f c e) { place = f.place + 1; fuel = f.fuel - 1; mode = None }
 
--- behind an entry that is what it asked
-abbrev pub frame_behind : FrameSeen → Asked → Entry → FrameSeen
-frame_behind f (Calls c) e = frame_behind_call f c e
-frame_behind f (Resumes o) e = record f { mode = None }
-frame_behind f (Leaves o) e = f
-frame_behind f (Ends g) e = record f { mode = Some (Ended g) }
+-- after an entry that is what it asked
+abbrev pub frame_after : FrameSeen → NextEntry → Entry → FrameSeen
+frame_after f (Calls c) e = frame_after_call f c e
+frame_after f (Resumes o) e = record f { mode = None }
+frame_after f (Leaves o) e = f
+frame_after f (Ends g) e = record f { mode = Some (Ended g) }
 
 -- where it stands before this call
-abbrev pub before_call : FrameSeen → Call → FrameSeen
+abbrev pub before_call : FrameSeen → MonitorCall → FrameSeen
 before_call f c = record f { mode = Some (Calling c) }
 
 -- HOW FAR IT IS. A wait is an instruction that is paid for when it lets go, and done when it has the monitor again.
@@ -121,7 +122,7 @@ abbrev pub has_ended : FrameSeen → Bool
 has_ended f = is_ended_mode f.mode
 
 -- a thread that makes an object has made fewer than it may
-abbrev pub MayMakeMore : ℕ → Call → Type 0
+abbrev pub MayMakeMore : ℕ → MonitorCall → Type 0
 MayMakeMore made (call.New x c) = made < most_made
 MayMakeMore made c = Unit {0}
 
@@ -130,7 +131,7 @@ abbrev pub IsAtInstruction : ℕ → ℕ → Option Mode → Type 0
 IsAtInstruction place made (Some (Calling c)) = (place < most_code) × MayMakeMore made c
 IsAtInstruction place made mode = Unit {0}
 
--- a thread that is to go on behind a call is at an instruction that makes such a call, whether it stands before it or not
-abbrev pub MayFollow : FrameSeen → Asked → Type 0
+-- a thread that is to go on after a call is at an instruction that makes such a call, whether it stands before it or not
+abbrev pub MayFollow : FrameSeen → NextEntry → Type 0
 MayFollow f (Calls c) = IsAtInstruction f.place f.made (Some (Calling c))
 MayFollow f a = Unit {0}

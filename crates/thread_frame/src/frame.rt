@@ -2,12 +2,12 @@
 
 ghost use Rattle.std.specs.Prelude.{◌≡◌, ◌<◌, slice_index_or, slice_set, None, Some};
 ghost use Rattle.object_program.specs.Limits.{most_locals};
-ghost use Rattle.plain_machine.specs.declared.call.Mode.TheVariants.{Calling};
+ghost use Rattle.plain_machine.specs.declared.monitor_call.Mode.TheVariants.{Calling};
 ghost use Rattle.plain_monitor.specs.declared.entry.Value.TheVariants.{Nil};
-ghost use Rattle.thread_frame.specs.Frames.{before_call, first_frame, frame_answered, frame_behind, frame_behind_call, has_ended};
+ghost use Rattle.thread_frame.specs.Frames.{before_call, first_frame, frame_answered, frame_after, frame_after_call, has_ended};
 ghost use Rattle.thread_frame.specs.Frames.{IsAtInstruction, MayFollow, MayMakeMore};
 
-use plain_machine::{Asked, Call, Mode};
+use plain_machine::{Mode, MonitorCall, NextEntry};
 use plain_monitor::{Entry, Value};
 use std::marker::Model;
 
@@ -110,75 +110,75 @@ impl Frame {
     }
 
     /// Stands before the call that it is at, which is pending.
-    pub fn stand_before(&mut self, call: Call)
+    pub fn stand_before(&mut self, call: MonitorCall)
         requires { IsAtInstruction self.old.place self.old.made (Some (Calling call)) }
         ensures { self.new ≡ before_call self.old call }
     {
         self.mode = Some(Mode::Calling { call });
     }
 
-    /// Moves on behind an entry that is what it asked. A call that was made at once it need not have stood before.
+    /// Moves on after an entry that is what it asked. A call that was made at once it need not have stood before.
     #[inline]
-    pub fn follow(&mut self, asked: Asked, entry: &Entry)
+    pub fn follow(&mut self, asked: NextEntry, entry: &Entry)
         requires { MayFollow self.old asked }
-        ensures { self.new ≡ frame_behind self.old asked entry.now }
+        ensures { self.new ≡ frame_after self.old asked entry.now }
     {
         match asked {
-            Asked::Calls { call } => self.follow_call(call, entry),
-            Asked::Resumes { .. } => self.mode = None,
-            Asked::Leaves { .. } => {}
-            Asked::Ends { ending } => self.mode = Some(Mode::Ended { ending }),
+            NextEntry::Calls { call } => self.follow_call(call, entry),
+            NextEntry::Resumes { .. } => self.mode = None,
+            NextEntry::Leaves { .. } => {}
+            NextEntry::Ends { ending } => self.mode = Some(Mode::Ended { ending }),
         }
     }
 
-    // Moves on behind this call, which is paid for.
+    // Moves on past this call, which is paid for.
     #[inline]
     #[tactic(auto, using(crate::proofs::Moves::answered_later))]
-    fn follow_call(&mut self, call: Call, entry: &Entry)
+    fn follow_call(&mut self, call: MonitorCall, entry: &Entry)
         requires { IsAtInstruction self.old.place self.old.made (Some (Calling call)) }
-        ensures { self.new ≡ frame_behind_call self.old call entry.now }
+        ensures { self.new ≡ frame_after_call self.old call entry.now }
     {
         let place = self.place + 1;
         let fuel = self.fuel.saturating_sub(1);
-        if let Call::Wait { object } = call {
+        if let MonitorCall::Wait { object } = call {
             return self.stand(place, fuel, Some(Mode::Waiting { object }));
         }
         self.stand(place, fuel, None);
         self.answer(call, entry);
     }
 
-    // What the call's answer makes of it, behind the call.
+    // What the call's answer makes of it, after the call.
     #[inline]
-    fn answer(&mut self, call: Call, entry: &Entry)
-        requires behind { self.old.mode ≡ None }
+    fn answer(&mut self, call: MonitorCall, entry: &Entry)
+        requires after { self.old.mode ≡ None }
         requires room { MayMakeMore self.old.made call }
         ensures { self.new ≡ frame_answered self.old call entry.now }
     {
         match call {
-            Call::Get { local, .. } => {
+            MonitorCall::Get { local, .. } => {
                 if let Entry::Get { value, .. } = entry {
                     self.set_local(local, *value);
                 }
             }
-            Call::Hash { local, .. } => {
+            MonitorCall::Hash { local, .. } => {
                 if let Entry::Hash { value, .. } = entry {
                     self.set_local(local, Value::Int(i64::from(*value)));
                 }
             }
-            Call::New { local, .. } => {
+            MonitorCall::New { local, .. } => {
                 if let Entry::New { object, .. } = entry {
                     self.made += 1;
                     self.set_local(local, Value::Ref(*object));
                 }
             }
-            Call::Dump { number } => self.dumps = number,
-            Call::Enter { .. }
-            | Call::Exit { .. }
-            | Call::Wait { .. }
-            | Call::Notify { .. }
-            | Call::NotifyAll { .. }
-            | Call::Put { .. }
-            | Call::Print { .. } => {}
+            MonitorCall::Dump { number } => self.dumps = number,
+            MonitorCall::Enter { .. }
+            | MonitorCall::Exit { .. }
+            | MonitorCall::Wait { .. }
+            | MonitorCall::Notify { .. }
+            | MonitorCall::NotifyAll { .. }
+            | MonitorCall::Put { .. }
+            | MonitorCall::Print { .. } => {}
         }
     }
 

@@ -5,8 +5,8 @@
 #![tactic(auto)]
 
 mod frame;
+mod frame_actor;
 mod laws;
-mod sight;
 mod walk;
 
 pub use frame::Frame;

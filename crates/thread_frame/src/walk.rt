@@ -12,10 +12,10 @@ ghost use Rattle.thread_frame.specs.Walking.{HasWalked, walked_to};
 ghost use Rattle.thread_frame.specs.inner.Walking.{frame_moved, IsPlacedFor};
 
 use crate::frame::Frame;
-use crate::sight::Sight;
+use crate::frame_actor::FrameActor;
 use heap_table::Pass;
 use object_program::Program;
-use plain_machine::{Call, Mode, Next, code_of, look};
+use plain_machine::{Mode, MonitorCall, Next, code_of, look};
 use plain_monitor::Ending;
 
 /// What a thread in the middle of its local instructions came to.
@@ -25,7 +25,7 @@ pub enum Walked {
     Ran,
     /// It is at this call, which is not yet paid for, and was left as it was. Made at once, the call is what it follows; pending, it is what
     /// it then stands before.
-    Arrived { call: Call },
+    Arrived { call: MonitorCall },
     /// It has no fuel left, and ends.
     Spent,
 }
@@ -48,14 +48,14 @@ impl Frame {
             self.stand(place, 0, Some(Mode::Unwinding { ending }));
             return Walked::Spent;
         }
-        let next = self.sees(program, pass, objects);
-        self.make(next)
+        let next = self.decode_next(program, pass, objects);
+        self.apply(next)
     }
 
     // What the instruction that it is at leads to.
     #[inline]
     #[tactic(auto, using(crate::proofs::Walks::placed))]
-    fn sees(&self, program: &Program, pass: &Pass, objects: u32) -> Next
+    fn decode_next(&self, program: &Program, pass: &Pass, objects: u32) -> Next
         requires thread { pass.now.known.thread < length program.now.threads }
         requires holds { AreOf objects pass.now.known.holds }
         ensures next { let t = pass.now.known.thread in
@@ -64,18 +64,18 @@ impl Frame {
         ensures placed { IsPlacedFor self.now result }
     {
         let thread = pass.thread();
-        let sight = Sight {
+        let actor = FrameActor {
             frame: self,
             pass,
             objects,
             locals: locals_of(program, thread),
         };
-        look(program, code_of(program, thread), &sight)
+        look(program, code_of(program, thread), &actor)
     }
 
     // Goes on past the instruction, and pays for it unless it calls.
     #[inline]
-    fn make(&mut self, next: Next) -> Walked
+    fn apply(&mut self, next: Next) -> Walked
         requires local { self.old.mode ≡ None }
         requires fuel { 0 < self.old.fuel }
         requires placed { IsPlacedFor self.old next }

@@ -7,8 +7,8 @@ use Rattle.core_world.specs.Clauses.Safepoints.{ends, is_ending}
 use Rattle.heap_table.specs.Seen.{HeapSeen, PassSeen}
 use Rattle.object_program.specs.declared.program.Code.{Code}
 use Rattle.object_program.specs.Program.{ProgramText}
-use Rattle.plain_machine.specs.declared.call.Mode.{Mode}
-use Rattle.plain_machine.specs.declared.call.Mode.TheVariants.{Calling, Waiting, Unwinding, Ended}
+use Rattle.plain_machine.specs.declared.monitor_call.Mode.{Mode}
+use Rattle.plain_machine.specs.declared.monitor_call.Mode.TheVariants.{Calling, Waiting, Unwinding, Ended}
 use Rattle.plain_machine.specs.Machine.{code_of, is_live}
 use Rattle.plain_machine.specs.Running.{run_on, after_step, instruction_at}
 use Rattle.plain_machine.specs.Thread.{ThreadState, Step, Goes, Calls, Stops, step_of}

@@ -2,16 +2,16 @@
 use Rattle.std.proofs.Common.{◌≡◌, ℕ, zero, suc, true, false, Bool, List, [], ◌∷◌, length, Option, refl, sym, ap, ◌∙◌, subst}
 use Rattle.plain_monitor.specs.declared.entry.Logged.{Logged}
 use Rattle.plain_history.specs.HeldByLog.{held_by, nothing_held}
-use Rattle.core_world.specs.declared.task.Unfinished.{Unfinished}
+use Rattle.core_world.specs.declared.heap_call.Unfinished.{Unfinished}
 use Rattle.core_world.specs.Due.{Runs}
 use Rattle.core_world.specs.Locks.{hold_count}
-use Rattle.core_world.specs.Threads.Known.{Known, StepMade}
-use Rattle.core_world.specs.Trees.Todo.{Todo, done, never, step}
+use Rattle.core_world.specs.Threads.ThreadView.{ThreadView, StepMade}
+use Rattle.core_world.specs.Trees.StepTree.{StepTree, done, unreachable, step}
 use Rattle.core_world.specs.Words.Shape.{Shape}
 use Rattle.core_world.specs.Steps.{known_after}
-use Rattle.core_calls.specs.Paths.{Tells, Leaves, Did}
+use Rattle.core_calls.specs.Paths.{Tells, Leaves, ThreadHasLogged}
 use Rattle.core_calls.proofs.Runs.{did, did_none}
-use Rattle.heap_table.specs.Parts.{HasRun}
+use Rattle.heap_table.specs.Parts.{HasMadeSteps}
 use Rattle.heap_table.specs.Resting.{Rests}
 use Rattle.heap_table.specs.Seen.{HeapSeen, PassSeen}
 use Rattle.heap_table.proofs.Knows.{same_thread}
@@ -23,9 +23,9 @@ use Rattle.thread_calls.specs.Asked.{unfinished_of, IsAtMost}
 use Rattle.thread_calls.specs.Between.{IsOn, state_by}
 use Rattle.thread_frame.specs.Frames.{FrameSeen, next_state, has_ended}
 use Rattle.thread_frame.specs.Sights.{counts_from}
-use Rattle.thread_logs.specs.Followed.{Follows, HaveValues}
+use Rattle.thread_logs.specs.Followed.{FollowsCode, HaveValues}
 
--- the pass was p, and is q behind a call that leaves its log and its unfinished operation, and this said of a check
+-- the pass was p, and is q after a call that leaves its log and its unfinished operation, and this said of a check
 pub record IsBeside (h : HeapSeen) (check : Bool) (p q : PassSeen) : Type 0 where
   pub before : Rests h p
   pub rests : Rests h q
@@ -37,17 +37,17 @@ pub record IsBeside (h : HeapSeen) (check : Bool) (p q : PassSeen) : Type 0 wher
 
 -- A RUN is one thread's.
 module _ {A : Type 0} (s : Shape) (start : ℕ) where
-  runs_same_thread : (d : Todo A) (k l : Known) (a : A) → Runs s start d k l a → l.thread ≡ k.thread
-  runs_same_thread (done b) k l a r = ap (λ (x : Known). x.thread) r.0
-  runs_same_thread never k l a r = absurd r
+  runs_same_thread : (d : StepTree A) (k l : ThreadView) (a : A) → Runs s start d k l a → l.thread ≡ k.thread
+  runs_same_thread (done b) k l a r = ap (λ (x : ThreadView). x.thread) r.0
+  runs_same_thread unreachable k l a r = absurd r
   runs_same_thread (step p f) k l a r =
       runs_same_thread (f r.0) (known_after s start p r.0 k) l a r.1 ∙ same_thread s start p r.0 k
 
 -- such a run leaves all this
-pub beside : {A : Type 0} (h : HeapSeen) (d : Todo A) (p q : PassSeen) (a : A) (check : Bool) → Rests h p → Rests h q → HasRun h d p q a
+pub beside : {A : Type 0} (h : HeapSeen) (d : StepTree A) (p q : PassSeen) (a : A) (check : Bool) → Rests h p → Rests h q → HasMadeSteps h d p q a
     → Tells p.known q.known (Leaves [] p.known.unfinished check) → IsBeside h check p q
 beside h d p q a check before rests run tells =
-    let done : Did [] p.known.unfinished check p.known q.known = did [] p.known.unfinished check p.known q.known tells in
+    let done : ThreadHasLogged [] p.known.unfinished check p.known q.known = did [] p.known.unfinished check p.known q.known tells in
     record {
       before = before;
       rests = rests;
@@ -59,7 +59,7 @@ beside h d p q a check before rests run tells =
     }
 
 -- what is said of steps in one way, is said of them in another
-pub telling : {P Q : List StepMade → Type 0} (k l : Known) → ((ms : List StepMade) → P ms → Q ms) → Tells k l P → Tells k l Q
+pub telling : {P Q : List StepMade → Type 0} (k l : ThreadView) → ((ms : List StepMade) → P ms → Q ms) → Tells k l P → Tells k l Q
 telling k l so t =
     record {
       steps = t.steps;
@@ -94,7 +94,7 @@ module _ (h : HeapSeen) (text : ProgramText) (check : Bool) (p q : PassSeen) (f 
   still_on fuel on asks checks =
       record {
         rests = is.rests;
-        follows = subst (λ (x : ℕ × (List Logged × ThreadState)). Follows text fuel x.0 x.1.0 x.1.1)
+        follows = subst (λ (x : ℕ × (List Logged × ThreadState)). FollowsCode text fuel x.0 x.1.0 x.1.1)
             (λ i. (sym is.thread i, (sym is.log i, sym state_kept i))) on.follows;
         values = subst (HaveValues text) (sym is.log) on.values;
         few = on.few;

@@ -1,26 +1,27 @@
--- The parts of a turn, and of a check, one behind the other.
-use Rattle.std.proofs.Common.{◌≡◌, ◌≢◌, ◌⊎◌, ℕ, ◌+◌, ◌<◌, ◌≤◌, not, ◌&&◌, if◌then◌else◌, Bool, true, false, ◌++◌, None, is_some, refl, sym, ap, ◌∙◌, subst, arith, inl, inr, true≢false}
-use Rattle.core_world.specs.declared.answer.Turn.{Turn}
-use Rattle.core_world.specs.declared.answer.Turn.TheVariants.{Done, Pending}
-use Rattle.core_world.specs.declared.answer.Why.{Why}
-use Rattle.core_world.specs.declared.answer.Why.TheVariants.{Stopping}
-use Rattle.core_world.specs.declared.task.Task.{Task}
-use Rattle.core_world.specs.declared.task.Task.TheVariants as task
-use Rattle.core_world.specs.Threads.Known.{Known, Start}
+-- The parts of a turn, and of a check, one after the other.
+use Rattle.std.proofs.Common.{◌≡◌, ◌≢◌, ◌⊎◌, ℕ, ◌+◌, ◌<◌, ◌≤◌, not, ◌&&◌, if◌then◌else◌, Bool, true, false}
+use Rattle.std.proofs.Common.{◌++◌, None, is_some, refl, sym, ap, ◌∙◌, subst, arith, inl, inr, true≢false}
+use Rattle.core_world.specs.declared.answer.Progress.{Progress}
+use Rattle.core_world.specs.declared.answer.Progress.TheVariants.{Done, Pending}
+use Rattle.core_world.specs.declared.answer.PendingCause.{PendingCause}
+use Rattle.core_world.specs.declared.answer.PendingCause.TheVariants.{Stopping}
+use Rattle.core_world.specs.declared.heap_call.HeapCall.{HeapCall}
+use Rattle.core_world.specs.declared.heap_call.HeapCall.TheVariants as task
+use Rattle.core_world.specs.Threads.ThreadView.{ThreadView, Start}
 use Rattle.core_world.specs.Threads.Stages.{one_if}
-use Rattle.core_world.specs.Trees.Calls.{side_purpose}
+use Rattle.core_world.specs.Trees.Calls.{side_context}
 use Rattle.core_world.specs.Trees.Operations.{check_steps}
 use Rattle.core_world.specs.Trees.SafepointSteps.{poll_steps, stop_steps, resume_steps}
 use Rattle.core_calls.specs.Paths.{Tells}
 use Rattle.core_calls.specs.CallsSay.{PollSays, StopSays, ResumeSays, CheckSays}
 use Rattle.core_calls.specs.Causes.{is_stopping}
 use Rattle.heap_table.specs.Kept.{all_holds}
-use Rattle.heap_table.specs.Parts.{HasRun}
+use Rattle.heap_table.specs.Parts.{HasMadeSteps}
 use Rattle.heap_table.specs.Resting.{Rests, MayCall, start_now}
 use Rattle.heap_table.specs.Seen.{HeapSeen, PassSeen}
-use Rattle.lock_runtime.specs.Standing.{IsRunning, IsStopped, IsAsking, HasStopped, StandsBehind, StandsBehindResume, StandsBehindCheck}
+use Rattle.lock_runtime.specs.Standing.{IsRunning, IsStopped, IsAsking, HasStopped, StandsAfterTurn, StandsAfterResumeTurn, StandsAfterCheckTurn}
 use Rattle.object_program.specs.Program.{ProgramText}
-use Rattle.thread_calls.specs.Advances.{DoneIn, PendedIn, HasStepped, MadeCall, MakesCall, HasSpent, HasFallen, HasAdvanced, MayAdvance, turn_of}
+use Rattle.thread_calls.specs.Advances.{DoneIn, PendedIn, HasStepped, MadeCall, MakesCall, HasSpent, HasFallen, HasAdvanced, MayAdvance, progress_of}
 use Rattle.thread_calls.specs.declared.came.Went.{Went}
 use Rattle.thread_calls.specs.declared.came.Went.TheVariants as went
 use Rattle.thread_calls.specs.Between.{IsOn}
@@ -30,10 +31,12 @@ use Rattle.thread_interp.specs.declared.moved.RunState.{RunState}
 use Rattle.thread_interp.specs.declared.moved.RunState.TheVariants.{Live, Blocked, Ended}
 use Rattle.thread_interp.specs.Checks.{IsSetRunning, HasChecked, StandsAfterCheck}
 use Rattle.thread_interp.specs.Moves.{HasMoved, IsState, CalledLast, LastCall, IsSetStill, StandsAfter, polls_in}
-use Rattle.thread_interp.specs.inner.Running.{HasAdded, IsSet, StandsReady, IsReady, CalledBy, HasPolled, IsGoing, IsGoneTo, StandsGone, HasGone, IsStill}
+use Rattle.thread_interp.specs.inner.Running.{HasAdded, IsSet, StandsReady, HasTriedToRun, CalledBy, HasPolled}
+use Rattle.thread_interp.specs.inner.Running.{IsGoing, IsGoneTo, StandsGone, HasGone, IsSetStopped}
 use Rattle.thread_interp.specs.Runners.{IsRunner}
 use Rattle.thread_interp.specs.inner.Runners.{runner_of}
-use Rattle.thread_interp.proofs.Added.{polls_both, none_added, some_added, stepped_then, then_stepped, called_then, called_once, call_added, ran_added, ran_stepped, poll_stepped, poll_counts}
+use Rattle.thread_interp.proofs.Added.{polls_both, none_added, some_added, stepped_then, then_stepped, called_then}
+use Rattle.thread_interp.proofs.Added.{called_once, call_added, ran_added, ran_stepped, poll_stepped, poll_counts}
 use Rattle.thread_interp.proofs.Alive.{log_goes_on}
 use Rattle.thread_interp.proofs.Asides.{IsBeside, still_on}
 use Rattle.thread_interp.proofs.Sides.{is_unfinished, poll_beside, poll_other, poll_holds, resume_beside, resume_other, stop_beside, check_beside}
@@ -41,9 +44,9 @@ use Rattle.thread_interp.proofs.Sides.{is_unfinished, poll_beside, poll_other, p
 both : {b : Bool} {A : Type 0} → b ≡ true → b ≡ false → A
 both is not_so = absurd (true≢false (sym is ∙ not_so))
 
-pub turn_done : (turn : Turn (Unit {0})) → ((why : Why) → turn ≡ Pending why → ⊥) → turn ≡ Done tt
-turn_done (Done x) other = refl
-turn_done (Pending why) other = absurd (other why refl)
+pub progress_done : (turn : Progress (Unit {0})) → ((why : PendingCause) → turn ≡ Pending why → ⊥) → turn ≡ Done tt
+progress_done (Done x) other = refl
+progress_done (Pending why) other = absurd (other why refl)
 
 -- what a step came to where it isn't pending, and whether an instruction was done
 abbrev pub is_done : Went → Bool
@@ -51,7 +54,7 @@ is_done went.Done = true
 is_done went.On = false
 is_done went.Pending = false
 
-pub went_done : (w : Went) (why : Why) → (w ≡ went.Pending → ⊥) → turn_of w why ≡ Done (is_done w)
+pub went_done : (w : Went) (why : PendingCause) → (w ≡ went.Pending → ⊥) → progress_of w why ≡ Done (is_done w)
 went_done went.Done why other = refl
 went_done went.On why other = refl
 went_done went.Pending why other = absurd (other refl)
@@ -67,7 +70,7 @@ module _ (h : HeapSeen) (text : ProgramText) (fuel : ℕ) (p : PassSeen) (f : Fr
   may_resume asks = record { rests = on.rests; may = λ i. not (still i) && not (asks i) }
 
   -- its request stands already
-  pub ready_asking : p.known.requesting ≡ true → IsReady h text fuel p p f (Done tt)
+  pub ready_asking : p.known.requesting ≡ true → HasTriedToRun h text fuel p p f (Done tt)
   ready_asking asks =
       record {
         on = on;
@@ -86,17 +89,17 @@ module _ (h : HeapSeen) (text : ProgramText) (fuel : ℕ) (p : PassSeen) (f : Fr
     abbrev start : Start
     start = start_now h p
 
-    resumed_free : (turn : Turn (Unit {0})) → StandsBehindResume q.known turn → q.known.requesting ≡ false
+    resumed_free : (turn : Progress (Unit {0})) → StandsAfterResumeTurn q.known turn → q.known.requesting ≡ false
     resumed_free (Done x) stands = stands.asks
     resumed_free (Pending why) stands = stands.asks
 
-    resumed_stands : (turn : Turn (Unit {0})) → HasRun h (resume_steps (side_purpose task.Resume start) start.local) p q turn
-        → Tells p.known q.known (λ ms. ResumeSays start ms turn) → StandsBehindResume q.known turn → StandsReady h p q turn
+    resumed_stands : (turn : Progress (Unit {0})) → HasMadeSteps h (resume_steps (side_context task.Resume start) start.local) p q turn
+        → Tells p.known q.known (λ ms. ResumeSays start ms turn) → StandsAfterResumeTurn q.known turn → StandsReady h p q turn
     resumed_stands (Done x) run says stands =
         record {
           goes = inl stands;
           set = subst (λ b. IsSetRunning b h p q) (sym asks) run.ran;
-          added = ran_added h p q (resume_steps (side_purpose task.Resume start) start.local) (Done x) run.ran;
+          added = ran_added h p q (resume_steps (side_context task.Resume start) start.local) (Done x) run.ran;
         }
     resumed_stands (Pending why) run says stands =
         record {
@@ -104,11 +107,11 @@ module _ (h : HeapSeen) (text : ProgramText) (fuel : ℕ) (p : PassSeen) (f : Fr
           other = resume_other h p q on.rests rests why says;
           free = asks;
           pended = run.ran;
-          stepped = ran_stepped h p q (resume_steps (side_purpose task.Resume start) start.local) (Pending why) refl run.ran;
+          stepped = ran_stepped h p q (resume_steps (side_context task.Resume start) start.local) (Pending why) refl run.ran;
         }
 
-    pub ready_resumed : (turn : Turn (Unit {0})) → HasRun h (resume_steps (side_purpose task.Resume start) start.local) p q turn
-        → Tells p.known q.known (λ ms. ResumeSays start ms turn) → StandsBehindResume q.known turn → IsReady h text fuel p q f turn
+    pub ready_resumed : (turn : Progress (Unit {0})) → HasMadeSteps h (resume_steps (side_context task.Resume start) start.local) p q turn
+        → Tells p.known q.known (λ ms. ResumeSays start ms turn) → StandsAfterResumeTurn q.known turn → HasTriedToRun h text fuel p q f turn
     ready_resumed turn run says stands =
         let is = resume_beside h p q on.rests rests turn run says in
         let free = resumed_free turn stands in
@@ -122,12 +125,12 @@ module _ (h : HeapSeen) (text : ProgramText) (fuel : ℕ) (p : PassSeen) (f : Fr
         }
 
 -- A STEP, by way of a poll where the thread runs
-runs_behind : (k : Known) (why : Why) → is_stopping why ≡ false → IsRunning k → StandsBehind {A = Bool} k (Pending why)
-runs_behind k (Stopping word) other runs = absurd (cc other)
-runs_behind k why other runs = runs
+runs_after : (k : ThreadView) (why : PendingCause) → is_stopping why ≡ false → IsRunning k → StandsAfterTurn {A = Bool} k (Pending why)
+runs_after k (Stopping word) other runs = absurd (cc other)
+runs_after k why other runs = runs
 
 module _ (h : HeapSeen) (text : ProgramText) (fuel : ℕ) (p q : PassSeen) (f : FrameSeen) (may : MayAdvance h text fuel p f) (rests : Rests h q)
-    (turn : Turn (Unit {0})) (run : HasRun h (poll_steps (side_purpose task.Poll (start_now h p))) p q turn)
+    (turn : Progress (Unit {0})) (run : HasMadeSteps h (poll_steps (side_context task.Poll (start_now h p))) p q turn)
     (says : Tells p.known q.known (λ ms. PollSays (start_now h p) ms turn)) (stands : IsRunning q.known) where
   polled : IsBeside h p.known.checking p q
   polled = poll_beside h p q may.on.rests rests turn run says
@@ -147,15 +150,15 @@ module _ (h : HeapSeen) (text : ProgramText) (fuel : ℕ) (p q : PassSeen) (f : 
   one_poll : polls_in poll.steps ≡ 1
   one_poll = poll_counts h p q turn run.ran
 
-  pub poll_pended : (why : Why) → turn ≡ Pending why → HasPolled h text fuel p q f f (Pending why)
+  pub poll_pended : (why : PendingCause) → turn ≡ Pending why → HasPolled h text fuel p q f f (Pending why)
   poll_pended why is =
-      let says_why = subst (λ (x : Turn (Unit {0})). Tells p.known q.known (λ ms. PollSays (start_now h p) ms x)) is says in
-      let run_why = subst (λ (x : Turn (Unit {0})). HasRun h (poll_steps (side_purpose task.Poll (start_now h p))) p q x) is run in
+      let says_why = subst (λ (x : Progress (Unit {0})). Tells p.known q.known (λ ms. PollSays (start_now h p) ms x)) is says in
+      let run_why = subst (λ (x : Progress (Unit {0})). HasMadeSteps h (poll_steps (side_context task.Poll (start_now h p))) p q x) is run in
       record {
         on = polled_on;
         unchecked = polled_unchecked;
         thread = polled.thread;
-        stands = runs_behind q.known why (poll_other h p q may.on.rests rests why says_why) stands;
+        stands = runs_after q.known why (poll_other h p q may.on.rests rests why says_why) stands;
         spent = (refl, may.live);
         fallen = tt;
         stepped = poll;
@@ -163,27 +166,27 @@ module _ (h : HeapSeen) (text : ProgramText) (fuel : ℕ) (p q : PassSeen) (f : 
         called = called_once (PendedIn h why) h p q may.on.rests (record { task = task.Poll; is = run_why.ran; stepped = poll });
       }
 
-  -- what is done behind the poll is done
+  -- what is done after the poll is done
   module _ (done : turn ≡ Done tt) (r : PassSeen) (g : FrameSeen) where
-    -- the poll was the last call, where a local instruction was done behind it
+    -- the poll was the last call, where a local instruction was done after it
     poll_last : r ≡ q → CalledLast (DoneIn h) h p r
     poll_last same =
-        let run_done = subst (λ (x : Turn (Unit {0})). HasRun h (poll_steps (side_purpose task.Poll (start_now h p))) p q x) done run in
+        let run_done = subst (λ (x : Progress (Unit {0})). HasMadeSteps h (poll_steps (side_context task.Poll (start_now h p))) p q x) done run in
         subst (CalledLast (DoneIn h) h p) (sym same)
         (called_once (DoneIn h) h p q may.on.rests (record { task = task.Poll; is = run_done.ran; stepped = poll }))
 
-    called_behind : (next : Turn Bool) → MakesCall h q r f next → CalledBy h p r next
-    called_behind (Done b) (inl none) = poll_last none.1
-    called_behind (Done b) (inr one) = called_then p q r (DoneIn h) h (some_added p q poll) (called_once (DoneIn h) h q r rests one)
-    called_behind (Pending why) one = called_then p q r (PendedIn h why) h (some_added p q poll) (called_once (PendedIn h why) h q r rests one)
+    called_after : (next : Progress Bool) → MakesCall h q r f next → CalledBy h p r next
+    called_after (Done b) (inl none) = poll_last none.1
+    called_after (Done b) (inr one) = called_then p q r (DoneIn h) h (some_added p q poll) (called_once (DoneIn h) h q r rests one)
+    called_after (Pending why) one = called_then p q r (PendedIn h why) h (some_added p q poll) (called_once (PendedIn h why) h q r rests one)
 
-    falls : (next : Turn Bool) → HasFallen q r f g next → HasFallen p r f g next
+    falls : (next : Progress Bool) → HasFallen q r f g next → HasFallen p r f g next
     falls (Done b) fell =
-        let same = ap all_holds (poll_holds h.heap.shape h.heap.start (side_purpose task.Poll (start_now h p)) p.known q.known turn run.ran) in
+        let same = ap all_holds (poll_holds h.heap.shape h.heap.start (side_context task.Poll (start_now h p)) p.known q.known turn run.ran) in
         omega (arith, fell, same)
     falls (Pending why) fell = tt
 
-    pub advanced : (next : Turn Bool) → HasAdvanced h text fuel q r f g next → HasPolled h text fuel p r f g next
+    pub advanced : (next : Progress Bool) → HasAdvanced h text fuel q r f g next → HasPolled h text fuel p r f g next
     advanced next did =
         let more = call_added h q r f next did.calls in
         let both = polls_both more.steps poll.steps in
@@ -196,7 +199,7 @@ module _ (h : HeapSeen) (text : ProgramText) (fuel : ℕ) (p q : PassSeen) (f : 
           fallen = falls next did.fallen;
           stepped = stepped_then p q r poll more;
           polls = omega (arith, both, one_poll);
-          called = called_behind next did.calls;
+          called = called_after next did.calls;
         }
 
 -- A STEP without a poll, of a thread whose request stands
@@ -209,17 +212,17 @@ module _ (h : HeapSeen) (text : ProgramText) (fuel : ℕ) (p q : PassSeen) (f g 
   not_local : f.mode ≡ None → ⊥
   not_local local = let some = ap is_some local in absurd (cc (some, (may.on.asks asks may.unchecked).before))
 
-  called_at_once : (next : Turn Bool) → MakesCall h p q f next → CalledBy h p q next
+  called_at_once : (next : Progress Bool) → MakesCall h p q f next → CalledBy h p q next
   called_at_once (Done b) (inl none) = absurd (not_local none.0)
   called_at_once (Done b) (inr one) = called_once (DoneIn h) h p q may.on.rests one
   called_at_once (Pending why) one = called_once (PendedIn h why) h p q may.on.rests one
 
-  stepped_at_once : (next : Turn Bool) → MakesCall h p q f next → HasStepped p q
+  stepped_at_once : (next : Progress Bool) → MakesCall h p q f next → HasStepped p q
   stepped_at_once (Done b) (inl none) = absurd (not_local none.0)
   stepped_at_once (Done b) (inr one) = one.stepped
   stepped_at_once (Pending why) one = one.stepped
 
-  pub went_on : (next : Turn Bool) → HasAdvanced h text fuel p q f g next → HasPolled h text fuel p q f g next
+  pub went_on : (next : Progress Bool) → HasAdvanced h text fuel p q f g next → HasPolled h text fuel p q f g next
   went_on next did =
       let asked : one_if p.known.requesting ≡ 1 = ap one_if asks in
       record {
@@ -248,7 +251,7 @@ module _ (h : HeapSeen) (text : ProgramText) (fuel quantum : ℕ) (p q r : PassS
   polls_now step = polls_both step.steps going.added.steps
 
   -- the last call was pending
-  pub gone_blocked : (why : Why) → HasPolled h text fuel q r g g2 (Pending why)
+  pub gone_blocked : (why : PendingCause) → HasPolled h text fuel q r g g2 (Pending why)
       → HasGone h text fuel quantum p r f g2 (record { instructions = count; state = Blocked why })
   gone_blocked why did =
       let e = did.spent.0 in
@@ -265,7 +268,7 @@ module _ (h : HeapSeen) (text : ProgramText) (fuel quantum : ℕ) (p q r : PassS
         stands = standing why did.stands;
       }
     where
-      standing : (why : Why) → StandsBehind {A = Bool} r.known (Pending why) → StandsGone r.known (Blocked why)
+      standing : (why : PendingCause) → StandsAfterTurn {A = Bool} r.known (Pending why) → StandsGone r.known (Blocked why)
       standing (Stopping word) stands = stands
       standing why stands = stands
 
@@ -341,7 +344,7 @@ module _ (h : HeapSeen) (text : ProgramText) (fuel : ℕ) (p : PassSeen) (f : Fr
   pub may_stop : p.known.running ≡ true → MayCall h p task.Stop
   may_stop runs = record { rests = on.rests; may = runs }
 
-  pub still_kept : p.known.running ≡ false → IsStill h text fuel p p f
+  pub still_kept : p.known.running ≡ false → IsSetStopped h text fuel p p f
   still_kept still =
       record {
         on = on;
@@ -353,8 +356,8 @@ module _ (h : HeapSeen) (text : ProgramText) (fuel : ℕ) (p : PassSeen) (f : Fr
       }
 
   pub still_stopped : (q : PassSeen) → p.known.running ≡ true → Rests h q
-      → HasRun h (stop_steps (side_purpose task.Stop (start_now h p)) (start_now h p).local) p q tt
-      → Tells p.known q.known (λ ms. StopSays (start_now h p) ms tt) → HasStopped q.known → IsStill h text fuel p q f
+      → HasMadeSteps h (stop_steps (side_context task.Stop (start_now h p)) (start_now h p).local) p q tt
+      → Tells p.known q.known (λ ms. StopSays (start_now h p) ms tt) → HasStopped q.known → IsSetStopped h text fuel p q f
   still_stopped q runs rests run says stands =
       let is = stop_beside h p q on.rests rests tt run says in
       record {
@@ -363,11 +366,11 @@ module _ (h : HeapSeen) (text : ProgramText) (fuel : ℕ) (p : PassSeen) (f : Fr
         checking = is.checking;
         thread = is.thread;
         log = is.log;
-        added = ran_added h p q (stop_steps (side_purpose task.Stop (start_now h p)) (start_now h p).local) tt run.ran;
+        added = ran_added h p q (stop_steps (side_context task.Stop (start_now h p)) (start_now h p).local) tt run.ran;
         stands = inr (record { ran_before = runs; stopped = stands.stopped; ran = run.ran });
       }
 
-module _ (h : HeapSeen) (text : ProgramText) (fuel : ℕ) (p q : PassSeen) (f : FrameSeen) (is : IsStill h text fuel p q f) where
+module _ (h : HeapSeen) (text : ProgramText) (fuel : ℕ) (p q : PassSeen) (f : FrameSeen) (is : IsSetStopped h text fuel p q f) where
   pub runs_no_more : q.known.running ≡ false
   runs_no_more = elim is.stands [
     | inl kept ↦ ap (λ (x : PassSeen). x.known.running) kept.same ∙ kept.still
@@ -387,10 +390,10 @@ module _ (h : HeapSeen) (text : ProgramText) (fuel : ℕ) (p q : PassSeen) (f : 
     | inr been ↦ subst (λ b. IsSetStill b h p q) (sym been.ran_before) been.ran
   ]
 
-  -- A TURN behind its stop, from the pass before it
+  -- A TURN after its stop, from the pass before it
   module _ (before ready : PassSeen) (first : HasAdded before ready) where
-    last_call : (Is : PassSeen → PassSeen → Task → Type 0) → CalledLast Is h ready p → LastCall Is h before q
-    last_call Is called = record { behind = p; called = called_then before ready p Is h first called; still = set_still }
+    last_call : (Is : PassSeen → PassSeen → HeapCall → Type 0) → CalledLast Is h ready p → LastCall Is h before q
+    last_call Is called = record { after = p; called = called_then before ready p Is h first called; still = set_still }
 
     stopped_state : (quantum count : ℕ) (state : RunState) → IsGoneTo h quantum count ready p f state
         → IsState h quantum count before (runner_of q f fuel) state
@@ -430,11 +433,11 @@ module _ (h : HeapSeen) (text : ProgramText) (fuel : ℕ) (p q : PassSeen) (f : 
   stopped_still : IsStopped p.known → IsStopped q.known
   stopped_still stopped = subst (λ (x : PassSeen). IsStopped x.known) (sym (stood stopped.runs)) stopped
 
-  -- A CHECK, behind its stop
+  -- A CHECK, after its stop
   over : p.known.checking ≡ false → q.known.checking ≡ false
   over unchecked = is.checking ∙ unchecked
 
-  pub has_checked : (turn : Turn Bool) → p.known.checking ≡ is_unfinished turn → StandsBehindCheck p.known turn → StandsAfterCheck q.known turn
+  pub has_checked : (turn : Progress Bool) → p.known.checking ≡ is_unfinished turn → StandsAfterCheckTurn p.known turn → StandsAfterCheck q.known turn
   has_checked (Done true) checking stands =
       let same = stood stands.stopped.runs in (
         record { stopped = stopped_still stands.stopped; halted = ap (λ (x : PassSeen). x.known.halted) same ∙ stands.halted },
@@ -446,7 +449,7 @@ module _ (h : HeapSeen) (text : ProgramText) (fuel : ℕ) (p q : PassSeen) (f : 
 
 -- A TURN whose resume was pending
 module _ (h : HeapSeen) (text : ProgramText) (fuel quantum : ℕ) (p q : PassSeen) (f : FrameSeen) (live : has_ended f ≡ false)
-    (why : Why) (ready : IsReady h text fuel p q f (Pending why)) where
+    (why : PendingCause) (ready : HasTriedToRun h text fuel p q f (Pending why)) where
   pub barred_moved : Rests h p → HasMoved h quantum (runner_of p f fuel) (runner_of q f fuel) (record { instructions = 0; state = Blocked why })
   barred_moved rests =
       record {
@@ -462,12 +465,12 @@ module _ (h : HeapSeen) (text : ProgramText) (fuel quantum : ℕ) (p q : PassSee
       last =
           let call : MadeCall (PendedIn h why) p q = record { task = task.Resume; is = ready.stands.pended; stepped = ready.stands.stepped } in
           record {
-            behind = q;
+            after = q;
             called = called_once (PendedIn h why) h p q rests call;
             still = subst (λ b. IsSetStill b h q q) (sym ready.stands.stopped.runs) refl;
           }
 
-      standing : (why : Why) → is_stopping why ≡ false → IsStopped q.known → StandsAfter q.known (Blocked why)
+      standing : (why : PendingCause) → is_stopping why ≡ false → IsStopped q.known → StandsAfter q.known (Blocked why)
       standing (Stopping word) other stopped = absurd (cc other)
       standing why other stopped = stopped
 
@@ -475,8 +478,8 @@ module _ (h : HeapSeen) (text : ProgramText) (fuel quantum : ℕ) (p q : PassSee
   barred_runner = record { on = ready.on; still = ready.stands.stopped.runs }
 
 -- and one that may go on
-pub may_go : (h : HeapSeen) (text : ProgramText) (fuel : ℕ) (p q : PassSeen) (f : FrameSeen) (turn : Turn (Unit {0})) → p.known.checking ≡ false
-    → has_ended f ≡ false → IsReady h text fuel p q f turn → IsRunning q.known ⊎ IsAsking q.known → MayAdvance h text fuel q f
+pub may_go : (h : HeapSeen) (text : ProgramText) (fuel : ℕ) (p q : PassSeen) (f : FrameSeen) (turn : Progress (Unit {0})) → p.known.checking ≡ false
+    → has_ended f ≡ false → HasTriedToRun h text fuel p q f turn → IsRunning q.known ⊎ IsAsking q.known → MayAdvance h text fuel q f
 may_go h text fuel p q f turn unchecked live ready stands =
     record {
       on = ready.on;
@@ -489,7 +492,7 @@ may_go h text fuel p q f turn unchecked live ready stands =
 module _ (h : HeapSeen) (text : ProgramText) (fuel : ℕ) (p q : PassSeen) (f : FrameSeen) (free : p.known.requesting ≡ p.known.checking)
     (live : has_ended f ≡ false) where
   -- it may begin where its own request stands, and where the thread runs
-  pub may_check : (turn : Turn (Unit {0})) → IsReady h text fuel p q f turn → IsRunning q.known ⊎ IsAsking q.known → MayCall h q task.Check
+  pub may_check : (turn : Progress (Unit {0})) → HasTriedToRun h text fuel p q f turn → IsRunning q.known ⊎ IsAsking q.known → MayCall h q task.Check
   may_check turn ready stands =
       let none = log_goes_on h text fuel q f ready.on live in
       record { rests = ready.on.rests; may = λ i. not (none i) && goes i }
@@ -503,7 +506,7 @@ module _ (h : HeapSeen) (text : ProgramText) (fuel : ℕ) (p q : PassSeen) (f : 
       ]
 
   -- a resume that was pending leaves no check unfinished
-  pub not_checked : (why : Why) → IsReady h text fuel p q f (Pending why) → StandsAfterCheck q.known (Pending why)
+  pub not_checked : (why : PendingCause) → HasTriedToRun h text fuel p q f (Pending why) → StandsAfterCheck q.known (Pending why)
   not_checked why ready = standing why ready.stands.other
     where
       checked : HasChecked q.known
@@ -512,14 +515,14 @@ module _ (h : HeapSeen) (text : ProgramText) (fuel : ℕ) (p q : PassSeen) (f : 
         over = ready.checking ∙ sym free ∙ sym ready.asking ∙ ready.stands.stopped.asks;
       }
 
-      standing : (why : Why) → is_stopping why ≡ false → StandsAfterCheck q.known (Pending why)
+      standing : (why : PendingCause) → is_stopping why ≡ false → StandsAfterCheck q.known (Pending why)
       standing (Stopping word) other = absurd (cc other)
       standing why other = checked
 
--- behind it the pass and its frame still belong together
+-- after it the pass and its frame still belong together
 module _ (h : HeapSeen) (text : ProgramText) (fuel : ℕ) (p q : PassSeen) (f : FrameSeen) (on : IsOn h text fuel p f) (live : has_ended f ≡ false)
-    (rests : Rests h q) (turn : Turn Bool) (run : HasRun h (check_steps h.heap.shape (start_now h p)) p q turn)
-    (says : Tells p.known q.known (λ ms. CheckSays (start_now h p) ms turn)) (stands : StandsBehindCheck q.known turn) where
+    (rests : Rests h q) (turn : Progress Bool) (run : HasMadeSteps h (check_steps h.heap.shape (start_now h p)) p q turn)
+    (says : Tells p.known q.known (λ ms. CheckSays (start_now h p) ms turn)) (stands : StandsAfterCheckTurn q.known turn) where
   is_checked : IsBeside h (is_unfinished turn) p q
   is_checked = check_beside h p q on.rests rests turn run says
 
@@ -532,8 +535,8 @@ module _ (h : HeapSeen) (text : ProgramText) (fuel : ℕ) (p q : PassSeen) (f : 
   pub check_log : q.known.log ≡ p.known.log
   check_log = is_checked.log
 
-  -- a request that stands behind it is the check's
-  asks_as_check : (turn : Turn Bool) → StandsBehindCheck q.known turn → q.known.checking ≡ is_unfinished turn
+  -- a request that stands after it is the check's
+  asks_as_check : (turn : Progress Bool) → StandsAfterCheckTurn q.known turn → q.known.checking ≡ is_unfinished turn
       → q.known.requesting ≡ true → q.known.checking ≡ false → ⊥
   asks_as_check (Done true) stands checking asked unchecked = both asked stands.stopped.asks
   asks_as_check (Done false) stands checking asked unchecked = both asked stands.asks

@@ -1,9 +1,9 @@
 -- What a turn does.
 use Rattle.std.specs.Prelude.{◌≡◌, ℕ, ◌+◌, ◌≤◌, Bool, true, false, List, [], ◌∷◌, ◌++◌}
-use Rattle.core_world.specs.declared.answer.Why.TheVariants.{Stopping}
-use Rattle.core_world.specs.declared.task.Task.{Task}
-use Rattle.core_world.specs.declared.task.Task.TheVariants as task
-use Rattle.core_world.specs.Threads.Known.{Known, StepMade}
+use Rattle.core_world.specs.declared.answer.PendingCause.TheVariants.{Stopping}
+use Rattle.core_world.specs.declared.heap_call.HeapCall.{HeapCall}
+use Rattle.core_world.specs.declared.heap_call.HeapCall.TheVariants as task
+use Rattle.core_world.specs.Threads.ThreadView.{ThreadView, StepMade}
 use Rattle.core_world.specs.Threads.Stages.{one_if}
 use Rattle.heap_table.specs.Resting.{Rests}
 use Rattle.heap_table.specs.Seen.{HeapSeen, PassSeen}
@@ -15,29 +15,29 @@ use Rattle.thread_interp.specs.declared.moved.RunState.{RunState}
 use Rattle.thread_interp.specs.declared.moved.RunState.TheVariants.{Live, Blocked, Ended}
 use Rattle.thread_interp.specs.Runners.{RunnerSeen}
 
--- behind a turn the request stands exactly where the thread is blocked for running threads
-abbrev pub StandsAfter : Known → RunState → Type 0
+-- after a turn the request stands exactly where the thread is blocked for running threads
+abbrev pub StandsAfter : ThreadView → RunState → Type 0
 StandsAfter k (Blocked (Stopping word)) = IsAsking k
 StandsAfter k _ = IsStopped k
 
--- the pass was p, and is q behind a stop, which is made where the thread runs
+-- the pass was p, and is q after a stop, which is made where the thread runs
 abbrev pub IsSetStill : Bool → HeapSeen → PassSeen → PassSeen → Type 0
 IsSetStill true h p q = DoneIn h p q task.Stop
 IsSetStill false h p q = q ≡ p
 
--- From the pass p to q the thread's last call was one of which this holds. It was begun at rest, behind all steps that the thread had made at p.
-pub record CalledLast (Is : PassSeen → PassSeen → Task → Type 0) (h : HeapSeen) (p q : PassSeen) : Type 0 where
+-- From the pass p to q the thread's last call was one of which this holds. It was begun at rest, after all steps that the thread had made at p.
+pub record CalledLast (Is : PassSeen → PassSeen → HeapCall → Type 0) (h : HeapSeen) (p q : PassSeen) : Type 0 where
   pub before : PassSeen
   pub rests : Rests h before
   pub call : MadeCall Is before q
   pub earlier : List StepMade
   pub begun : before.known.steps ≡ earlier ++ p.known.steps
 
--- a turn's last call, but for a stop behind it
-pub record LastCall (Is : PassSeen → PassSeen → Task → Type 0) (h : HeapSeen) (p q : PassSeen) : Type 0 where
-  pub behind : PassSeen
-  pub called : CalledLast Is h p behind
-  pub still : IsSetStill behind.known.running h behind q
+-- a turn's last call, but for a stop after it
+pub record LastCall (Is : PassSeen → PassSeen → HeapCall → Type 0) (h : HeapSeen) (p q : PassSeen) : Type 0 where
+  pub after : PassSeen
+  pub called : CalledLast Is h p after
+  pub still : IsSetStill after.known.running h after q
 
 -- A turn that is live did as many instructions as it might; it has ended exactly where the thread has. Its last call was done then, and it is blocked
 -- where its last call was pending, for that.
@@ -47,7 +47,7 @@ IsState h quantum count p q (Blocked why) = (has_ended q.frame ≡ false) × Las
 IsState h quantum count p q Ended = (has_ended q.frame ≡ true) × LastCall (DoneIn h) h p q.pass
 
 -- how many of these steps are polls, each of which is one load
-abbrev pub is_poll : Task → Bool
+abbrev pub is_poll : HeapCall → Bool
 is_poll task.Poll = true
 is_poll _ = false
 

@@ -1,14 +1,14 @@
 //! What a turn did.
 
-use core_world::Why;
+use core_world::PendingCause;
 
 /// How a turn ended.
 #[derive(Clone, Copy, Debug, PartialEq, Eq)]
 pub enum RunState {
     /// It ran as many instructions as it might.
     Live,
-    /// Its last call was pending, for this. A stop behind it isn't counted.
-    Blocked(Why),
+    /// Its last call was pending, for this. A stop after it isn't counted.
+    Blocked(PendingCause),
     /// The thread has ended.
     Ended,
 }

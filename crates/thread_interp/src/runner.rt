@@ -8,7 +8,7 @@ ghost use Rattle.thread_calls.specs.Timed.{StaysTimed};
 ghost use Rattle.thread_interp.specs.Runners.{RunnerSeen, IsRunner, IsSame};
 
 use crate::moved::Moved;
-use core_world::Turn;
+use core_world::Progress;
 use heap_table::{Heap, Pass};
 use object_program::Program;
 use run_io::{Clock, Gate};
@@ -45,8 +45,8 @@ impl Runner {
     ///
     /// The gate is visited first, and the thread set running, unless its request for a safepoint stands. Before each instruction, and each
     /// exit of a thread that unwinds, it polls where it runs: as often as it does instructions at least, or once less where its request
-    /// stood. The turn ends behind so many instructions, at the thread's end, or where a call that it began is pending, be that a poll or
-    /// the resume; behind it the thread is stopped, or its request stands. It makes one step of the heap at least. Each call that needs a
+    /// stood. The turn ends after so many instructions, at the thread's end, or where a call that it began is pending, be that a poll or
+    /// the resume; after it the thread is stopped, or its request stands. It makes one step of the heap at least. Each call that needs a
     /// moment gets `1 + tick * count`, in milliseconds, for some count of the clock. Where `tick` is 0, the clock is not looked at.
     pub fn turn<C: Clock, G: Gate>(
         &mut self,
@@ -69,7 +69,7 @@ impl Runner {
         ensures timed { StaysTimed tick self.old.pass self.new.pass }
     {
         gate.visit(self.pass.thread());
-        crate::turn::turn(
+        crate::turn::run_turn(
             program,
             heap,
             clock,
@@ -84,7 +84,7 @@ impl Runner {
     /// Looks at a safepoint whether the run is stuck, as `check_stuck`: the thread is set running before it, unless its request stands, and
     /// stopped after it where it runs. The answer is that of `check_stuck`; where the resume was pending before it, for `Raced`,
     /// `Requested` or `Halted`, it is the resume's. Nothing is logged, and what the thread stands before stays as it is.
-    pub fn check(&mut self, program: &Program, heap: &Heap) -> Turn<bool>
+    pub fn check(&mut self, program: &Program, heap: &Heap) -> Progress<bool>
         requires heap { IsHeapOf heap.now program.now }
         requires runner { IsRunner heap.now program.now self.old }
         requires free { self.old.pass.known.requesting ≡ self.old.pass.known.checking }

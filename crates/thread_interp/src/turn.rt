@@ -1,18 +1,18 @@
 //! Turns of a thread, and its checks.
 
 ghost use Rattle.std.specs.Prelude.{◌≡◌, ◌≤◌, ℕ, false};
-ghost use Rattle.thread_calls.specs.Advances.{MayAdvance, turn_of};
+ghost use Rattle.thread_calls.specs.Advances.{MayAdvance, progress_of};
 ghost use Rattle.thread_calls.specs.Between.{IsHeapOf, IsOn};
 ghost use Rattle.thread_calls.specs.Timed.{StaysTimed};
 ghost use Rattle.thread_frame.specs.Frames.{has_ended};
 ghost use Rattle.thread_interp.specs.Checks.{LooksOrBarred, StandsAfterCheck};
 ghost use Rattle.thread_interp.specs.Moves.{HasMoved};
-ghost use Rattle.thread_interp.specs.inner.Running.{IsReady, HasPolled, HasGone, IsStill};
+ghost use Rattle.thread_interp.specs.inner.Running.{HasTriedToRun, HasPolled, HasGone, IsSetStopped};
 ghost use Rattle.thread_interp.specs.Runners.{IsRunner};
 ghost use Rattle.thread_interp.specs.inner.Runners.{runner_of};
 
 use crate::moved::{Moved, RunState};
-use core_world::{Turn, Why};
+use core_world::{PendingCause, Progress};
 use heap_table::{Heap, Pass};
 use lock_runtime::{check_stuck, poll, resume, stop};
 use object_program::Program;
@@ -27,20 +27,20 @@ fn set_running(
     fuel: u32,
     pass: &mut Pass,
     frame: &Frame,
-) -> Turn<()>
+) -> Progress<()>
     requires on { IsOn heap.now program.now fuel pass.old frame.now }
     requires still { pass.old.known.running ≡ false }
-    ensures ready { IsReady heap.now program.now fuel pass.old pass.new frame.now result }
+    ensures ready { HasTriedToRun heap.now program.now fuel pass.old pass.new frame.now result }
     ensures timed { (tick : ℕ) → StaysTimed tick pass.old pass.new }
 {
     if pass.requesting() {
-        return Turn::Done(());
+        return Progress::Done(());
     }
     resume(heap, pass)
 }
 
 // Polls where the thread runs, and then goes on by one instruction or entry. The cause is written where that, or the poll, is pending.
-fn step<C: Clock>(
+fn poll_and_advance<C: Clock>(
     program: &Program,
     heap: &Heap,
     clock: &C,
@@ -48,16 +48,16 @@ fn step<C: Clock>(
     fuel: u32,
     pass: &mut Pass,
     frame: &mut Frame,
-    cause: &mut Why,
+    cause: &mut PendingCause,
 ) -> Went
     requires heap { IsHeapOf heap.now program.now }
     requires may { MayAdvance heap.now program.now fuel pass.old frame.old }
     ensures polled { HasPolled heap.now program.now fuel pass.old pass.new frame.old frame.new
-        (turn_of result cause.new) }
+        (progress_of result cause.new) }
     ensures timed { StaysTimed tick pass.old pass.new }
 {
     if pass.running() {
-        if let Turn::Pending(why) = poll(heap, pass) {
+        if let Progress::Pending(why) = poll(heap, pass) {
             *cause = why;
             return Went::Pending;
         }
@@ -66,7 +66,7 @@ fn step<C: Clock>(
 }
 
 // Goes on by at most so many instructions.
-fn go_on<C: Clock>(
+fn run_quantum<C: Clock>(
     program: &Program,
     heap: &Heap,
     clock: &C,
@@ -84,9 +84,9 @@ fn go_on<C: Clock>(
 {
     let mut instructions = 0;
     // what a call was pending for, once one is: until then it says nothing
-    let mut cause = Why::Halted;
+    let mut cause = PendingCause::Halted;
     loop {
-        let went = step(program, heap, clock, tick, fuel, pass, frame, &mut cause);
+        let went = poll_and_advance(program, heap, clock, tick, fuel, pass, frame, &mut cause);
         if let Went::Pending = went {
             return Moved {
                 instructions,
@@ -112,9 +112,9 @@ fn go_on<C: Clock>(
 }
 
 // Stops the thread where it runs.
-fn set_still(program: &Program, heap: &Heap, fuel: u32, pass: &mut Pass, frame: &Frame)
+fn set_stopped(program: &Program, heap: &Heap, fuel: u32, pass: &mut Pass, frame: &Frame)
     requires on { IsOn heap.now program.now fuel pass.old frame.now }
-    ensures still { IsStill heap.now program.now fuel pass.old pass.new frame.now }
+    ensures still { IsSetStopped heap.now program.now fuel pass.old pass.new frame.now }
     ensures timed { (tick : ℕ) → StaysTimed tick pass.old pass.new }
 {
     if !pass.running() {
@@ -123,8 +123,8 @@ fn set_still(program: &Program, heap: &Heap, fuel: u32, pass: &mut Pass, frame: 
     stop(heap, pass);
 }
 
-/// Gives the thread a turn of at most `quantum` instructions, as `Runner::turn` does behind its gate.
-pub fn turn<C: Clock>(
+/// Gives the thread a turn of at most `quantum` instructions, as `Runner::turn` does after its gate.
+pub fn run_turn<C: Clock>(
     program: &Program,
     heap: &Heap,
     clock: &C,
@@ -146,14 +146,14 @@ pub fn turn<C: Clock>(
         (runner_of pass.new frame.new fuel) result }
     ensures timed { StaysTimed tick pass.old pass.new }
 {
-    if let Turn::Pending(why) = set_running(program, heap, fuel, pass, frame) {
+    if let Progress::Pending(why) = set_running(program, heap, fuel, pass, frame) {
         return Moved {
             instructions: 0,
             state: RunState::Blocked(why),
         };
     }
-    let moved = go_on(program, heap, clock, tick, fuel, pass, frame, quantum);
-    set_still(program, heap, fuel, pass, frame);
+    let moved = run_quantum(program, heap, clock, tick, fuel, pass, frame, quantum);
+    set_stopped(program, heap, fuel, pass, frame);
     moved
 }
 
@@ -164,7 +164,7 @@ pub fn check(
     pass: &mut Pass,
     frame: &Frame,
     fuel: u32,
-) -> Turn<bool>
+) -> Progress<bool>
     requires heap { IsHeapOf heap.now program.now }
     requires runner { IsRunner heap.now program.now (runner_of pass.old frame.now fuel) }
     requires free { pass.old.known.requesting ≡ pass.old.known.checking }
@@ -176,10 +176,10 @@ pub fn check(
     ensures stands { StandsAfterCheck pass.new.known result }
     ensures timed { (tick : ℕ) → StaysTimed tick pass.old pass.new }
 {
-    if let Turn::Pending(why) = set_running(program, heap, fuel, pass, frame) {
-        return Turn::Pending(why);
+    if let Progress::Pending(why) = set_running(program, heap, fuel, pass, frame) {
+        return Progress::Pending(why);
     }
     let stuck = check_stuck(heap, pass);
-    set_still(program, heap, fuel, pass, frame);
+    set_stopped(program, heap, fuel, pass, frame);
     stuck
 }

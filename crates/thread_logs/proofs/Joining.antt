@@ -1,5 +1,6 @@
 -- Objects and threads together are the machine.
-use Rattle.std.proofs.Common.{◌≡◌, ℕ, zero, suc, ◌+◌, ◌<◌, ◌≤◌, true, List, [], ◌∷◌, length, map, slice_get, slice_set, Option, Some, None, IsSome, option_map, option_and_then, refl, sym, ap, ◌∙◌, subst, arith}
+use Rattle.std.proofs.Common.{◌≡◌, ℕ, zero, suc, ◌+◌, ◌<◌, ◌≤◌, true, List, [], ◌∷◌, length, map, slice_get, slice_set}
+use Rattle.std.proofs.Common.{Option, Some, None, IsSome, option_map, option_and_then, refl, sym, ap, ◌∙◌, subst, arith}
 use Rattle.std.specs.List.{AllByRecursion}
 use Rattle.std.proofs.lemmas.List.{length-map}
 use Rattle.std.proofs.lemmas.Option.{none-some, same_Some}
@@ -15,13 +16,13 @@ use Rattle.object_program.specs.Program.{ProgramText, shape_of, numbering_of}
 use Rattle.object_program.specs.Valid.{IsProgram}
 use Rattle.machine_laws.proofs.ReachedAsked.{taken}
 use Rattle.machine_laws.proofs.ReachedFrame.{moved_to}
-use Rattle.plain_machine.specs.declared.call.Asked.{Asked}
+use Rattle.plain_machine.specs.declared.monitor_call.NextEntry.{NextEntry}
 use Rattle.plain_machine.specs.Thread.{ThreadState}
-use Rattle.plain_machine.specs.Asking.{ask, fits, behind_entry, thread_after}
-use Rattle.plain_machine.specs.Machine.{PlainMachine, new_machine, code_of, made_behind, take}
-use Rattle.plain_machine.specs.Legal.{IsLegal, behind_all, machine_after}
+use Rattle.plain_machine.specs.Asking.{ask, fits, after_entry, thread_after}
+use Rattle.plain_machine.specs.Machine.{PlainMachine, new_machine, code_of, made_after_entry, take}
+use Rattle.plain_machine.specs.Legal.{IsLegal, after_all, machine_after}
 use Rattle.thread_logs.specs.inner.Coded.{Coded, coded_step}
-use Rattle.thread_logs.specs.Followed.{Follows, HaveFollowed}
+use Rattle.thread_logs.specs.Followed.{FollowsCode, HaveFollowed}
 
 abbrev with_code : ProgramText → ℕ → ThreadState → Coded
 with_code p t s = record { program = p; code = code_of p t; state = s }
@@ -69,7 +70,7 @@ set_first p t ss s =
     let z : t ≡ 0 + t = omega arith in
     ap (λ (n : ℕ). slice_set (coded p 0 ss) t (with_code p n s)) z ∙ set_coded p 0 t ss s
 
--- the states with their code behind an entry that led the one of thread t to this one
+-- the states with their code after an entry that led the one of thread t to this one
 abbrev set_after : PlainMachine → ℕ → Coded → List Coded
 set_after m t after = slice_set (coded m.program 0 m.threads) t after
 
@@ -114,15 +115,15 @@ take_parts m t e =
     ap (λ r. both (take_entry m.objects t e) (taken_by m t e r)) (get_first m.program t m.threads)
     ∙ take_at m t e (slice_get m.threads t)
 
--- both parts behind these entries
+-- both parts after these entries
 abbrev joined_on : List (ℕ × Logged) → List PlainObject × List Coded → Option (List PlainObject × List Coded)
 joined_on xs p = take_all_joined coded_step p.0 p.1 xs
 
-behind_parts : (m : PlainMachine) (xs : List (ℕ × Logged))
+after_parts : (m : PlainMachine) (xs : List (ℕ × Logged))
     → take_all_joined coded_step m.objects (coded m.program 0 m.threads) xs ≡ option_map parts (run_all take_together m xs)
-behind_parts m [] = refl
-behind_parts m (x ∷ xs) =
-    ap (option_and_then (joined_on xs)) (take_parts m x.0 x.1.entry) ∙ onward (take_together m x.0 x.1.entry) (λ n. behind_parts n xs)
+after_parts m [] = refl
+after_parts m (x ∷ xs) =
+    ap (option_and_then (joined_on xs)) (take_parts m x.0 x.1.entry) ∙ onward (take_together m x.0 x.1.entry) (λ n. after_parts n xs)
   where
     onward : (r : Option PlainMachine) → ((n : PlainMachine) → joined_on xs (parts n) ≡ option_map parts (run_all take_together n xs))
         → option_and_then (joined_on xs) (option_map parts r) ≡ option_map parts (option_and_then (λ n. run_all take_together n xs) r)
@@ -134,24 +135,25 @@ abbrev with_made : List (List ℕ) → PlainMachine → PlainMachine
 with_made made m = record m { made = made }
 
 -- what a machine takes, its threads and its objects take together
-together_at : (made : List (List ℕ)) (m n : PlainMachine) (t : ℕ) (e : Entry) (s : ThreadState) (a : Asked) (objects : List PlainObject)
+together_at : (made : List (List ℕ)) (m n : PlainMachine) (t : ℕ) (e : Entry) (s : ThreadState) (a : NextEntry) (objects : List PlainObject)
     → slice_get m.threads t ≡ Some s → ask s ≡ Some a → fits a e ≡ true
-    → take_entry m.objects t e ≡ Some objects → with_made made (moved_to m t (behind_entry m.program (code_of m.program t) s a e) objects) ≡ with_made made n
+    → take_entry m.objects t e ≡ Some objects → with_made made (moved_to m t (after_entry m.program (code_of m.program t) s a e) objects) ≡ with_made made n
     → take_together (with_made made m) t e ≡ Some (with_made made n)
 together_at made m n t e s a objects at asks fit takes is =
-    let after : thread_after m.program (code_of m.program t) s e ≡ Some (behind_entry m.program (code_of m.program t) s a e) = rw (asks, fit) refl in
+    let after : thread_after m.program (code_of m.program t) s e ≡ Some (after_entry m.program (code_of m.program t) s a e) = rw (asks, fit) refl in
     rw (at, after, takes) (ap Some is)
 
-took_together : (made : List (List ℕ)) (m n : PlainMachine) (t : ℕ) (e : Entry) → take m t e ≡ Some n → take_together (with_made made m) t e ≡ Some (with_made made n)
+took_together : (made : List (List ℕ)) (m n : PlainMachine) (t : ℕ) (e : Entry)
+    → take m t e ≡ Some n → take_together (with_made made m) t e ≡ Some (with_made made n)
 took_together made m n t e h =
     let k = taken m t e n h in
     together_at made m n t e k.s k.asked k.objects k.at k.asks k.fit k.takes (ap (with_made made) k.is)
 
-pub all_together : (made : List (List ℕ)) (m last : PlainMachine) (xs : List (ℕ × Logged)) → behind_all m xs ≡ Some last
+pub all_together : (made : List (List ℕ)) (m last : PlainMachine) (xs : List (ℕ × Logged)) → after_all m xs ≡ Some last
     → run_all take_together (with_made made m) xs ≡ Some (with_made made last)
 all_together made m last [] h = ap (option_map (with_made made)) h
 all_together made m last (x ∷ xs) h =
-    let a = first_some (λ n. behind_all n xs) (take m x.0 x.1.entry) last h in
+    let a = first_some (λ n. after_all n xs) (take m x.0 x.1.entry) last h in
     rw (took_together made m a.0 x.0 x.1.entry a.1) (all_together made a.0 last xs a.2)
 
 -- threads and objects together go on alike, whatever was made
@@ -161,7 +163,8 @@ moved_alike made m t None o = refl
 moved_alike made m t (Some s) None = refl
 moved_alike made m t (Some s) (Some objects) = refl
 
-step_alike : (made : List (List ℕ)) (m : PlainMachine) (t : ℕ) (e : Entry) → take_together (with_made made m) t e ≡ option_map (with_made made) (take_together m t e)
+step_alike : (made : List (List ℕ)) (m : PlainMachine) (t : ℕ) (e : Entry)
+    → take_together (with_made made m) t e ≡ option_map (with_made made) (take_together m t e)
 step_alike made m t e = by_thread (slice_get m.threads t)
   where
     by_thread : (r : Option ThreadState)
@@ -178,13 +181,14 @@ all_alike made m last (x ∷ xs) h =
     rw (step_alike made m x.0 x.1.entry, a.1) (all_alike made a.0 last xs a.2)
 
 -- and the machine takes what they take together, where each entry finds what it needs
-taken_together : (m n : PlainMachine) (made : List (List ℕ)) (t : ℕ) (e : Entry) → take_together m t e ≡ Some n → made_behind m t e ≡ Some made
+taken_together : (m n : PlainMachine) (made : List (List ℕ)) (t : ℕ) (e : Entry) → take_together m t e ≡ Some n → made_after_entry m t e ≡ Some made
     → (take m t e ≡ Some (with_made made n)) × (n.program ≡ m.program)
 taken_together m n made t e k makes =
     let a = first_some (λ s. together m t (thread_after m.program (code_of m.program t) s e) (take_entry m.objects t e)) (slice_get m.threads t) n k in
     by_parts a.0 a.1 (thread_after m.program (code_of m.program t) a.0 e) (take_entry m.objects t e) refl refl a.2
   where
-    by_parts : (s : ThreadState) → slice_get m.threads t ≡ Some s → (r : Option ThreadState) (o : Option (List PlainObject)) → thread_after m.program (code_of m.program t) s e ≡ r
+    by_parts : (s : ThreadState) → slice_get m.threads t ≡ Some s
+        → (r : Option ThreadState) (o : Option (List PlainObject)) → thread_after m.program (code_of m.program t) s e ≡ r
         → take_entry m.objects t e ≡ o → together m t r o ≡ Some n → (take m t e ≡ Some (with_made made n)) × (n.program ≡ m.program)
     by_parts s at None o f g k = absurd (none-some n k)
     by_parts s at (Some after) None f g k = absurd (none-some n k)
@@ -195,8 +199,9 @@ taken_together m n made t e k makes =
         )
 
 pub all_taken : (m last : PlainMachine) (xs : List (ℕ × Logged)) (made : List (List ℕ)) → run_all take_together m xs ≡ Some last
-    → run_all (take_made (numbering_of m.program)) m.made xs ≡ Some made → behind_all m xs ≡ Some (with_made made last)
-all_taken m last [] made h g = ap (λ (x : List (List ℕ)). Some (with_made x m)) (same_Some m.made made g) ∙ ap (λ (x : PlainMachine). Some (with_made made x)) (same_Some m last h)
+    → run_all (take_made (numbering_of m.program)) m.made xs ≡ Some made → after_all m xs ≡ Some (with_made made last)
+all_taken m last [] made h g = ap (λ (x : List (List ℕ)). Some (with_made x m)) (same_Some m.made made g)
+    ∙ ap (λ (x : PlainMachine). Some (with_made made x)) (same_Some m last h)
 all_taken m last (x ∷ xs) made h g =
     let a = first_some (λ n. run_all take_together n xs) (take_together m x.0 x.1.entry) last h in
     let b = first_some (λ k. run_all (take_made (numbering_of m.program)) k xs) (take_made (numbering_of m.program) m.made x.0 x.1.entry) made g in
@@ -252,7 +257,7 @@ module _ (p : ProgramText) (fuel : ℕ) (logs : List (List Logged)) (h : HaveFol
   threads = (new_machine p fuel).threads
 
   abbrev IsFinal : ℕ → ThreadState → Type 0
-  IsFinal t s = Follows p fuel t (log_of logs t) s
+  IsFinal t s = FollowsCode p fuel t (log_of logs t) s
 
   finals : IsListOf IsFinal 0 (length p.threads)
   finals = list_of IsFinal 0 (length p.threads) (λ t l. let f = h.each t (omega (arith, l)) in (f.now, f.follows))
@@ -288,18 +293,18 @@ module _ (p : ProgramText) (fuel : ℕ) (logs : List (List Logged)) (h : HaveFol
   unfolding lasts
   takes = record { threads = length_coded p 0 finals.items ∙ finals.count ∙ sym as_many; own = own }
 
-  -- the machine behind the logs
-  record IsBehind : Type 0 where
+  -- the machine under the logs
+  record IsAfter : Type 0 where
     machine : PlainMachine
     is : run_all take_together (new_machine p fuel) (order logs) ≡ Some machine
     objects : objects_after (shape_of p) logs ≡ Some machine.objects
     threads_are : machine.threads ≡ finals.items
 
-  behind : (after : List PlainObject) → objects_after (shape_of p) logs ≡ Some after
-      → take_all_joined coded_step (new_objects (shape_of p)) states (order logs) ≡ Some (after, lasts) → IsBehind
+  is_after : (after : List PlainObject) → objects_after (shape_of p) logs ≡ Some after
+      → take_all_joined coded_step (new_objects (shape_of p)) states (order logs) ≡ Some (after, lasts) → IsAfter
   unfolding lasts
-  behind after o e =
-      let both_there = sym (behind_parts (new_machine p fuel) (order logs)) ∙ e in
+  is_after after o e =
+      let both_there = sym (after_parts (new_machine p fuel) (order logs)) ∙ e in
       let c = came parts (run_all take_together (new_machine p fuel) (order logs)) (after, lasts) both_there in
       let m = c.from in
       let same : coded m.program 0 m.threads ≡ coded p 0 finals.items =
@@ -322,13 +327,13 @@ Law =
 
 module _ (law : Law) (p : ProgramText) (fuel : ℕ) (logs : List (List Logged)) where
   there : (h : HaveFollowed p fuel logs) (r : Option (List PlainObject)) → objects_after (shape_of p) logs ≡ r
-      → IsSome r → IsBehind p fuel logs h
+      → IsSome r → IsAfter p fuel logs h
   there h None e s = absurd (cc s)
   there h (Some after) e s =
       let by_logs = law (shape_of p) logs after (states p fuel logs h) (lasts p fuel logs h) h.objects.rises in
-      behind p fuel logs h after e (by_logs (enough p fuel logs h) e (takes p fuel logs h))
+      is_after p fuel logs h after e (by_logs (enough p fuel logs h) e (takes p fuel logs h))
 
-  now : (h : HaveFollowed p fuel logs) → IsBehind p fuel logs h
+  now : (h : HaveFollowed p fuel logs) → IsAfter p fuel logs h
   now h = there h (objects_after (shape_of p) logs) refl h.objects.taken
 
   by_made : (h : HaveFollowed p fuel logs) (r : Option (List (List ℕ))) → made_after (numbering_of p) logs ≡ r → IsSome r → IsSome (machine_after p fuel logs)
@@ -351,7 +356,7 @@ module _ (law : Law) (p : ProgramText) (fuel : ℕ) (logs : List (List Logged)) 
     pub threads_count : length m.threads ≡ length p.threads
     threads_count = ap length finals_are ∙ (finals p fuel logs h).count
 
-    pub each_follows : (t : ℕ) (s : ThreadState) → slice_get m.threads t ≡ Some s → Follows p fuel t (log_of logs t) s
+    pub each_follows : (t : ℕ) (s : ThreadState) → slice_get m.threads t ≡ Some s → FollowsCode p fuel t (log_of logs t) s
     each_follows t s e =
         let there = ap (λ (xs : List ThreadState). slice_get xs t) (sym finals_are) in
         final_at p fuel logs h t s (there ∙ e)

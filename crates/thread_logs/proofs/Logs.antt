@@ -12,11 +12,11 @@ use Rattle.plain_machine.specs.Asking.{thread_after}
 use Rattle.plain_machine.specs.Machine.{code_of, new_machine}
 use Rattle.machine_laws.specs.ReachedThread.{IsThreadOf}
 use Rattle.machine_laws.specs.Work.{work_of}
-use Rattle.thread_logs.specs.Followed.{Follows, HasFollowed, HaveValues}
+use Rattle.thread_logs.specs.Followed.{FollowsCode, HasFollowed, HaveValues}
 use Rattle.thread_logs.proofs.Onward.{onward, is_first}
 
 module _ {S : Type 0} (step : S → Entry → Option S) where
-  -- behind one entry more
+  -- after one entry more
   run_more : (log : List Logged) (l : Logged) (s m n : S) → run_log step s log ≡ Some m → step m l.entry ≡ Some n
       → run_log step s (log ++ l ∷ []) ≡ Some n
   run_more [] l s m n h takes = let same = same_Some s m h in rw (same, takes) refl
@@ -24,7 +24,7 @@ module _ {S : Type 0} (step : S → Entry → Option S) where
       let a = first_some (λ next. run_log step next log) (step s x.entry) m h in
       rw a.1 (run_more log l a.0 m n a.2 takes)
 
-  -- the state behind a front
+  -- the state after a front
   record HasRunTo (s : S) (log : List Logged) : Type 0 where
     state : S
     is : run_log step s log ≡ Some state
@@ -42,12 +42,12 @@ module _ {S : Type 0} (step : S → Entry → Option S) where
 
 -- before the first entry
 pub first_follows : (p : ProgramText) (fuel t : ℕ) (s : ThreadState)
-    → slice_get (new_machine p fuel).threads t ≡ Some s → Follows p fuel t [] s
+    → slice_get (new_machine p fuel).threads t ≡ Some s → FollowsCode p fuel t [] s
 first_follows p fuel t s at = record { first = s; there = at; leads = refl }
 
 pub next_follows : (p : ProgramText) (fuel t : ℕ) (log : List Logged) (l : Logged) (s after : ThreadState)
-    → Follows p fuel t log s
-    → thread_after p (code_of p t) s l.entry ≡ Some after → Follows p fuel t (log ++ l ∷ []) after
+    → FollowsCode p fuel t log s
+    → thread_after p (code_of p t) s l.entry ≡ Some after → FollowsCode p fuel t (log ++ l ∷ []) after
 next_follows p fuel t log l s after h takes =
     let more = run_more (thread_after p (code_of p t)) log l h.first s after h.leads takes in
     record { first = h.first; there = h.there; leads = more }
@@ -58,7 +58,7 @@ front_follows p fuel t n log h =
     let r = run_front (thread_after p (code_of p t)) n log h.follows.first h.now h.follows.leads in
     record { now = r.state; follows = record { first = h.follows.first; there = h.follows.there; leads = r.is } }
 
--- a thread behind a log is one of the program, and each entry used up work
+-- a thread after a log is one of the program, and each entry used up work
 record IsSpent (p : ProgramText) (s final : ThreadState) (log : List Logged) : Type 0 where
   thread : IsThreadOf p final
   work : length log + work_of final ≤ work_of s
@@ -76,11 +76,11 @@ spent p t (l ∷ log) s final valid thread values h =
     record { thread = r.thread; work = omega (arith, r.work, k.work) }
 
 module _ (p : ProgramText) (fuel t : ℕ) (log : List Logged) (s : ThreadState) (valid : IsProgram p) where
-  behind_log : HaveValues p log → (h : Follows p fuel t log s) → IsSpent p h.first s log
-  behind_log values h = spent p t log h.first s valid (is_first p fuel t h.first valid h.there).thread values h.leads
+  after_log : HaveValues p log → (h : FollowsCode p fuel t log s) → IsSpent p h.first s log
+  after_log values h = spent p t log h.first s valid (is_first p fuel t h.first valid h.there).thread values h.leads
 
-  pub followed_thread : HaveValues p log → Follows p fuel t log s → IsThreadOf p s
-  followed_thread values h = (behind_log values h).thread
+  pub followed_thread : HaveValues p log → FollowsCode p fuel t log s → IsThreadOf p s
+  followed_thread values h = (after_log values h).thread
 
-  pub followed_work : HaveValues p log → Follows p fuel t log s → length log + work_of s ≤ 2 * fuel + 1
-  followed_work values h = omega (arith, (behind_log values h).work, (is_first p fuel t h.first valid h.there).work)
+  pub followed_work : HaveValues p log → FollowsCode p fuel t log s → length log + work_of s ≤ 2 * fuel + 1
+  followed_work values h = omega (arith, (after_log values h).work, (is_first p fuel t h.first valid h.there).work)

@@ -1,5 +1,6 @@
 -- An entry of a thread of the program leaves one with less work.
-use Rattle.std.proofs.Common.{◌≡◌, ℕ, ◌+◌, ◌-◌, ◌*◌, ◌<◌, ◌≤◌, ◌^◌, pos, true, List, [], ◌∷◌, length, map, replicate, sum, slice_get, slice_set, slice_index, Some, sym, ap, ◌∙◌, subst, arith, length-set}
+use Rattle.std.proofs.Common.{◌≡◌, ℕ, ◌+◌, ◌-◌, ◌*◌, ◌<◌, ◌≤◌, ◌^◌, pos, true, List, [], ◌∷◌, length, map, replicate}
+use Rattle.std.proofs.Common.{sum, slice_get, slice_set, slice_index, Some, sym, ap, ◌∙◌, subst, arith, length-set}
 use Rattle.std.specs.List.{AllByRecursion}
 use Rattle.std.proofs.lemmas.Bool.{false≢true}
 use Rattle.std.proofs.lemmas.Int.{ints}
@@ -14,15 +15,15 @@ use Rattle.plain_monitor.proofs.Lists.{all_at}
 use Rattle.object_program.specs.declared.program.ThreadDef.{ThreadDef}
 use Rattle.object_program.specs.Program.{ProgramText, objects_total}
 use Rattle.object_program.specs.Valid.{IsProgram}
-use Rattle.plain_machine.specs.declared.call.Call.{Call}
-use Rattle.plain_machine.specs.declared.call.Call.TheVariants as call
-use Rattle.plain_machine.specs.declared.call.Mode.{Mode}
-use Rattle.plain_machine.specs.declared.call.Mode.TheVariants.{Waiting, Ended}
-use Rattle.plain_machine.specs.declared.call.Asked.{Asked}
-use Rattle.plain_machine.specs.declared.call.Asked.TheVariants.{Calls, Resumes, Leaves, Ends}
-use Rattle.plain_machine.specs.Thread.{ThreadState, behind, holds_of}
+use Rattle.plain_machine.specs.declared.monitor_call.MonitorCall.{MonitorCall}
+use Rattle.plain_machine.specs.declared.monitor_call.MonitorCall.TheVariants as call
+use Rattle.plain_machine.specs.declared.monitor_call.Mode.{Mode}
+use Rattle.plain_machine.specs.declared.monitor_call.Mode.TheVariants.{Waiting, Ended}
+use Rattle.plain_machine.specs.declared.monitor_call.NextEntry.{NextEntry}
+use Rattle.plain_machine.specs.declared.monitor_call.NextEntry.TheVariants.{Calls, Resumes, Leaves, Ends}
+use Rattle.plain_machine.specs.Thread.{ThreadState, past, holds_of}
 use Rattle.plain_machine.specs.Running.{run_on, first_state}
-use Rattle.plain_machine.specs.Asking.{is_call, fits, holds_less, answered, behind_call, behind_entry, thread_after}
+use Rattle.plain_machine.specs.Asking.{is_call, fits, holds_less, answered, after_call, after_entry, thread_after}
 use Rattle.plain_machine.specs.Machine.{code_of, new_machine}
 use Rattle.plain_machine.specs.Values.{IsObject}
 use Rattle.machine_laws.specs.ReachedThread.{IsHeld, IsCallOf, IsModeOf, IsStateOf, IsThreadOf}
@@ -87,7 +88,7 @@ hash_answer p s x o (Hash object value drawn) st fit v =
     record { state = set_state p s x (Int (pos value)) st (tt, hash_value value v); few = omega arith }
 hash_answer p s x o e st fit v = absurd (false≢true fit)
 
-answer : (p : ProgramText) (s : ThreadState) (c : Call) (e : Entry) → IsStateOf p s → IsCallOf p s.holds s.dumps s.made c
+answer : (p : ProgramText) (s : ThreadState) (c : MonitorCall) (e : Entry) → IsStateOf p s → IsCallOf p s.holds s.dumps s.made c
     → is_call c e ≡ true → HasValue (objects_total p) e → IsAnswered p s (answered s c e)
 answer p s (call.Enter o) e st h fit v =
     let there : IsObject p o = h.0 in
@@ -107,11 +108,11 @@ module _ (p : ProgramText) (t : ℕ) (valid : IsProgram p) where
   run : (fuel : ℕ) (s : ThreadState) → IsStateOf p s → IsRunOf p s.holds fuel (run_on p (code_of p t) fuel s)
   run fuel s st = run_keeps p (code_of p t) valid (code_runs p t valid) fuel s st
 
-  -- behind an answered call it runs on
-  called : (s a : ThreadState) (c : Call) → IsPaid p s c → IsAnswered p s a
-      → IsOnward p s (run_on p (code_of p t) (s.fuel - 1) (behind a))
+  -- after an answered call it runs on
+  called : (s a : ThreadState) (c : MonitorCall) → IsPaid p s c → IsAnswered p s a
+      → IsOnward p s (run_on p (code_of p t) (s.fuel - 1) (past a))
   called s a c paid h =
-      let r = run (s.fuel - 1) (behind a) (kept p a (a.place + 1) a.fuel a.mode h.state) in
+      let r = run (s.fuel - 1) (past a) (kept p a (a.place + 1) a.fuel a.mode h.state) in
       let one : mode_work s.mode ≡ 1 = ap mode_work paid.mode in
       record {
         thread = r.thread;
@@ -119,14 +120,14 @@ module _ (p : ProgramText) (t : ℕ) (valid : IsProgram p) where
       }
 
   waited : (s : ThreadState) (o : ℕ) → IsStateOf p s → IsPaid p s (call.Wait o)
-      → IsOnward p s (record (behind s) { fuel = s.fuel - 1; mode = Waiting o })
+      → IsOnward p s (record (past s) { fuel = s.fuel - 1; mode = Waiting o })
   waited s o st paid =
       let one : mode_work s.mode ≡ 1 = ap mode_work paid.mode in
       let now = kept p s (s.place + 1) (s.fuel - 1) (Waiting o) st in
       record { thread = record { state = now; mode = paid.call.0 }; work = omega (arith, paid.fuel, one) }
 
-  call_onward : (s : ThreadState) (c : Call) (e : Entry) → IsStateOf p s → IsPaid p s c
-      → IsAnswered p s (answered s c e) → IsOnward p s (behind_call p (code_of p t) s c e)
+  call_onward : (s : ThreadState) (c : MonitorCall) (e : Entry) → IsStateOf p s → IsPaid p s c
+      → IsAnswered p s (answered s c e) → IsOnward p s (after_call p (code_of p t) s c e)
   call_onward s (call.Wait o) e st paid h = waited s o st paid
   call_onward s c e st paid h = called s (answered s c e) c paid h
 
@@ -150,8 +151,8 @@ module _ (p : ProgramText) (t : ℕ) (valid : IsProgram p) where
       let now = kept p s s.place s.fuel (Ended g) st in
       record { thread = record { state = now; mode = last.none }; work = omega (arith, one) }
 
-  asked_onward : (s : ThreadState) (a : Asked) (e : Entry) → IsStateOf p s → IsAskedOf p s a → fits a e ≡ true
-      → HasValue (objects_total p) e → IsOnward p s (behind_entry p (code_of p t) s a e)
+  asked_onward : (s : ThreadState) (a : NextEntry) (e : Entry) → IsStateOf p s → IsAskedOf p s a → fits a e ≡ true
+      → HasValue (objects_total p) e → IsOnward p s (after_entry p (code_of p t) s a e)
   asked_onward s (Calls c) e st h fit v = call_onward s c e st h (answer p s c e st h.call fit v)
   asked_onward s (Resumes o) e st h fit v = resumed s o st h
   asked_onward s (Leaves o) e st h fit v = left s o st h

@@ -1,5 +1,6 @@
 -- What a thread refers to its log tells, and how many objects it has made.
-use Rattle.std.proofs.Common.{◌≡◌, ℕ, ◌+◌, ◌<◌, ◌||◌, nat_lt, Bool, true, false, List, [], ◌∷◌, length, Option, Some, None, refl, sym, ap, ◌∙◌, subst, arith, length-append, eq-eqb}
+use Rattle.std.proofs.Common.{◌≡◌, ℕ, ◌+◌, ◌<◌, ◌||◌, nat_lt, Bool, true, false, List, [], ◌∷◌, length}
+use Rattle.std.proofs.Common.{Option, Some, None, refl, sym, ap, ◌∙◌, subst, arith, length-append, eq-eqb}
 use Rattle.std.specs.List.{AllByRecursion}
 use Rattle.std.proofs.lemmas.Bool.Decides.{nat_tests}
 use Rattle.std.proofs.lemmas.Option.{same_Some}
@@ -14,7 +15,7 @@ use Rattle.plain_history.specs.Known.{class_made, news, tells_of, is_told, knows
 use Rattle.plain_history.proofs.Joined.{first_some}
 use Rattle.object_program.specs.Program.{ProgramText, declared_total, numbering_of}
 use Rattle.object_program.specs.Valid.{IsProgram}
-use Rattle.plain_machine.specs.declared.call.Asked.{Asked}
+use Rattle.plain_machine.specs.declared.monitor_call.NextEntry.{NextEntry}
 use Rattle.plain_machine.specs.Thread.{ThreadState, local}
 use Rattle.plain_machine.specs.Asking.{ask, fits, thread_after}
 use Rattle.plain_machine.specs.Machine.{code_of, new_machine}
@@ -22,8 +23,8 @@ use Rattle.plain_machine.proofs.NeededObjects.{first_is_total}
 use Rattle.machine_laws.specs.References.{RefersTo, ThreadRefersTo}
 use Rattle.machine_laws.proofs.ReachedRunning.{code_runs}
 use Rattle.machine_laws.proofs.ReachedFirst.{IsNewTo, new_threads}
-use Rattle.machine_laws.proofs.AskedReferences.{BringsTo, count_made, ask_refers, asked_needs, entry_behind, entry_made}
-use Rattle.thread_logs.specs.Followed.{Follows}
+use Rattle.machine_laws.proofs.AskedReferences.{BringsTo, count_made, ask_refers, asked_needs, entry_after, entry_made}
+use Rattle.thread_logs.specs.Followed.{FollowsCode}
 use Rattle.thread_logs.proofs.Entries.{has_made}
 
 -- THE COUNT
@@ -42,14 +43,15 @@ module _ (p : ProgramText) (t : ℕ) (valid : IsProgram p) where
       omega (arith, step, rest, length_made (creates l.entry), length-append (class_made (creates l.entry)) (news log))
 
   -- THE REFERENCES, where each entry brings what is of these
-  refers_on : (These : ℕ → Type 0) → ((o : ℕ) → o < declared_total p → These o) → (log : List Logged) (s final : ThreadState) → AllByRecursion (λ l. BringsTo These l.entry) log
+  refers_on : (These : ℕ → Type 0) → ((o : ℕ) → o < declared_total p → These o)
+      → (log : List Logged) (s final : ThreadState) → AllByRecursion (λ l. BringsTo These l.entry) log
       → ThreadRefersTo These s → run_log (thread_after p (code_of p t)) s log ≡ Some final → ThreadRefersTo These final
   refers_on These declared [] s final all r h = subst (ThreadRefersTo These) (same_Some s final h) r
   refers_on These declared (l ∷ log) s final all r h =
       let a = first_some (λ next. run_log (thread_after p (code_of p t)) next log) (thread_after p (code_of p t) s l.entry) final h in
       let m = has_made p (code_of p t) s a.0 l.entry a.1 in
       let next =
-      entry_behind These p (code_of p t) declared valid (code_runs p t valid) s m.asked l.entry r (ask_refers These s m.asked r m.asks) all.0 in
+      entry_after These p (code_of p t) declared valid (code_runs p t valid) s m.asked l.entry r (ask_refers These s m.asked r m.asks) all.0 in
       refers_on These declared log a.0 final all.1 (subst (ThreadRefersTo These) m.is next) a.2
 
 -- WHAT THE LOG TELLS
@@ -76,7 +78,7 @@ told_each (l ∷ log) = (
       (λ k f o h. or_right (tells_of o l.entry) (is_told log o) (f o h)) log (told_each log),
 )
 
-module _ (p : ProgramText) (fuel t : ℕ) (log : List Logged) (s : ThreadState) (valid : IsProgram p) (h : Follows p fuel t log s) where
+module _ (p : ProgramText) (fuel t : ℕ) (log : List Logged) (s : ThreadState) (valid : IsProgram p) (h : FollowsCode p fuel t log s) where
   declared_known : (o : ℕ) → o < declared_total p → Knows p log o
   declared_known o l =
       let total : first_made (numbering_of p) ≡ declared_total p = first_is_total p.objects in
@@ -97,7 +99,7 @@ module _ (p : ProgramText) (fuel t : ℕ) (log : List Logged) (s : ThreadState) 
   pub made_told : s.made ≡ length (news log)
   made_told = let on = made_on p t valid log h.first s h.leads in let none = first.1 in omega (arith, on, none)
 
-  pub needs_told : (a : Asked) (e : Entry) → ask s ≡ Some a → fits a e ≡ true → AllByRecursion (λ o. knows_by_log (numbering_of p) log o ≡ true) (needs e)
+  pub needs_told : (a : NextEntry) (e : Entry) → ask s ≡ Some a → fits a e ≡ true → AllByRecursion (λ o. knows_by_log (numbering_of p) log o ≡ true) (needs e)
   needs_told a e asks fit = asked_needs (Knows p log) a e (ask_refers (Knows p log) s a refers asks) fit
 
   pub local_told : (x o : ℕ) → local s x ≡ Ref o → knows_by_log (numbering_of p) log o ≡ true

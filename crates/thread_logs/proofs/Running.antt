@@ -1,5 +1,6 @@
 -- What a run of local instructions leaves: the holds and the dumps stay, and the thread calls or unwinds.
-use Rattle.std.proofs.Common.{◌≡◌, ℕ, zero, suc, ◌+◌, ℤ, ◌+ℤ◌, ◌-ℤ◌, ◌*ℤ◌, nat_le, nat_lt, nat_abs, Bool, true, false, if◌then◌else◌, List, length, sum, replicate, slice_get, Option, Some, refl, ◌∙◌}
+use Rattle.std.proofs.Common.{◌≡◌, ℕ, zero, suc, ◌+◌, ℤ, ◌+ℤ◌, ◌-ℤ◌, ◌*ℤ◌, nat_le, nat_lt, nat_abs, Bool, true, false}
+use Rattle.std.proofs.Common.{if◌then◌else◌, List, length, sum, replicate, slice_get, Option, Some, refl, ◌∙◌}
 use Rattle.plain_monitor.specs.Limits.{most_made}
 use Rattle.plain_monitor.specs.declared.entry.Fault.{Fault}
 use Rattle.plain_monitor.specs.declared.entry.Fault.TheVariants.{IllegalMonitorState, Unguarded, Range, Overflow, TooDeep, TooManyDumps, TooMany}
@@ -12,18 +13,19 @@ use Rattle.object_program.specs.declared.program.Code.TheVariants as code
 use Rattle.object_program.specs.declared.program.ObjectDef.{ObjectDef}
 use Rattle.object_program.specs.declared.program.ThreadDef.{ThreadDef}
 use Rattle.object_program.specs.Program.{ProgramText, objects_total, slots_of}
-use Rattle.plain_machine.specs.declared.call.Call.{Call}
-use Rattle.plain_machine.specs.declared.call.Call.TheVariants as call
-use Rattle.plain_machine.specs.declared.call.Mode.{Mode}
-use Rattle.plain_machine.specs.declared.call.Mode.TheVariants.{Calling}
-use Rattle.plain_machine.specs.Thread.{ThreadState, Step, Goes, Calls, Stops, step_of, local, on_object, on_slot, owner_only, enters, combines, faults, sets, holds_of, first_of, size_of, is_element, element, jumps_where, jumps_below}
+use Rattle.plain_machine.specs.declared.monitor_call.MonitorCall.{MonitorCall}
+use Rattle.plain_machine.specs.declared.monitor_call.MonitorCall.TheVariants as call
+use Rattle.plain_machine.specs.declared.monitor_call.Mode.{Mode}
+use Rattle.plain_machine.specs.declared.monitor_call.Mode.TheVariants.{Calling}
+use Rattle.plain_machine.specs.Thread.{ThreadState, Step, Goes, Calls, Stops, step_of, local, on_object, on_slot, owner_only, enters}
+use Rattle.plain_machine.specs.Thread.{combines, faults, sets, holds_of, first_of, size_of, is_element, element, jumps_where, jumps_below}
 use Rattle.plain_machine.specs.Running.{instruction_at, after_step, run_on, first_state}
 use Rattle.plain_machine.specs.Ready.{waits_on}
 use Rattle.plain_machine.specs.inner.Kept.{unrun}
 use Rattle.plain_machine.specs.Machine.{new_machine, is_live}
 
--- a dump that a thread calls has the number behind those that it has made
-abbrev IsNextDump : ℕ → Call → Type 0
+-- a dump that a thread calls has the number after those that it has made
+abbrev IsNextDump : ℕ → MonitorCall → Type 0
 IsNextDump made (call.Dump number) = number ≡ made + 1
 IsNextDump made c = Unit {0}
 
@@ -59,18 +61,18 @@ tested_steady : (s : ThreadState) (fault : Fault) (step : Step) (b : Bool) → I
 tested_steady s fault step true h = h
 tested_steady s fault step false h = tt
 
-owner_steady : (s : ThreadState) (o : ℕ) (fault : Fault) (c : Call) → IsNextDump s.dumps c
+owner_steady : (s : ThreadState) (o : ℕ) (fault : Fault) (c : MonitorCall) → IsNextDump s.dumps c
     → IsSteady s (owner_only s o fault (Calls c))
 owner_steady s o fault c h = tested_steady s fault (Calls c) (nat_le 1 (holds_of s o)) h
 
-owned_steady : (s : ThreadState) (o : ℕ) (c : Call) → IsNextDump s.dumps c
+owned_steady : (s : ThreadState) (o : ℕ) (c : MonitorCall) → IsNextDump s.dumps c
     → IsSteady s (owner_only s o IllegalMonitorState (Calls c))
 owned_steady s o c h = owner_steady s o IllegalMonitorState c h
 
 enters_steady : (s : ThreadState) (o : ℕ) → IsSteady s (enters s o)
 enters_steady s o = tested_steady s TooDeep (Calls (call.Enter o)) (nat_lt (sum s.holds) 64) tt
 
-slot_steady : (p : ProgramText) (s : ThreadState) (o k : ℕ) (c : Call) → IsNextDump s.dumps c
+slot_steady : (p : ProgramText) (s : ThreadState) (o k : ℕ) (c : MonitorCall) → IsNextDump s.dumps c
     → IsSteady s (on_slot p s o k c)
 slot_steady p s o k c h =
     let owned = owner_steady s o Unguarded c h in
@@ -112,8 +114,8 @@ step_steady p s (code.Jeq x y l) = jump_steady s l _
 step_steady p s code.Dump = tested_steady s TooManyDumps (Calls (call.Dump (s.dumps + 1))) (nat_lt s.dumps 4) refl
 step_steady p s code.End = tt
 
--- a thread that ran, with these holds and dumps before and behind
-pub record HasRun (holds : List ℕ) (dumps : ℕ) (s : ThreadState) : Type 0 where
+-- a thread that ran, with these holds and dumps before and after
+pub record ThreadHasRun (holds : List ℕ) (dumps : ℕ) (s : ThreadState) : Type 0 where
   pub holds_stay : s.holds ≡ holds
   pub dumps_stay : s.dumps ≡ dumps
   pub awake : (o : ℕ) → waits_on s.mode o ≡ false
@@ -121,8 +123,8 @@ pub record HasRun (holds : List ℕ) (dumps : ℕ) (s : ThreadState) : Type 0 wh
   pub next : DumpsNext s.dumps s.mode
 
 step_runs : (s : ThreadState) (n : ℕ) (step : Step) (go : ThreadState → ThreadState) → IsSteady s step
-    → ((next : ThreadState) → HasRun next.holds next.dumps (go next))
-    → HasRun s.holds s.dumps (after_step s n step go)
+    → ((next : ThreadState) → ThreadHasRun next.holds next.dumps (go next))
+    → ThreadHasRun s.holds s.dumps (after_step s n step go)
 step_runs s n (Goes next) go h ih =
     let r = ih next in
     record {
@@ -138,7 +140,7 @@ step_runs s n (Stops e) go h ih =
     record { holds_stay = refl; dumps_stay = refl; awake = λ o. refl; lives = refl; next = tt }
 
 pub has_run : (p : ProgramText) (cs : List Code) (fuel : ℕ) (s : ThreadState)
-    → HasRun s.holds s.dumps (run_on p cs fuel s)
+    → ThreadHasRun s.holds s.dumps (run_on p cs fuel s)
 unfolding run_on
 has_run p cs zero s = record { holds_stay = refl; dumps_stay = refl; awake = λ o. refl; lives = refl; next = tt }
 has_run p cs (suc n) s =
@@ -147,7 +149,7 @@ has_run p cs (suc n) s =
 
 -- a thread that ran from its start: no holds and no dumps
 abbrev pub HasBegun : ProgramText → ThreadState → Type 0
-HasBegun p s = HasRun (replicate (objects_total p) 0) 0 s
+HasBegun p s = ThreadHasRun (replicate (objects_total p) 0) 0 s
 
 first_begun : (p : ProgramText) (fuel : ℕ) (d : ThreadDef) → HasBegun p (first_state p d fuel)
 first_begun p fuel d = has_run p d.code fuel (unrun (length d.locals) (objects_total p) fuel)

@@ -1,5 +1,6 @@
 -- What a thread's log tells of where it stands.
-use Rattle.std.proofs.Common.{◌≡◌, ℕ, zero, suc, ◌+◌, ◌-◌, ◌<◌, ◌==◌, ◌||◌, not, Bool, true, false, if◌then◌else◌, List, [], ◌∷◌, length, replicate, slice_index, Some, refl, sym, ap, ◌∙◌, arith}
+use Rattle.std.proofs.Common.{◌≡◌, ℕ, zero, suc, ◌+◌, ◌-◌, ◌<◌, ◌==◌, ◌||◌, not, Bool, true, false, if◌then◌else◌}
+use Rattle.std.proofs.Common.{List, [], ◌∷◌, length, replicate, slice_index, Some, refl, sym, ap, ◌∙◌, arith}
 use Rattle.std.proofs.lemmas.List.{length-replicate}
 use Rattle.std.proofs.lemmas.Option.{same_Some}
 use Rattle.plain_monitor.specs.declared.entry.Entry.{Entry}
@@ -15,7 +16,7 @@ use Rattle.plain_machine.specs.Thread.{ThreadState, holds_of}
 use Rattle.plain_machine.specs.Asking.{thread_after}
 use Rattle.plain_machine.specs.Machine.{code_of, is_live}
 use Rattle.plain_machine.specs.Ready.{waits_on}
-use Rattle.thread_logs.specs.Followed.{Follows, ends_by, dumps_with, dumps_by}
+use Rattle.thread_logs.specs.Followed.{FollowsCode, ends_by, dumps_with, dumps_by}
 use Rattle.thread_logs.proofs.Running.{DumpsNext, HasBegun, begun}
 use Rattle.thread_logs.proofs.Told.{lived, told}
 
@@ -38,17 +39,17 @@ none_at zero o = refl
 none_at (suc n) zero = refl
 none_at (suc n) (suc o) = none_at n o
 
--- the thread behind a log, by the one before it, with object o and a count of holds for each
-record IsBehind (s final : ThreadState) (log : List Logged) (held : ℕ → ℕ) (o : ℕ) : Type 0 where
+-- the thread after a log, by the one before it, with object o and a count of holds for each
+record IsAfter (s final : ThreadState) (log : List Logged) (held : ℕ → ℕ) (o : ℕ) : Type 0 where
   holds : o < length s.holds → holds_of s o ≡ held o → holds_of final o ≡ held_by held log o
   waits : waits_on final.mode o ≡ waits_by (waits_on s.mode o) log o
   ends : not (is_live final) ≡ (not (is_live s) || ends_by log)
   dumps : final.dumps ≡ s.dumps + dumps_by log
 
-behind : (p : ProgramText) (cs : List Code) (log : List Logged) (s final : ThreadState) (held : ℕ → ℕ) (o : ℕ)
+after : (p : ProgramText) (cs : List Code) (log : List Logged) (s final : ThreadState) (held : ℕ → ℕ) (o : ℕ)
     → DumpsNext s.dumps s.mode → run_log (thread_after p cs) s log ≡ Some final
-    → IsBehind s final log held o
-behind p cs [] s final held o dump h =
+    → IsAfter s final log held o
+after p cs [] s final held o dump h =
     let same = same_Some s final h in
     record {
       holds = λ l e. ap (λ (x : ThreadState). holds_of x o) (sym same) ∙ e;
@@ -56,11 +57,11 @@ behind p cs [] s final held o dump h =
       ends = ap (λ (x : ThreadState). not (is_live x)) (sym same) ∙ or_false (not (is_live s));
       dumps = ap (λ (x : ThreadState). x.dumps) (sym same) ∙ omega arith;
     }
-behind p cs (l ∷ log) s final held o dump h =
+after p cs (l ∷ log) s final held o dump h =
     let a = first_some (λ next. run_log (thread_after p cs) next log) (thread_after p cs s l.entry) final h in
     let k = told p cs s a.0 l.entry dump a.1 in
     let lives = lived p cs s a.0 l.entry a.1 in
-    let r = behind p cs log a.0 final (held_after l.entry held) o k.next_dump a.2 in
+    let r = after p cs log a.0 final (held_after l.entry held) o k.next_dump a.2 in
     record {
       holds = λ n e. r.holds (omega (arith, n, k.count)) (k.holds o n ∙ same_held l.entry (holds_of s) held o e);
       waits = r.waits ∙ ap (λ w. waits_by w log o) (k.waits o);
@@ -68,12 +69,12 @@ behind p cs (l ∷ log) s final held o dump h =
       dumps = r.dumps ∙ ap (λ (n : ℕ). n + dumps_by log) k.dumps ∙ dumps_sum l.entry s.dumps (dumps_by log);
     }
 
-module _ (p : ProgramText) (fuel t o : ℕ) (log : List Logged) (s : ThreadState) (h : Follows p fuel t log s) where
+module _ (p : ProgramText) (fuel t o : ℕ) (log : List Logged) (s : ThreadState) (h : FollowsCode p fuel t log s) where
   first_run : HasBegun p h.first
   first_run = begun p fuel t h.first h.there
 
-  stands : IsBehind h.first s log nothing_held o
-  stands = behind p (code_of p t) log h.first s nothing_held o first_run.next h.leads
+  stands : IsAfter h.first s log nothing_held o
+  stands = after p (code_of p t) log h.first s nothing_held o first_run.next h.leads
 
   pub holds_told : o < objects_total p → holds_of s o ≡ held_by nothing_held log o
   holds_told l =

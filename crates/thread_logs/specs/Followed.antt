@@ -14,7 +14,7 @@ use Rattle.plain_machine.specs.Machine.{code_of, new_machine}
 use Rattle.plain_machine.specs.Values.{IsValueOf}
 
 -- the log follows the code of thread t from its first state, and leads to this one
-pub record Follows (p : ProgramText) (fuel t : ℕ) (log : List Logged) (s : ThreadState) : Type 0 where
+pub record FollowsCode (p : ProgramText) (fuel t : ℕ) (log : List Logged) (s : ThreadState) : Type 0 where
   pub first : ThreadState
   pub there : slice_get (new_machine p fuel).threads t ≡ Some first
   pub leads : run_log (thread_after p (code_of p t)) first log ≡ Some s
@@ -22,7 +22,7 @@ pub record Follows (p : ProgramText) (fuel t : ℕ) (log : List Logged) (s : Thr
 -- it leads to some state
 pub record HasFollowed (p : ProgramText) (fuel t : ℕ) (log : List Logged) : Type 0 where
   pub now : ThreadState
-  pub follows : Follows p fuel t log now
+  pub follows : FollowsCode p fuel t log now
 
 -- the objects take the logs, of which there is one for each thread, and each follows its thread's code; and each entry finds what it needs
 pub record HaveFollowed (p : ProgramText) (fuel : ℕ) (logs : List (List Logged)) : Type 0 where

@@ -9,7 +9,7 @@ ghost use Rattle.plain_machine.specs.Thread.{ThreadState};
 ghost use Rattle.plain_monitor.specs.declared.entry.Logged.{Logged};
 ghost use Rattle.plain_monitor.specs.History.{objects_after, log_of};
 ghost use Rattle.thread_logs.specs.inner.Coded.{Coded, coded_step};
-ghost use Rattle.thread_logs.specs.Followed.{Follows, HaveFollowed};
+ghost use Rattle.thread_logs.specs.Followed.{FollowsCode, HaveFollowed};
 
 use plain_history::{ThreadStates, objects_and_threads_join};
 
@@ -31,7 +31,7 @@ pub fn logs_that_follow_the_code_are_legal()
     objects_and_threads_join::<OfProgram>();
 }
 
-/// The machine under such logs has the plain objects behind them, and each thread in the state that its own log leads to.
+/// The machine under such logs has the plain objects after them, and each thread in the state that its own log leads to.
 pub fn the_machine_is_what_the_logs_make_it()
     ensures objects { (p : ProgramText) (fuel : ℕ) (logs : List (List Logged)) (m : PlainMachine)
         → HaveFollowed p fuel logs
@@ -41,7 +41,7 @@ pub fn the_machine_is_what_the_logs_make_it()
         → machine_after p fuel logs ≡ Some m → length m.threads ≡ length p.threads }
     ensures each { (p : ProgramText) (fuel t : ℕ) (logs : List (List Logged)) (m : PlainMachine)
         (s : ThreadState) → HaveFollowed p fuel logs
-        → machine_after p fuel logs ≡ Some m → slice_get m.threads t ≡ Some s → Follows p fuel t (log_of logs t) s }
+        → machine_after p fuel logs ≡ Some m → slice_get m.threads t ≡ Some s → FollowsCode p fuel t (log_of logs t) s }
 {
     objects_and_threads_join::<OfProgram>();
 }

@@ -84,13 +84,13 @@ module _ (word next count a b : ℕ) (few : count < 33) (fits : word < 2 ^ 64) (
       let k : ℕ = trailing_zeros w64 here in
       let at = of_here k t.1 in
       let before : (i : ℕ) → i < count → i < k → bit_at word i ≡ 0 = λ i lt less. sym (kept_below word a count all i lt) ∙ t.2 i less in
-      let behind : (i : ℕ) → i < count → next ≤ i → bit_at word i ≡ 0 =
+      let after : (i : ℕ) → i < count → next ≤ i → bit_at word i ≡ 0 =
       λ i lt le. none_later i le lt (ap (λ (m : ℕ). bit_at m i) none ∙ bit_at-zero i) in (
         at.0,
         at.1,
         λ i lt is. ⊎_elim
             (λ (x : (next ≤ i) × (i < k)). before i lt x.1)
-            (λ (x : (k < next) × ((i < k) ⊎ (next ≤ i))). ⊎_elim (λ (y : i < k). before i lt y) (λ (y : next ≤ i). behind i lt y) x.1)
+            (λ (x : (k < next) × ((i < k) ⊎ (next ≤ i))). ⊎_elim (λ (y : i < k). before i lt y) (λ (y : next ≤ i). after i lt y) x.1)
             is,
       )
 

@@ -3,7 +3,7 @@ ghost use Rattle.std.specs.Prelude.{◌<◌};
 ghost use Rattle.turn_pool.specs.Choice.{IsFirstFrom};
 
 /// The first of `count` places, at most 32, whose bit stands in this word, in a circle from the place `next` on. `next`, below 64, may stand
-/// behind the last place: the circle begins at 0 then.
+/// after the last place: the circle begins at 0 then.
 #[inline(always)]
 pub fn first_from(word: u64, next: u32, count: u32) -> Option<u32>
     requires few { count < 33 }

@@ -1,37 +1,38 @@
 -- A turn of a thread that is left alone is blocked by the plain monitors, or the halt.
-use Rattle.std.proofs.Common.{◌≡◌, ℕ, ◌≤◌, ◌&&◌, ◌||◌, not, Bool, true, false, nat_le, ◌+◌, ◌==◌, List, [], ◌++◌, length, Some, Ok, refl, sym, ap, ◌∙◌, subst, append_assoc, true≢false}
+use Rattle.std.proofs.Common.{◌≡◌, ℕ, ◌≤◌, ◌&&◌, ◌||◌, not, Bool, true, false, nat_le, ◌+◌, ◌==◌, List, []}
+use Rattle.std.proofs.Common.{◌++◌, length, Some, Ok, refl, sym, ap, ◌∙◌, subst, append_assoc, true≢false}
 use Rattle.std.proofs.lemmas.List.{append_cancel_right}
 use Rattle.plain_monitor.specs.History.{objects_after}
 use Rattle.plain_monitor.specs.Objects.{PlainObject}
-use Rattle.core_world.specs.declared.answer.Turn.TheVariants.{Done, Pending}
-use Rattle.core_world.specs.declared.answer.Why.{Why}
-use Rattle.core_world.specs.declared.name.Name.TheVariants.{Safepoint, Waiting}
-use Rattle.core_world.specs.declared.task.Op.TheVariants as op
-use Rattle.core_world.specs.declared.task.Task.{Task}
-use Rattle.core_world.specs.declared.task.Task.TheVariants as task
+use Rattle.core_world.specs.declared.answer.Progress.TheVariants.{Done, Pending}
+use Rattle.core_world.specs.declared.answer.PendingCause.{PendingCause}
+use Rattle.core_world.specs.declared.word_id.WordId.TheVariants.{Safepoint, Waiting}
+use Rattle.core_world.specs.declared.heap_call.Operation.TheVariants as op
+use Rattle.core_world.specs.declared.heap_call.HeapCall.{HeapCall}
+use Rattle.core_world.specs.declared.heap_call.HeapCall.TheVariants as task
 use Rattle.core_world.specs.Locks.{monitor_of}
 use Rattle.core_world.specs.Steps.{is_idle}
 use Rattle.core_world.specs.Clauses.Lengths.{log_limit}
-use Rattle.core_world.specs.Threads.Known.{Known, Start, StepMade, start_of}
+use Rattle.core_world.specs.Threads.ThreadView.{ThreadView, Start, StepMade, start_of}
 use Rattle.core_world.specs.Threads.References.{has_reference}
-use Rattle.core_world.specs.Trees.Calls.{steps_of, side_purpose, may_operate, most_logged, end}
+use Rattle.core_world.specs.Trees.Calls.{steps_of, side_context, may_operate, most_logged, end}
 use Rattle.core_world.specs.Trees.Operations.{goes_on_with, enter_steps, exit_steps, wait_steps, notify_steps, notify_all_steps, hash_steps, dump_steps}
 use Rattle.core_world.specs.Trees.SafepointSteps.{poll_steps, resume_steps, stop_steps, has_requester}
-use Rattle.core_world.specs.Trees.Todo.{Todo, ◌>>=◌}
+use Rattle.core_world.specs.Trees.StepTree.{StepTree, ◌>>=◌}
 use Rattle.core_world.specs.Words.Forms.{waits_on, is_halted}
 use Rattle.core_world.specs.Words.Shape.{Shape, IsInLimits}
 use Rattle.core_world.specs.World.{World, logs}
-use Rattle.core_world.proofs.LookWhileRevoking.{forgotten}
+use Rattle.core_world.proofs.bias.LookWhileRevoking.{forgotten}
 use Rattle.core_calls.specs.CallsSay.{has_none, is_full}
-use Rattle.core_calls.specs.Paths.{IsPath, Follows}
+use Rattle.core_calls.specs.Paths.{IsPath, FollowsTree}
 use Rattle.core_calls.proofs.Runs.{knows}
 use Rattle.core_law.specs.Logic.{heap_of}
-use Rattle.core_law.specs.Reached.{Comes}
+use Rattle.core_law.specs.Reached.{IsReachable}
 use Rattle.core_law.specs.WholeLaw.{LawsHold}
 use Rattle.core_law.proofs.Lawful.{sound_rests}
 use Rattle.core_steps.proofs.ReachedWorlds.{reached_worlds_sound, reached_worlds_valid}
 use Rattle.heap_table.specs.Resting.{start_now}
-use Rattle.heap_table.specs.Ruled.{known_behind}
+use Rattle.heap_table.specs.Ruled.{known_after_steps}
 use Rattle.heap_table.specs.Seen.{HeapSeen, PassSeen}
 use Rattle.thread_calls.specs.Advances.{RanFrom, PendedIn}
 use Rattle.thread_interp.specs.declared.moved.Moved.{Moved}
@@ -46,7 +47,8 @@ use Rattle.solo_progress.proofs.Laws.{exits, hashes, notifies, notify_alls, wait
 use Rattle.solo_progress.proofs.Mids.{moved_comes}
 use Rattle.turn_progress.specs.Barred.{Bars, WaitBars, IsBarred}
 use Rattle.turn_progress.specs.Turns.{OthersStand, TurnAlone}
-use Rattle.turn_progress.proofs.Calls.{second, first_of_two, might_begin, others_on, left_alone, operates, unasked_fits, no_requester, CallAlone, says_so, ReadyAlone, ready_alone}
+use Rattle.turn_progress.proofs.Calls.{second, first_of_two, might_begin, others_on, left_alone, operates}
+use Rattle.turn_progress.proofs.Calls.{unasked_fits, no_requester, CallAlone, says_so, ReadyAlone, ready_alone}
 use Rattle.turn_progress.proofs.Steps.{same_heap, along_thread, known_by_steps, moved_steps, IsCut, cut_at}
 
 -- THE TREES of the calls that may be pending
@@ -79,35 +81,36 @@ module _ (s : Shape) (k : Start) where
   unfolding steps_of
   dump_is = refl
 
-  poll_is : steps_of s task.Poll k ≡ (poll_steps (side_purpose task.Poll k) >>= end)
+  poll_is : steps_of s task.Poll k ≡ (poll_steps (side_context task.Poll k) >>= end)
   unfolding steps_of
   poll_is = refl
 
-  resume_is : steps_of s task.Resume k ≡ (resume_steps (side_purpose task.Resume k) k.local >>= end)
+  resume_is : steps_of s task.Resume k ≡ (resume_steps (side_context task.Resume k) k.local >>= end)
   unfolding steps_of
   resume_is = refl
 
--- ONE PASS BEHIND ANOTHER
-record IsBehind (p q : PassSeen) : Type 0 where
+-- ONE PASS AFTER ANOTHER
+record IsAfter (p q : PassSeen) : Type 0 where
   steps : List StepMade
   added : q.known.steps ≡ steps ++ p.known.steps
   thread : q.known.thread ≡ p.known.thread
 
-ran_behind : {A : Type 0} (h : HeapSeen) (d : Todo A) (p q : PassSeen) (a : A) → RanFrom h d p q a → IsBehind p q
-ran_behind h d p q a ran =
+ran_after : {A : Type 0} (h : HeapSeen) (d : StepTree A) (p q : PassSeen) (a : A) → RanFrom h d p q a → IsAfter p q
+ran_after h d p q a ran =
     let f = knows ran in
     record {
       steps = f.steps;
       added = f.added;
-      thread = ap (λ (k : Known). k.thread) f.known ∙ along_thread h.heap.shape h.heap.start f.steps p.known;
+      thread = ap (λ (k : ThreadView). k.thread) f.known ∙ along_thread h.heap.shape h.heap.start f.steps p.known;
     }
 
-stop_behind : (h : HeapSeen) (b : Bool) (p q : PassSeen) → IsSetStill b h p q → IsBehind p q
-stop_behind h true p q ran = ran_behind h (stop_steps (side_purpose task.Stop (start_now h p)) (start_now h p).local) p q tt ran
-stop_behind h false p q same = record { steps = []; added = ap (λ (x : PassSeen). x.known.steps) same; thread = ap (λ (x : PassSeen). x.known.thread) same }
+stop_after : (h : HeapSeen) (b : Bool) (p q : PassSeen) → IsSetStill b h p q → IsAfter p q
+stop_after h true p q ran = ran_after h (stop_steps (side_context task.Stop (start_now h p)) (start_now h p).local) p q tt ran
+stop_after h false p q same = record { steps = []; added = ap (λ (x : PassSeen). x.known.steps) same; thread = ap (λ (x : PassSeen). x.known.thread) same }
 
 -- THE TURN, which was blocked
-module _ (h : HeapSeen) (quantum t : ℕ) (w v : World) (r q : RunnerSeen) (m : Moved) (why : Why) (limits : IsInLimits h.heap.shape) (c : Comes h.heap w)
+module _ (h : HeapSeen) (quantum t : ℕ) (w v : World) (r q : RunnerSeen) (m : Moved)
+    (why : PendingCause) (limits : IsInLimits h.heap.shape) (c : IsReachable h.heap w)
     (o : OthersStand w t) (turn : TurnAlone h quantum t w r v q m) (blocked : m.state ≡ Blocked why) where
   last : LastCall (PendedIn h why) h r.pass q.pass
   last = (subst (IsState h quantum m.instructions r.pass q) blocked turn.moved.state).1
@@ -115,35 +118,35 @@ module _ (h : HeapSeen) (quantum t : ℕ) (w v : World) (r q : RunnerSeen) (m : 
   abbrev before : PassSeen
   before = last.called.before
 
-  abbrev behind : PassSeen
-  behind = last.behind
+  abbrev after : PassSeen
+  after = last.after
 
-  stop : IsBehind behind q.pass
-  stop = stop_behind h behind.known.running behind q.pass last.still
+  stop : IsAfter after q.pass
+  stop = stop_after h after.known.running after q.pass last.still
 
-  comes_after : Comes h.heap v
+  comes_after : IsReachable h.heap v
   comes_after = moved_comes h.heap w t turn.steps v o.within c turn.moves
 
   numbered : q.pass.known.thread ≡ t
   numbered =
-      ap (λ (k : Known). k.thread) (sym turn.knows ∙ known_by_steps h.heap v t comes_after)
+      ap (λ (k : ThreadView). k.thread) (sym turn.knows ∙ known_by_steps h.heap v t comes_after)
       ∙ along_thread h.heap.shape h.heap.start (v.known t).steps _
 
   -- its last call, in the world in which that began
-  record Begun {A : Type 0} (job : Task) (d : Shape → Start → Todo A) (a : A) : Type 0 where
+  record Begun {A : Type 0} (job : HeapCall) (d : Shape → Start → StepTree A) (a : A) : Type 0 where
     steps : List StepMade
     world : World
     moves : Moves w t steps world
     alone : CallAlone h.heap world t job (d world.shape (start_in world t)) a
 
-  module _ {A : Type 0} (job : Task) (d : Shape → Start → Todo A) (a : A) (is : (s : Shape) (k : Start) → steps_of s job k ≡ (d s k >>= end))
-      (ran : RanFrom h (d h.heap.shape (start_now h before)) before behind a) where
-    f : Follows h.heap.shape h.heap.start (d h.heap.shape (start_now h before)) before.known behind.known a
+  module _ {A : Type 0} (job : HeapCall) (d : Shape → Start → StepTree A) (a : A) (is : (s : Shape) (k : Start) → steps_of s job k ≡ (d s k >>= end))
+      (ran : RanFrom h (d h.heap.shape (start_now h before)) before after a) where
+    f : FollowsTree h.heap.shape h.heap.start (d h.heap.shape (start_now h before)) before.known after.known a
     f = knows ran
 
     thread_is : before.known.thread ≡ t
     thread_is =
-        let b = ran_behind h (d h.heap.shape (start_now h before)) before behind a ran in
+        let b = ran_after h (d h.heap.shape (start_now h before)) before after a ran in
         sym b.thread ∙ sym stop.thread ∙ numbered
 
     some : 1 ≤ length f.steps
@@ -161,9 +164,9 @@ module _ (h : HeapSeen) (quantum t : ℕ) (w v : World) (r q : RunnerSeen) (m : 
     in_order : turn.steps ≡ stop.steps ++ (f.steps ++ earlier)
     in_order =
         append_cancel_right turn.steps (stop.steps ++ (f.steps ++ earlier)) own
-        (ap (λ (k : Known). turn.steps ++ k.steps) (sym turn.knew)
+        (ap (λ (k : ThreadView). turn.steps ++ k.steps) (sym turn.knew)
         ∙ sym (moved_steps w t turn.steps v turn.moves)
-        ∙ ap (λ (k : Known). k.steps) turn.knows
+        ∙ ap (λ (k : ThreadView). k.steps) turn.knows
         ∙ stop.added
         ∙ ap (λ (l : List StepMade). stop.steps ++ l) (f.added ∙ ap (λ (l : List StepMade). f.steps ++ l) last.called.begun
         ∙ sym (append_assoc f.steps earlier own))
@@ -178,7 +181,7 @@ module _ (h : HeapSeen) (quantum t : ℕ) (w v : World) (r q : RunnerSeen) (m : 
     abbrev x : World
     x = call_cut.mid
 
-    comes_x : Comes h.heap x
+    comes_x : IsReachable h.heap x
     comes_x = moved_comes h.heap w t earlier x o.within c call_cut.first
 
     is_x : heap_of x ≡ h.heap
@@ -187,9 +190,9 @@ module _ (h : HeapSeen) (quantum t : ℕ) (w v : World) (r q : RunnerSeen) (m : 
     knew_x : x.known t ≡ before.known
     knew_x =
         let same : (x.known t).steps ≡ before.known.steps =
-        moved_steps w t earlier x call_cut.first ∙ ap (λ (k : Known). earlier ++ k.steps) turn.knew ∙ sym last.called.begun in
+        moved_steps w t earlier x call_cut.first ∙ ap (λ (k : ThreadView). earlier ++ k.steps) turn.knew ∙ sym last.called.begun in
         known_by_steps h.heap x t comes_x
-        ∙ (λ i. known_behind h.heap (sym thread_is i) (same i))
+        ∙ (λ i. known_after_steps h.heap (sym thread_is i) (same i))
         ∙ sym last.called.rests.is_of.real.is
 
     path_x : IsPath (d x.shape (start_in x t)) [] f.steps a
@@ -229,7 +232,7 @@ module _ (h : HeapSeen) (quantum t : ℕ) (w v : World) (r q : RunnerSeen) (m : 
         }
 
   -- where its thread runs or asks it is ready; and what its law says, it answered
-  module _ {A : Type 0} {job : Task} {d : Shape → Start → Todo A} {a : A} (b : Begun job d a) where
+  module _ {A : Type 0} {job : HeapCall} {d : Shape → Start → StepTree A} {a : A} (b : Begun job d a) where
     ready : ((b.world.known t).running || (b.world.known t).requesting) ≡ true → ReadyAlone h.heap b.world t job
     ready goes = ready_alone h.heap b.world t job b.alone.call (left_alone b.world t b.alone.others b.alone.rest goes)
 
@@ -285,7 +288,7 @@ module _ (h : HeapSeen) (quantum t : ℕ) (w v : World) (r q : RunnerSeen) (m : 
   wait_barred : (o now : ℕ) → Begun (task.Wait o now) (λ s k. wait_steps s k o now) (Ok (Pending why)) → IsBarred w t why
   wait_barred o now b = told b y.objects y.ready.history (by_word (waits_on (b.world.known t).wait o) refl)
     where
-      k : Known
+      k : ThreadView
       k = b.world.known t
 
       y : ReadyAlone h.heap b.world t (task.Wait o now)
@@ -311,7 +314,7 @@ module _ (h : HeapSeen) (quantum t : ℕ) (w v : World) (r q : RunnerSeen) (m : 
           (waits_again h.heap b.world y.objects t o now y.ready is)).1
 
   -- a poll finds no requester, since nobody asks
-  poll_barred : Begun task.Poll (λ s k. poll_steps (side_purpose task.Poll k)) (Pending why) → IsBarred w t why
+  poll_barred : Begun task.Poll (λ s k. poll_steps (side_context task.Poll k)) (Pending why) → IsBarred w t why
   poll_barred b =
       let runs : (b.world.known t).running ≡ true = b.alone.call.may in
       let free = unless_runs (b.world.known t).requesting runs b.alone.rest.stopped in
@@ -326,7 +329,7 @@ module _ (h : HeapSeen) (quantum t : ℕ) (w v : World) (r q : RunnerSeen) (m : 
       unless_runs false runs stopped = refl
 
   -- nor does a resume
-  resume_barred : Begun task.Resume (λ s k. resume_steps (side_purpose task.Resume k) k.local) (Pending why) → IsBarred w t why
+  resume_barred : Begun task.Resume (λ s k. resume_steps (side_context task.Resume k) k.local) (Pending why) → IsBarred w t why
   resume_barred b =
       let free = not_false (b.world.known t).requesting
       (second (not (b.world.known t).running) (not (b.world.known t).requesting) b.alone.call.may) in
@@ -345,7 +348,7 @@ module _ (h : HeapSeen) (quantum t : ℕ) (w v : World) (r q : RunnerSeen) (m : 
       the_first true asked either none = refl
       the_first false asked either none = absurd (true≢false (sym either ∙ none))
 
-  barred : (job : Task) → PendedIn h why before behind job → IsBarred w t why
+  barred : (job : HeapCall) → PendedIn h why before after job → IsBarred w t why
   barred (task.Enter o now) ran =
       enter_barred o now (begun (task.Enter o now) (λ s k. enter_steps s k o now) (Ok (Pending why)) (λ s k. enter_is s k o now) ran)
   barred (task.Exit o) ran = exit_barred o (begun (task.Exit o) (λ s k. exit_steps k o) (Ok (Pending why)) (λ s k. exit_is s k o) ran)
@@ -359,9 +362,9 @@ module _ (h : HeapSeen) (quantum t : ℕ) (w v : World) (r q : RunnerSeen) (m : 
   barred (task.Hash o now) ran =
       hash_barred o now (begun (task.Hash o now) (λ s k. hash_steps s k o now) (Pending why) (λ s k. hash_is s k o now) ran)
   barred task.Dump ran = dump_barred (begun task.Dump (λ s k. dump_steps s k) (Ok (Pending why)) dump_is ran)
-  barred task.Poll ran = poll_barred (begun task.Poll (λ s k. poll_steps (side_purpose task.Poll k)) (Pending why) poll_is ran)
+  barred task.Poll ran = poll_barred (begun task.Poll (λ s k. poll_steps (side_context task.Poll k)) (Pending why) poll_is ran)
   barred task.Resume ran =
-      resume_barred (begun task.Resume (λ s k. resume_steps (side_purpose task.Resume k) k.local) (Pending why) resume_is ran)
+      resume_barred (begun task.Resume (λ s k. resume_steps (side_context task.Resume k) k.local) (Pending why) resume_is ran)
   barred job ran = absurd ran
 
   pub blocked_barred : IsBarred w t why

@@ -1,33 +1,34 @@
 -- A call that a thread made alone, from a world to which a heap comes: it might begin there, and its answer is the one that such a call has.
-use Rattle.std.proofs.Common.{◌≡◌, ℕ, ◌<◌, ◌≤◌, ◌&&◌, ◌||◌, cond, not, nat_lt, Bool, true, false, List, [], length, Option, Some, None, refl, sym, ap, ◌∙◌, subst, arith, inl, inr, eq-eqb, is_some}
+use Rattle.std.proofs.Common.{◌≡◌, ℕ, ◌<◌, ◌≤◌, ◌&&◌, ◌||◌, cond, not, nat_lt, Bool, true, false, List, [], length}
+use Rattle.std.proofs.Common.{Option, Some, None, refl, sym, ap, ◌∙◌, subst, arith, inl, inr, eq-eqb, is_some}
 use Rattle.plain_monitor.specs.Monitor.{is_thread}
 use Rattle.plain_monitor.specs.Objects.{PlainObject}
-use Rattle.core_world.specs.declared.name.Name.TheVariants.{Safepoint}
+use Rattle.core_world.specs.declared.word_id.WordId.TheVariants.{Safepoint}
 use Rattle.core_world.specs.declared.plan.StepPlan.{StepPlan}
-use Rattle.core_world.specs.declared.task.Task.{Task}
+use Rattle.core_world.specs.declared.heap_call.HeapCall.{HeapCall}
 use Rattle.core_world.specs.Due.{IsNext, steps_due}
 use Rattle.core_world.specs.Clauses.Lengths.{log_limit}
 use Rattle.core_world.specs.Clauses.Safepoints.{ends}
 use Rattle.core_world.specs.Steps.{is_idle, rest_of_call}
 use Rattle.core_world.specs.Threads.AtRest.{AtRest}
-use Rattle.core_world.specs.Threads.Known.{Known, StepMade}
+use Rattle.core_world.specs.Threads.ThreadView.{ThreadView, StepMade}
 use Rattle.core_world.specs.Threads.Stages.{is_calm}
 use Rattle.core_world.specs.Trees.Calls.{steps_of, may_begin, may_operate, is_free_for, end}
 use Rattle.core_world.specs.Trees.SafepointSteps.{has_requester}
-use Rattle.core_world.specs.Trees.Todo.{Todo, done, never, step, ◌>>=◌, head}
+use Rattle.core_world.specs.Trees.StepTree.{StepTree, done, unreachable, step, ◌>>=◌, head}
 use Rattle.core_world.specs.Valid.{Fits, IsValid}
 use Rattle.core_world.specs.Words.Forms.{requester_in}
 use Rattle.core_world.specs.Words.Shape.{Shape}
 use Rattle.core_world.specs.World.{World}
 use Rattle.core_world.proofs.KnowledgeParts.{by_equal}
-use Rattle.core_world.proofs.LookWhileRevoking.{forgotten}
+use Rattle.core_world.proofs.bias.LookWhileRevoking.{forgotten}
 use Rattle.core_calls.specs.Paths.{IsPath}
 use Rattle.core_calls.proofs.Named.{Named}
 use Rattle.core_calls.proofs.NamedCalls.{call_named}
 use Rattle.core_law.specs.Logic.{Heap}
 use Rattle.core_law.specs.WholeLaw.{LawsHold}
 use Rattle.core_steps.proofs.ReachedWorlds.{reached_worlds_valid}
-use Rattle.solo_progress.specs.LeftAlone.{IsLeftAlone, IsReady, MayCall, start_in}
+use Rattle.solo_progress.specs.LeftAlone.{IsLeftAlone, MayCallAlone, MayCall, start_in}
 use Rattle.solo_progress.specs.Moves.{Moves, GetsThrough}
 use Rattle.solo_progress.proofs.Mids.{went}
 use Rattle.solo_progress.proofs.Runs.{moves_found}
@@ -44,7 +45,7 @@ first_of_two true b h = refl
 first_of_two false b h = absurd (cc h)
 
 -- WHAT MAY BEGIN. A thread in the middle of nothing that makes the steps of a call might begin it.
-module _ (w : World) (t : ℕ) (job : Task) {A : Type 0} (d : Todo A) (made : List StepMade) (last : World) (a : A)
+module _ (w : World) (t : ℕ) (job : HeapCall) {A : Type 0} (d : StepTree A) (made : List StepMade) (last : World) (a : A)
     (idle : is_idle w.shape (w.known t) ≡ true) (is : steps_of w.shape job (start_in w t) ≡ (d >>= end)) (path : IsPath d [] made a)
     (moved : Moves w t made last) (some : 1 ≤ length made) where
   first : IsFirst w t made
@@ -53,27 +54,27 @@ module _ (w : World) (t : ℕ) (job : Task) {A : Type 0} (d : Todo A) (made : Li
   its_task : first.plan.task ≡ job
   its_task = by_tree d is path
     where
-      by_tree : (x : Todo A) → steps_of w.shape job (start_in w t) ≡ (x >>= end) → IsPath x [] made a → first.plan.task ≡ job
+      by_tree : (x : StepTree A) → steps_of w.shape job (start_in w t) ≡ (x >>= end) → IsPath x [] made a → first.plan.task ≡ job
       by_tree (done b) same walked = let none = ap length walked.0 in absurd (omega (arith, none, some))
-      by_tree never same walked = absurd walked
+      by_tree unreachable same walked = absurd walked
       by_tree (step p f) same walked =
           let named : Named job (step p f >>= end) = subst (Named job) same (call_named w.shape job (start_in w t)) in
           ap (λ (x : StepPlan). x.task) (sym (path_first p f made a first.plan (w.words first.plan.at) walked first.is)) ∙ named.by.0.call
 
-  due_may : (b : Bool) (x : Todo (Unit {0})) (p : StepPlan) → head (cond b x never) ≡ Some p → b ≡ true
+  due_may : (b : Bool) (x : StepTree (Unit {0})) (p : StepPlan) → head (cond b x unreachable) ≡ Some p → b ≡ true
   due_may true x p h = refl
   due_may false x p h = absurd (cc h)
 
   pub might_begin : may_begin w.shape w.biasing (w.known t) job ≡ true
   unfolding steps_due
   might_begin =
-      let k : Known = w.known t in
+      let k : ThreadView = w.known t in
       let next : IsNext w.shape w.start w.biasing k first.plan = first.next in
-      let begun : head (cond (is_calm k.stage && may_begin w.shape w.biasing k first.plan.task) (steps_of w.shape first.plan.task (start_in w t)) never)
+      let begun : head (cond (is_calm k.stage && may_begin w.shape w.biasing k first.plan.task) (steps_of w.shape first.plan.task (start_in w t)) unreachable)
       ≡ Some first.plan =
       ap (λ (z : Bool). head (cond z (cond (is_calm k.stage && may_begin w.shape w.biasing k first.plan.task)
-      (steps_of w.shape first.plan.task (start_in w t)) never) (rest_of_call w.shape k))) (sym idle) ∙ next in
-      subst (λ (x : Task). may_begin w.shape w.biasing k x ≡ true) its_task
+      (steps_of w.shape first.plan.task (start_in w t)) unreachable) (rest_of_call w.shape k))) (sym idle) ∙ next in
+      subst (λ (x : HeapCall). may_begin w.shape w.biasing k x ≡ true) its_task
       (second (is_calm k.stage) (may_begin w.shape w.biasing k first.plan.task)
       (due_may (is_calm k.stage && may_begin w.shape w.biasing k first.plan.task) (steps_of w.shape first.plan.task (start_in w t)) first.plan begun))
 
@@ -83,8 +84,8 @@ others_on w t ms v m o =
     let g = went w t ms v m in
     record {
       within = subst (λ (s : Shape). t < s.threads) (sym g.shape) o.within;
-      stopped = λ u d. ap (λ (k : Known). k.running) (g.others u d) ∙ o.stopped u d;
-      unasked = λ u d. ap (λ (k : Known). k.requesting) (g.others u d) ∙ o.unasked u d;
+      stopped = λ u d. ap (λ (k : ThreadView). k.running) (g.others u d) ∙ o.stopped u d;
+      unasked = λ u d. ap (λ (k : ThreadView). k.requesting) (g.others u d) ∙ o.unasked u d;
     }
 
 -- A thread at rest that runs or asks is left alone there.
@@ -106,7 +107,7 @@ left_alone w t o rest goes =
     }
 
 -- an operation begins where its thread runs or asks
-pub operates : (k : Known) (going : Bool) → may_operate k going ≡ true → (k.running || k.requesting) ≡ true
+pub operates : (k : ThreadView) (going : Bool) → may_operate k going ≡ true → (k.running || k.requesting) ≡ true
 operates k going h =
     by_tests k.checking k.running k.requesting going (is_free_for k going) (not (ends k.log)) (nat_lt (length k.log) log_limit) h
   where
@@ -126,7 +127,7 @@ module _ (w : World) (P : List PlainObject) (t : ℕ) (o : OthersStand w t) (fre
   unasked_fits valid = elim valid [
     | inl fits ↦ fits
     | inr s ↦
-        let reached : (w.known s.requester).reached ≡ true = ap (λ (k : Known). k.reached) s.knows ∙ s.reached in
+        let reached : (w.known s.requester).reached ≡ true = ap (λ (k : ThreadView). k.reached) s.knows ∙ s.reached in
         let asks = (s.safe.safepoint s.requester reached).0 in
         let none = nobody_asks s.requester in
         absurd (cc (none, asks))
@@ -143,7 +144,7 @@ module _ (w : World) (P : List PlainObject) (t : ℕ) (o : OthersStand w t) (fre
           absurd (cc (asks, told))
 
 -- A CALL MADE ALONE, begun in this world.
-pub record CallAlone {A : Type 0} (heap : Heap) (w : World) (t : ℕ) (job : Task) (d : Todo A) (a : A) : Type 0 where
+pub record CallAlone {A : Type 0} (heap : Heap) (w : World) (t : ℕ) (job : HeapCall) (d : StepTree A) (a : A) : Type 0 where
   pub call : MayCall heap w t job
   pub others : OthersStand w t
   pub rest : AtRest w.shape (w.known t)
@@ -153,7 +154,7 @@ pub record CallAlone {A : Type 0} (heap : Heap) (w : World) (t : ℕ) (job : Tas
   pub path : IsPath d [] made a
 
 -- what is shown of such calls is so of this one, since there is but one run
-pub says_so : {A : Type 0} (heap : Heap) (w : World) (t : ℕ) (job : Task) (d : Todo A) (a : A) (P : A → Type 0) → CallAlone heap w t job d a
+pub says_so : {A : Type 0} (heap : Heap) (w : World) (t : ℕ) (job : HeapCall) (d : StepTree A) (a : A) (P : A → Type 0) → CallAlone heap w t job d a
     → GetsThrough heap w t job d P → P a
 says_so heap w t job d a P c g =
     subst P
@@ -161,11 +162,11 @@ says_so heap w t job d a P c g =
     (moves_found w t c.made c.last c.moved).found) g.says
 
 -- its plain objects, where its thread runs or asks
-pub record ReadyAlone (heap : Heap) (w : World) (t : ℕ) (job : Task) : Type 0 where
+pub record ReadyAlone (heap : Heap) (w : World) (t : ℕ) (job : HeapCall) : Type 0 where
   pub objects : List PlainObject
-  pub ready : IsReady heap w objects t job
+  pub ready : MayCallAlone heap w objects t job
 
-pub ready_alone : (heap : Heap) (w : World) (t : ℕ) (job : Task) → MayCall heap w t job → IsLeftAlone w t → ReadyAlone heap w t job
+pub ready_alone : (heap : Heap) (w : World) (t : ℕ) (job : HeapCall) → MayCall heap w t job → IsLeftAlone w t → ReadyAlone heap w t job
 ready_alone heap w t job call alone =
     let v = reached_worlds_valid heap w call.limits call.reached in
     let fits = alone_fits w v.objects t alone (forgotten LawsHold w v.objects v.is) in

@@ -1,19 +1,20 @@
 -- Runs of one thread by their steps: where they are cut, what their first step is, and that its thread's knowledge is that of its steps.
-use Rattle.std.proofs.Common.{◌≡◌, ℕ, ◌≤◌, cond, Bool, true, false, List, [], ◌∷◌, ◌++◌, length, Option, Some, None, refl, sym, ap, ◌∙◌, subst, arith, append_assoc}
-use Rattle.core_world.specs.declared.name.Name.{Name}
+use Rattle.std.proofs.Common.{◌≡◌, ℕ, ◌≤◌, cond, Bool, true, false, List, [], ◌∷◌, ◌++◌, length}
+use Rattle.std.proofs.Common.{Option, Some, None, refl, sym, ap, ◌∙◌, subst, arith, append_assoc}
+use Rattle.core_world.specs.declared.word_id.WordId.{WordId}
 use Rattle.core_world.specs.declared.plan.StepPlan.{StepPlan}
 use Rattle.core_world.specs.Due.{IsNext}
 use Rattle.core_world.specs.Steps.{known_after, known_hit, known_miss, known_along, world_after}
-use Rattle.core_world.specs.Threads.Known.{Known, StepMade}
-use Rattle.core_world.specs.Trees.Todo.{Todo, done, never, step}
+use Rattle.core_world.specs.Threads.ThreadView.{ThreadView, StepMade}
+use Rattle.core_world.specs.Trees.StepTree.{StepTree, done, unreachable, step}
 use Rattle.core_world.specs.Words.Acts.{hits}
 use Rattle.core_world.specs.Words.Shape.{Shape}
 use Rattle.core_world.specs.World.{World}
 use Rattle.core_world.proofs.KnowledgeParts.{by_equal, with_known_here, with_known_else}
 use Rattle.core_calls.specs.Paths.{made, IsPath}
 use Rattle.core_law.specs.Logic.{Heap, heap_of}
-use Rattle.core_law.specs.Reached.{Comes, opens, moves}
-use Rattle.heap_table.specs.Ruled.{known_behind}
+use Rattle.core_law.specs.Reached.{IsReachable, opens, moves}
+use Rattle.heap_table.specs.Ruled.{known_after_steps}
 use Rattle.heap_table.proofs.Knows.{same_thread}
 use Rattle.solo_progress.specs.Alone.{words_left, FoundAlone}
 use Rattle.solo_progress.specs.Moves.{Moves, stays, goes}
@@ -24,22 +25,22 @@ oldest [] = None
 oldest (m ∷ []) = Some m
 oldest (m ∷ l ∷ ms) = oldest (l ∷ ms)
 
-oldest_behind : (ms : List StepMade) (m : StepMade) → oldest (ms ++ m ∷ []) ≡ Some m
-oldest_behind [] m = refl
-oldest_behind (l ∷ []) m = refl
-oldest_behind (l ∷ k ∷ ms) m = oldest_behind (k ∷ ms) m
+oldest_after : (ms : List StepMade) (m : StepMade) → oldest (ms ++ m ∷ []) ≡ Some m
+oldest_after [] m = refl
+oldest_after (l ∷ []) m = refl
+oldest_after (l ∷ k ∷ ms) m = oldest_after (k ∷ ms) m
 
 -- THE HEAP
-pub same_heap : (heap : Heap) (w : World) → Comes heap w → heap_of w ≡ heap
+pub same_heap : (heap : Heap) (w : World) → IsReachable heap w → heap_of w ≡ heap
 same_heap heap w opens = refl
 same_heap heap w (moves v t p before within next) = same_heap heap v before
 
 -- KNOWLEDGE
-pub along_thread : (s : Shape) (start : ℕ) (ms : List StepMade) (k : Known) → (known_along s start ms k).thread ≡ k.thread
+pub along_thread : (s : Shape) (start : ℕ) (ms : List StepMade) (k : ThreadView) → (known_along s start ms k).thread ≡ k.thread
 along_thread s start [] k = refl
 along_thread s start (m ∷ ms) k = same_thread s start m.plan m.found (known_along s start ms k) ∙ along_thread s start ms k
 
-one_more : (s : Shape) (start : ℕ) (p : StepPlan) (n : ℕ) (k : Known) → (known_after s start p n k).steps ≡ made p n ∷ k.steps
+one_more : (s : Shape) (start : ℕ) (p : StepPlan) (n : ℕ) (k : ThreadView) → (known_after s start p n k).steps ≡ made p n ∷ k.steps
 one_more s start p n k = cases (hits p.act n)
   where
     cases : (b : Bool) → (cond b (known_hit s start p n k) (known_miss s start p n k)).steps ≡ made p n ∷ k.steps
@@ -47,36 +48,36 @@ one_more s start p n k = cases (hits p.act n)
     cases false = refl
 
 -- what a thread knows in a world to which a heap comes is what its steps there told it
-pub known_by_steps : (heap : Heap) (w : World) (t : ℕ) → Comes heap w → w.known t ≡ known_behind heap t (w.known t).steps
+pub known_by_steps : (heap : Heap) (w : World) (t : ℕ) → IsReachable heap w → w.known t ≡ known_after_steps heap t (w.known t).steps
 known_by_steps heap w t opens = refl
 known_by_steps heap w t (moves v u p before within next) =
     by_equal t u
-    (λ e. subst (λ (l : Known). l ≡ known_behind heap t l.steps) (sym (ap (world_after p u v).known e ∙ with_known_here u k v.known))
+    (λ e. subst (λ (l : ThreadView). l ≡ known_after_steps heap t l.steps) (sym (ap (world_after p u v).known e ∙ with_known_here u k v.known))
     (here e (known_by_steps heap v t before)))
-    (λ d. subst (λ (l : Known). l ≡ known_behind heap t l.steps) (sym (with_known_else u k v.known t d)) (known_by_steps heap v t before))
+    (λ d. subst (λ (l : ThreadView). l ≡ known_after_steps heap t l.steps) (sym (with_known_else u k v.known t d)) (known_by_steps heap v t before))
   where
-    k : Known
+    k : ThreadView
     k = known_after v.shape v.start p (v.words p.at) (v.known u)
 
     is_of : heap_of v ≡ heap
     is_of = same_heap heap v before
 
-    here : t ≡ u → v.known t ≡ known_behind heap t (v.known t).steps → k ≡ known_behind heap t k.steps
+    here : t ≡ u → v.known t ≡ known_after_steps heap t (v.known t).steps → k ≡ known_after_steps heap t k.steps
     here e known =
-        let was : v.known u ≡ known_behind heap t (v.known u).steps =
-        ap (λ i. v.known i) (sym e) ∙ known ∙ ap (λ i. known_behind heap t (v.known i).steps) e in
+        let was : v.known u ≡ known_after_steps heap t (v.known u).steps =
+        ap (λ i. v.known i) (sym e) ∙ known ∙ ap (λ i. known_after_steps heap t (v.known i).steps) e in
         (λ i. known_after (is_of i).shape (is_of i).start p (v.words p.at) (was i))
-        ∙ ap (known_behind heap t) (sym (one_more v.shape v.start p (v.words p.at) (v.known u)))
+        ∙ ap (known_after_steps heap t) (sym (one_more v.shape v.start p (v.words p.at) (v.known u)))
 
 pub moved_steps : (w : World) (t : ℕ) (ms : List StepMade) (v : World) → Moves w t ms v → (v.known t).steps ≡ ms ++ (w.known t).steps
 moved_steps w t ms v stays = refl
 moved_steps w t ms v (goes ns x p before next) =
     let k = known_after x.shape x.start p (x.words p.at) (x.known t) in
-    ap (λ (l : Known). l.steps) (with_known_here t k x.known)
+    ap (λ (l : ThreadView). l.steps) (with_known_here t k x.known)
     ∙ one_more x.shape x.start p (x.words p.at) (x.known t)
     ∙ ap (λ (l : List StepMade). made p (x.words p.at) ∷ l) (moved_steps w t ns x before)
 
--- A RUN IS CUT behind its older steps.
+-- A RUN IS CUT after its older steps.
 pub record IsCut (w : World) (t : ℕ) (newer older : List StepMade) (v : World) : Type 0 where
   pub mid : World
   pub first : Moves w t older mid
@@ -113,30 +114,30 @@ record IsLonger (sofar ms : List StepMade) : Type 0 where
   more : List StepMade
   is : ms ≡ more ++ sofar
 
-path_longer : {A : Type 0} (d : Todo A) (sofar ms : List StepMade) (a : A) → IsPath d sofar ms a → IsLonger sofar ms
+path_longer : {A : Type 0} (d : StepTree A) (sofar ms : List StepMade) (a : A) → IsPath d sofar ms a → IsLonger sofar ms
 path_longer (done b) sofar ms a path = record { more = []; is = path.0 }
-path_longer never sofar ms a path = absurd path
+path_longer unreachable sofar ms a path = absurd path
 path_longer (step p f) sofar ms a path =
     let l = path_longer (f path.0) (made p path.0 ∷ sofar) ms a path.1 in
     record { more = l.more ++ made p path.0 ∷ []; is = l.is ∙ sym (append_assoc l.more (made p path.0 ∷ []) sofar) }
 
 -- and its first step is the tree's
-pub path_first : {A : Type 0} (p : StepPlan) (f : ℕ → Todo A) (ms : List StepMade) (a : A) (q : StepPlan) (n : ℕ) → IsPath (step p f) [] ms a
+pub path_first : {A : Type 0} (p : StepPlan) (f : ℕ → StepTree A) (ms : List StepMade) (a : A) (q : StepPlan) (n : ℕ) → IsPath (step p f) [] ms a
     → oldest ms ≡ Some (made q n) → p ≡ q
 path_first p f ms a q n path is =
     let l = path_longer (f path.0) (made p path.0 ∷ []) ms a path.1 in
-    let both : made p path.0 ≡ made q n = cc (sym (oldest_behind l.more (made p path.0)) ∙ ap oldest (sym l.is) ∙ is) in
+    let both : made p path.0 ≡ made q n = cc (sym (oldest_after l.more (made p path.0)) ∙ ap oldest (sym l.is) ∙ is) in
     ap (λ (m : StepMade). m.plan) both
 
 -- ONE ANSWER. Two paths through a tree whose steps found what the steps before them left of the same words are one.
-found_before : (f : Name → ℕ) (more ms : List StepMade) → FoundAlone f (more ++ ms) → FoundAlone f ms
+found_before : (f : WordId → ℕ) (more ms : List StepMade) → FoundAlone f (more ++ ms) → FoundAlone f ms
 found_before f [] ms found = found
 found_before f (m ∷ more) ms found = found_before f more ms found.1
 
-pub one_answer : {A : Type 0} (f : Name → ℕ) (d : Todo A) (sofar ms ns : List StepMade) (a b : A) → IsPath d sofar ms a → IsPath d sofar ns b
+pub one_answer : {A : Type 0} (f : WordId → ℕ) (d : StepTree A) (sofar ms ns : List StepMade) (a b : A) → IsPath d sofar ms a → IsPath d sofar ns b
     → FoundAlone f ms → FoundAlone f ns → a ≡ b
 one_answer f (done x) sofar ms ns a b path other found too = path.1 ∙ sym other.1
-one_answer f never sofar ms ns a b path other found too = absurd path
+one_answer f unreachable sofar ms ns a b path other found too = absurd path
 one_answer {A} f (step p g) sofar ms ns a b path other found too =
     one_answer f (g path.0) (made p path.0 ∷ sofar) ms ns a b path.1
     (subst (λ x. IsPath {A = A} (g x) (made p x ∷ sofar) ns b) (it_found ns b other.0 other.1 too ∙ sym (it_found ms a path.0 path.1 found)) other.1)

@@ -1,9 +1,9 @@
--- Turns one after the other: the live ones do their instructions, and behind these the thread ends or is barred.
+-- Turns one after the other: the live ones do their instructions, and after these the thread ends or is barred.
 use Rattle.std.proofs.Common.{◌≡◌, ◌⊎◌, ℕ, suc, ◌+◌, ◌*◌, ◌<◌, true, refl, subst, arith, inl, inr}
-use Rattle.core_world.specs.declared.answer.Why.{Why}
+use Rattle.core_world.specs.declared.answer.PendingCause.{PendingCause}
 use Rattle.core_world.specs.Words.Shape.{IsInLimits}
 use Rattle.core_world.specs.World.{World}
-use Rattle.core_law.specs.Reached.{Comes}
+use Rattle.core_law.specs.Reached.{IsReachable}
 use Rattle.heap_table.specs.Seen.{HeapSeen}
 use Rattle.thread_frame.specs.Frames.{unspent, has_ended}
 use Rattle.thread_interp.specs.declared.moved.Moved.{Moved}
@@ -21,7 +21,8 @@ use Rattle.turn_progress.proofs.Calls.{others_on}
 live_does : (h : HeapSeen) (quantum : ℕ) (r q : RunnerSeen) (m : Moved) → HasMoved h quantum r q m → m.state ≡ Live → m.instructions ≡ quantum
 live_does h quantum r q m moved live = (subst (IsState h quantum m.instructions r.pass q) live moved.state).0
 
-pub live_spend : (h : HeapSeen) (quantum : ℕ) (r : RunnerSeen) (n : ℕ) (q : RunnerSeen) → LiveTurns h quantum r n q → unspent r.frame ≡ unspent q.frame + n * quantum
+pub live_spend : (h : HeapSeen) (quantum : ℕ) (r : RunnerSeen) (n : ℕ) (q : RunnerSeen)
+    → LiveTurns h quantum r n q → unspent r.frame ≡ unspent q.frame + n * quantum
 live_spend h quantum r n q no_turn = omega arith
 live_spend h quantum r n z (one_more k q _ m before moved live) =
     let was = live_spend h quantum r k q before in
@@ -36,10 +37,10 @@ module _ (h : HeapSeen) (quantum t : ℕ) (w : World) (r : RunnerSeen) where
   alone_live n x z (one_more_alone k y v q _ m before turn live) = one_more k q z m (alone_live k y q before) turn.moved live
 
   record StandsOn (x : World) : Type 0 where
-    reached : Comes h.heap x
+    reached : IsReachable h.heap x
     others : OthersStand x t
 
-  stands_on : (n : ℕ) (x : World) (q : RunnerSeen) → Comes h.heap w → OthersStand w t → LiveAlone h quantum t w r n x q → StandsOn x
+  stands_on : (n : ℕ) (x : World) (q : RunnerSeen) → IsReachable h.heap w → OthersStand w t → LiveAlone h quantum t w r n x q → StandsOn x
   stands_on n x q c o no_turn_alone = record { reached = c; others = o }
   stands_on n x z c o (one_more_alone k y v q _ m before turn live) =
       let s = stands_on k y q c o before in
@@ -48,12 +49,12 @@ module _ (h : HeapSeen) (quantum t : ℕ) (w : World) (r : RunnerSeen) where
         others = others_on y t turn.steps x turn.moves s.others;
       }
 
-pub ends_or_barred : (h : HeapSeen) (quantum t n : ℕ) (w x v : World) (r q z : RunnerSeen) (m : Moved) → IsInLimits h.heap.shape → Comes h.heap w
+pub ends_or_barred : (h : HeapSeen) (quantum t n : ℕ) (w x v : World) (r q z : RunnerSeen) (m : Moved) → IsInLimits h.heap.shape → IsReachable h.heap w
     → OthersStand w t → LiveAlone h quantum t w r n x q → TurnAlone h quantum t x q v z m → unspent r.frame < n * quantum + quantum
-    → (has_ended z.frame ≡ true) ⊎ ((why : Why) × IsBarred x t why)
+    → (has_ended z.frame ≡ true) ⊎ ((why : PendingCause) × IsBarred x t why)
 ends_or_barred h quantum t n w x v r q z m limits c o before turn few = by_state m.state refl
   where
-    by_state : (state : RunState) → m.state ≡ state → (has_ended z.frame ≡ true) ⊎ ((why : Why) × IsBarred x t why)
+    by_state : (state : RunState) → m.state ≡ state → (has_ended z.frame ≡ true) ⊎ ((why : PendingCause) × IsBarred x t why)
     by_state Live is =
         let spent = live_spend h quantum r n q (alone_live h quantum t w r n x q before) in
         let did = live_does h quantum q z m turn.moved is in

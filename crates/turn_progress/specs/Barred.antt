@@ -3,26 +3,26 @@ use Rattle.std.specs.Prelude.{◌≡◌, ℕ, Bool, true, false, List, Some}
 use Rattle.plain_monitor.specs.History.{objects_after}
 use Rattle.plain_monitor.specs.Objects.{PlainObject}
 use Rattle.plain_monitor.specs.declared.entry.Path.{Path}
-use Rattle.core_world.specs.declared.answer.Turn.TheVariants.{Pending}
-use Rattle.core_world.specs.declared.answer.Why.{Why}
-use Rattle.core_world.specs.declared.name.Name.TheVariants.{Safepoint, Waiting}
-use Rattle.core_world.specs.declared.task.Task.{Task}
-use Rattle.core_world.specs.declared.task.Task.TheVariants as task
+use Rattle.core_world.specs.declared.answer.Progress.TheVariants.{Pending}
+use Rattle.core_world.specs.declared.answer.PendingCause.{PendingCause}
+use Rattle.core_world.specs.declared.word_id.WordId.TheVariants.{Safepoint, Waiting}
+use Rattle.core_world.specs.declared.heap_call.HeapCall.{HeapCall}
+use Rattle.core_world.specs.declared.heap_call.HeapCall.TheVariants as task
 use Rattle.core_world.specs.Locks.{monitor_of}
-use Rattle.core_world.specs.Threads.Known.{StepMade}
+use Rattle.core_world.specs.Threads.ThreadView.{StepMade}
 use Rattle.core_world.specs.Words.Forms.{waits_on, is_halted}
 use Rattle.core_world.specs.World.{World, logs}
 use Rattle.solo_progress.specs.Answers.{is_other, is_told, PendsWhere, WaitsWhere, LetsGo}
 use Rattle.solo_progress.specs.Moves.{Moves}
 
 -- Why a wait is pending: one that begins has let go, and is to be notified; and one that goes on wasn't notified, or another thread owns the object.
-abbrev pub WaitBars : Bool → Bool → Bool → Why → Type 0
+abbrev pub WaitBars : Bool → Bool → Bool → PendingCause → Type 0
 WaitBars false told owned why = LetsGo {A = Unit {0}} (Pending why)
 WaitBars true told owned why = WaitsWhere {A = Unit {0}} told owned (Pending why)
 
 -- Thread t's call in world w, with these plain objects, is pending for this: an enter since another thread owns the object, a wait for its notify or
 -- for the owner, and a resume since the run is halted. Nothing else is pending.
-abbrev pub Bars : World → List PlainObject → ℕ → Task → Why → Type 0
+abbrev pub Bars : World → List PlainObject → ℕ → HeapCall → PendingCause → Type 0
 Bars w objects t (task.Enter o now) why = PendsWhere {A = Path} (is_other (monitor_of objects o).owner t) (Pending why)
 Bars w objects t (task.Wait o now) why =
     WaitBars (waits_on (w.known t).wait o) (is_told (w.words (Waiting t))) (is_other (monitor_of objects o).owner t) why
@@ -30,12 +30,12 @@ Bars w objects t task.Resume why = is_halted (w.words Safepoint) ≡ true
 Bars w objects t task why = ⊥
 
 -- In the turn that thread t began in world w it came, alone, to a world in which it began a call that is pending for this.
-pub record IsBarred (w : World) (t : ℕ) (why : Why) : Type 0 where
+pub record IsBarred (w : World) (t : ℕ) (why : PendingCause) : Type 0 where
   pub steps : List StepMade
   pub world : World
   pub moves : Moves w t steps world
   -- the plain objects after the logs there
   pub objects : List PlainObject
   pub history : objects_after world.shape.objects (logs world) ≡ Some objects
-  pub task : Task
+  pub task : HeapCall
   pub bars : Bars world objects t task why

@@ -1,6 +1,6 @@
 -- Turns of a runner, one after the other.
 use Rattle.std.specs.Prelude.{◌≡◌, ◌≢◌, ℕ, zero, suc, ◌<◌, false, List}
-use Rattle.core_world.specs.Threads.Known.{StepMade}
+use Rattle.core_world.specs.Threads.ThreadView.{StepMade}
 use Rattle.core_world.specs.World.{World}
 use Rattle.heap_table.specs.Seen.{HeapSeen}
 use Rattle.solo_progress.specs.Moves.{Moves}

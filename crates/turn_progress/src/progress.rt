@@ -1,14 +1,14 @@
 //! The laws of turns.
 
 ghost use Rattle.std.specs.Prelude.{◌≡◌, ◌⊎◌, ℕ, ◌+◌, ◌*◌, ◌<◌, true};
-ghost use Rattle.core_world.specs.declared.answer.Turn.TheVariants.{Pending};
-ghost use Rattle.core_world.specs.declared.answer.Why.{Why};
-ghost use Rattle.core_world.specs.declared.name.Name.TheVariants.{Safepoint};
+ghost use Rattle.core_world.specs.declared.answer.Progress.TheVariants.{Pending};
+ghost use Rattle.core_world.specs.declared.answer.PendingCause.{PendingCause};
+ghost use Rattle.core_world.specs.declared.word_id.WordId.TheVariants.{Safepoint};
 ghost use Rattle.core_world.specs.Words.Forms.{is_halted};
 ghost use Rattle.core_world.specs.Words.Shape.{IsInLimits};
 ghost use Rattle.core_world.specs.World.{World};
 ghost use Rattle.core_law.specs.Logic.{Heap};
-ghost use Rattle.core_law.specs.Reached.{Comes};
+ghost use Rattle.core_law.specs.Reached.{IsReachable};
 ghost use Rattle.heap_table.specs.Seen.{HeapSeen};
 ghost use Rattle.solo_progress.specs.Answers.{LetsGo};
 ghost use Rattle.thread_frame.specs.Frames.{unspent, has_ended};
@@ -33,8 +33,8 @@ pub fn live_turns_do_their_instructions()
 /// call: an enter of an object that another thread owns, or a wait that wasn't notified, or whose object another
 /// thread owns.
 pub fn a_turn_left_alone_is_blocked_by_monitors_or_the_halt()
-    ensures { (h : HeapSeen) (quantum t : ℕ) (w v : World) (r q : RunnerSeen) (m : Moved) (why : Why)
-        → IsInLimits h.heap.shape → Comes h.heap w → OthersStand w t
+    ensures { (h : HeapSeen) (quantum t : ℕ) (w v : World) (r q : RunnerSeen) (m : Moved) (why : PendingCause)
+        → IsInLimits h.heap.shape → IsReachable h.heap w → OthersStand w t
         → TurnAlone h quantum t w r v q m → m.state ≡ Blocked why → IsBarred w t why }
 {}
 
@@ -43,21 +43,21 @@ pub fn a_turn_left_alone_is_blocked_by_monitors_or_the_halt()
 /// instructions than it has fuel left for, the next turn is its last, or is blocked so.
 pub fn a_thread_left_alone_ends_or_is_barred()
     ensures { (h : HeapSeen) (quantum t n : ℕ) (w x v : World) (r q z : RunnerSeen) (m : Moved)
-        → IsInLimits h.heap.shape → Comes h.heap w → OthersStand w t
+        → IsInLimits h.heap.shape → IsReachable h.heap w → OthersStand w t
         → LiveAlone h quantum t w r n x q → TurnAlone h quantum t x q v z m → unspent r.frame < n * quantum + quantum
-        → (has_ended z.frame ≡ true) ⊎ ((why : Why) × IsBarred x t why) }
+        → (has_ended z.frame ≡ true) ⊎ ((why : PendingCause) × IsBarred x t why) }
 {}
 
 /// In a heap of one thread all others stand still so in each world to which it comes: so these laws are of each run of such a heap.
 pub fn a_heap_of_one_thread_has_no_others()
-    ensures { (heap : Heap) (w : World) → heap.shape.threads ≡ 1 → Comes heap w → OthersStand w 0 }
+    ensures { (heap : Heap) (w : World) → heap.shape.threads ≡ 1 → IsReachable heap w → OthersStand w 0 }
 {}
 
 /// And there a turn is blocked by the halt, or for a notify of the thread's own wait, which no other thread is there to give, and by nothing
 /// else. So the thread of a program of one thread that doesn't wait, in a run that isn't halted, comes to its end within the turns that its
 /// fuel bounds, if it is given them.
 pub fn a_thread_by_itself_is_blocked_by_its_wait_or_the_halt()
-    ensures { (heap : Heap) (w : World) (why : Why) (b : IsBarred w 0 why) → IsInLimits heap.shape
-        → heap.shape.threads ≡ 1 → Comes heap w
+    ensures { (heap : Heap) (w : World) (why : PendingCause) (b : IsBarred w 0 why) → IsInLimits heap.shape
+        → heap.shape.threads ≡ 1 → IsReachable heap w
         → LetsGo {A = Unit {0}} (Pending why) ⊎ (is_halted (b.world.words Safepoint) ≡ true) }
 {}

@@ -1,10 +1,12 @@
 -- Who stands among those who wait or were called after a step on a plain monitor: a wait adds its own thread, a resume
 -- takes its own away, and every other step leaves all as they were.
-use Rattle.std.proofs.Common.{◌≡◌, ℕ, ◌+◌, ◌==◌, ◌&&◌, ◌||◌, ◌-◌, nat_le, not, eq-eqb, ne_eqb, cond, is_none, Bool, true, false, List, [], ◌∷◌, ◌++◌, Option, Some, None, refl, sym, ap, ◌∙◌, subst, arith, inl, inr}
+use Rattle.std.proofs.Common.{◌≡◌, ℕ, ◌+◌, ◌==◌, ◌&&◌, ◌||◌, ◌-◌, nat_le, not, eq-eqb, ne_eqb, cond, is_none, Bool, true}
+use Rattle.std.proofs.Common.{false, List, [], ◌∷◌, ◌++◌, Option, Some, None, refl, sym, ap, ◌∙◌, subst, arith, inl, inr}
 use Rattle.std.proofs.Math.Bool.{or-false, and-true, and-false}
 use Rattle.std.proofs.lemmas.Bool.{cases_eq}
 use Rattle.std.proofs.lemmas.Option.{cond_some, same_Some}
-use Rattle.plain_monitor.specs.Monitor.{PlainMonitor, only_if, owns, count_of, is_listed, without, is_outside, enter, exit, wait, resumed, resume, calls, notify, notify_all}
+use Rattle.plain_monitor.specs.Monitor.{PlainMonitor, only_if, owns, count_of, is_listed, without, is_outside}
+use Rattle.plain_monitor.specs.Monitor.{enter, exit, wait, resumed, resume, calls, notify, notify_all}
 use Rattle.plain_monitor.specs.Listed.{times_in}
 use Rattle.plain_history.specs.Sound.{IsSound}
 use Rattle.plain_history.proofs.HoldSteps.{one_if}

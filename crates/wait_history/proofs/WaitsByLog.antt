@@ -1,6 +1,7 @@
 -- After every history that the objects take, a thread stands among those who wait on an object or were called from it
 -- exactly where by its own log it waits there.
-use Rattle.std.proofs.Common.{◌≡◌, ℕ, zero, suc, ◌==◌, ◌&&◌, ◌||◌, not, eq-eqb, ne_eqb, cond, Bool, true, false, List, [], ◌∷◌, slice_get, slice_set, slice_index_or, Option, Some, None, refl, sym, ap, ◌∙◌, subst, inl, inr}
+use Rattle.std.proofs.Common.{◌≡◌, ℕ, zero, suc, ◌==◌, ◌&&◌, ◌||◌, not, eq-eqb, ne_eqb, cond, Bool, true, false, List, [], ◌∷◌}
+use Rattle.std.proofs.Common.{slice_get, slice_set, slice_index_or, Option, Some, None, refl, sym, ap, ◌∙◌, subst, inl, inr}
 use Rattle.std.proofs.Math.Bool.{or-true, or-false, and-true, and-false}
 use Rattle.std.proofs.lemmas.Bool.{cases_eq}
 use Rattle.std.proofs.lemmas.List.{get_or-set_same, get_or-set_other}

@@ -1,6 +1,6 @@
 //! Who waits on what, by the threads' own logs.
 //!
-//! A thread that has logged a Wait and not yet the Resume behind it stands among those who wait on the object or were called from it, in
+//! A thread that has logged a Wait and not yet the Resume after it stands among those who wait on the object or were called from it, in
 //! every legal history, and no other does. `specs/` has the definitions.
 #![tactic(auto)]
 

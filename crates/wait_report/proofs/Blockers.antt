@@ -1,13 +1,14 @@
 -- A thread is blocked by exactly the one that it waits for.
-use Rattle.std.proofs.Common.{◌≡◌, ◌≢◌, ℕ, ◌==◌, if◌then◌else◌, eqb-true, eq-eqb, Bool, true, false, length, slice_get, ◌<◌, Option, Some, None, option_and_then, refl, sym, ap, ◌∙◌, subst}
+use Rattle.std.proofs.Common.{◌≡◌, ◌≢◌, ℕ, ◌==◌, if◌then◌else◌, eqb-true, eq-eqb, Bool, true, false, length}
+use Rattle.std.proofs.Common.{slice_get, ◌<◌, Option, Some, None, option_and_then, refl, sym, ap, ◌∙◌, subst}
 use Rattle.std.proofs.lemmas.Option.{slice_get_within}
 use Rattle.plain_monitor.specs.declared.entry.Entry.{Entry}
 use Rattle.plain_monitor.specs.declared.entry.Entry.TheVariants.{Enter, Resume}
 use Rattle.plain_monitor.specs.declared.entry.Path.TheVariants.{StackFirst}
 use Rattle.plain_monitor.specs.Monitor.{is_thread, is_listed}
-use Rattle.plain_machine.specs.declared.call.Call.TheVariants as call
-use Rattle.plain_machine.specs.declared.call.Asked.{Asked}
-use Rattle.plain_machine.specs.declared.call.Asked.TheVariants.{Calls, Resumes, Leaves, Ends}
+use Rattle.plain_machine.specs.declared.monitor_call.MonitorCall.TheVariants as call
+use Rattle.plain_machine.specs.declared.monitor_call.NextEntry.{NextEntry}
+use Rattle.plain_machine.specs.declared.monitor_call.NextEntry.TheVariants.{Calls, Resumes, Leaves, Ends}
 use Rattle.plain_machine.specs.declared.offer.Offer.TheVariants.{Waiting}
 use Rattle.plain_machine.specs.Thread.{ThreadState}
 use Rattle.plain_machine.specs.Asking.{ask}
@@ -26,7 +27,8 @@ other_in None u w e = absurd (cc e)
 other_in (Some v) u w e = by_test (v == u) refl e where
   by_test : (b : Bool) → (v == u) ≡ b → (if b then None else Some v) ≡ Some w → IsOther (Some v) u w
   by_test true t e = absurd (cc e)
-  by_test false t e = let same : v ≡ w = cc e in record { owns = e; other = λ (h : w ≡ u). absurd (let own : (v == u) ≡ true = eq-eqb v u (same ∙ h) in cc (own, t)) }
+  by_test false t e = let same : v ≡ w = cc e in
+      record { owns = e; other = λ (h : w ≡ u). absurd (let own : (v == u) ≡ true = eq-eqb v u (same ∙ h) in cc (own, t)) }
 
 other_given : (owner : Option ℕ) (u w : ℕ) → owner ≡ Some w → w ≢ u → (if is_thread owner u then None else owner) ≡ Some w
 other_given None u w e d = absurd (cc e)
@@ -52,13 +54,14 @@ no_hash_block : (o : ℕ) (hash : Option ℕ) → blocker (hash_offer o hash) �
 no_hash_block o None = refl
 no_hash_block o (Some h) = refl
 
-asked_block : (m : PlainMachine) (u : ℕ) (a : Option Asked) (b : ℕ × ℕ) → blocker (asked_offer m u a) ≡ Some b → IsBlock m u (wish_of m u a) b
+asked_block : (m : PlainMachine) (u : ℕ) (a : Option NextEntry) (b : ℕ × ℕ) → blocker (asked_offer m u a) ≡ Some b → IsBlock m u (wish_of m u a) b
 asked_block m u None b h = absurd (cc h)
 asked_block m u (Some (Calls (call.Enter o))) b h = unless_block m u o (other_owner (monitor_at m o) u) (Enter o StackFirst) b refl h
 asked_block m u (Some (Calls (call.Hash x o))) b h = absurd (let none : None ≡ Some b = sym (no_hash_block o (object_at m o).hash) ∙ h in cc none)
 asked_block m u (Some (Calls c)) b h = absurd (cc h)
 asked_block m u (Some (Resumes o)) b h = by_test (is_listed (monitor_at m o).waits u) h where
-  by_test : (w : Bool) → blocker (if w then Waiting o else unless_owned o (other_owner (monitor_at m o) u) (Resume o)) ≡ Some b → IsBlock m u (if w then None else Some o) b
+  by_test : (w : Bool) → blocker (if w then Waiting o else unless_owned o (other_owner (monitor_at m o) u) (Resume o)) ≡ Some b
+      → IsBlock m u (if w then None else Some o) b
   by_test true h = absurd (cc h)
   by_test false h = unless_block m u o (other_owner (monitor_at m o) u) (Resume o) b refl h
 asked_block m u (Some (Leaves o)) b h = absurd (cc h)
@@ -75,7 +78,8 @@ unless_given : (o w : ℕ) (owner : Option ℕ) (e : Entry) → owner ≡ Some w
 unless_given o w None e h = absurd (cc h)
 unless_given o w (Some v) e h = let same : v ≡ w = cc h in ap (λ (x : ℕ). Some (o, x)) same
 
-asked_given : (m : PlainMachine) (u w o : ℕ) (a : Option Asked) → wish_of m u a ≡ Some o → other_owner (monitor_at m o) u ≡ Some w → blocker (asked_offer m u a) ≡ Some (o, w)
+asked_given : (m : PlainMachine) (u w o : ℕ) (a : Option NextEntry) → wish_of m u a ≡ Some o
+    → other_owner (monitor_at m o) u ≡ Some w → blocker (asked_offer m u a) ≡ Some (o, w)
 asked_given m u w o None e h = absurd (cc e)
 asked_given m u w o (Some (Calls (call.Enter k))) e h =
     let same : o ≡ k = cc e in
@@ -83,7 +87,8 @@ asked_given m u w o (Some (Calls (call.Enter k))) e h =
     subst P same (unless_given o w (other_owner (monitor_at m o) u) (Enter o StackFirst) h)
 asked_given m u w o (Some (Calls c)) e h = absurd (cc e)
 asked_given m u w o (Some (Resumes k)) e h = by_test (is_listed (monitor_at m k).waits u) e where
-  by_test : (l : Bool) → (if l then None else Some k) ≡ Some o → blocker (if l then Waiting k else unless_owned k (other_owner (monitor_at m k) u) (Resume k)) ≡ Some (o, w)
+  by_test : (l : Bool) → (if l then None else Some k) ≡ Some o
+      → blocker (if l then Waiting k else unless_owned k (other_owner (monitor_at m k) u) (Resume k)) ≡ Some (o, w)
   by_test true e = absurd (cc e)
   by_test false e =
       let same : o ≡ k = cc e in

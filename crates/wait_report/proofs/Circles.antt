@@ -1,5 +1,6 @@
 -- The cycles that are found are all cycles of the machine.
-use Rattle.std.proofs.Common.{◌≡◌, ◌≢◌, ℕ, zero, suc, ◌+◌, ◌<◌, ◌≤◌, eqb-true, ne_eqb, eqb, eq-eqb, Bool, true, false, List, [], ◌∷◌, ◌++◌, length, map, Option, Some, None, option_map, option_to_list, refl, sym, ap, ◌∙◌, subst, arith, ◌||◌}
+use Rattle.std.proofs.Common.{◌≡◌, ◌≢◌, ℕ, zero, suc, ◌+◌, ◌<◌, ◌≤◌, eqb-true, ne_eqb, eqb, eq-eqb, Bool, true, false, List, [], ◌∷◌, ◌++◌}
+use Rattle.std.proofs.Common.{length, map, Option, Some, None, option_map, option_to_list, refl, sym, ap, ◌∙◌, subst, arith, ◌||◌}
 use Rattle.std.specs.Prelude.{Contains}
 use Rattle.std.specs.List.{AllByRecursion, list_any, IsDistinct}
 use Rattle.std.proofs.lemmas.List.{length-map}
@@ -24,7 +25,8 @@ way_begins m first [] way = absurd way
 way_begins m first (x ∷ xs) way =
     let P : ℕ → Type 0 = λ f. IsWay m f x xs in
     let own : IsWay m x.thread x xs = subst P (sym way.0) way.1 in
-    let others : AllByRecursion (λ y. x.thread ≢ y.thread) xs = all_weaker (λ y. x.thread < y.thread) (λ y. x.thread ≢ y.thread) (λ y less. λ e. omega (arith, less)) xs own.above in
+    let others : AllByRecursion (λ y. x.thread ≢ y.thread) xs =
+    all_weaker (λ y. x.thread < y.thread) (λ y. x.thread ≢ y.thread) (λ y less. λ e. omega (arith, less)) xs own.above in
     record {
       cycle = record { linked = own.linked; least = own.above; distinct = (others, way_is_apart m x.thread xs own.linked.1 others) };
       at = way.0;
@@ -43,10 +45,14 @@ found_begins m n first c e = by_found (links_from m first n first) refl e where
 apart_threads : (xs : List Link) → AreApart xs → IsDistinct eqb (map (λ x. x.thread) xs)
 unfolding IsDistinct
 apart_threads [] h = tt
-apart_threads (x ∷ xs) h =
-    (all_map (λ (t : ℕ). eqb x.thread t ≡ false) (λ (y : Link). y.thread) xs (all_weaker (λ (y : Link). x.thread ≢ y.thread) (λ (y : Link). eqb x.thread y.thread ≡ false) (λ y d. ne_eqb x.thread y.thread d) xs h.0), apart_threads xs h.1)
+apart_threads (x ∷ xs) h = (
+  all_map (λ (t : ℕ). eqb x.thread t ≡ false) (λ (y : Link). y.thread) xs (all_weaker (λ (y : Link). x.thread ≢ y.thread)
+      (λ (y : Link). eqb x.thread y.thread ≡ false) (λ y d. ne_eqb x.thread y.thread d) xs h.0),
+  apart_threads xs h.1,
+)
 
-threads_within : (m : PlainMachine) (first : ℕ) (xs : List Link) (q : ℕ) → AreLinked m first xs → list_any (eqb q) (map (λ x. x.thread) xs) ≡ true → q < length m.threads
+threads_within : (m : PlainMachine) (first : ℕ) (xs : List Link) (q : ℕ) → AreLinked m first xs
+    → list_any (eqb q) (map (λ x. x.thread) xs) ≡ true → q < length m.threads
 threads_within m first [] q linked h = absurd (cc h)
 threads_within m first (x ∷ xs) q linked h = by_test (eqb q x.thread) refl (threads_within m first xs q linked.1) h where
   by_test : (b : Bool) → eqb q x.thread ≡ b → (list_any (eqb q) (map (λ y. y.thread) xs) ≡ true → q < length m.threads)
@@ -58,7 +64,8 @@ threads_within m first (x ∷ xs) q linked h = by_test (eqb q x.thread) refl (th
 
 circle_is_short : (m : PlainMachine) (x : Link) (xs : List Link) → IsCircle m x xs → length (x ∷ xs) ≤ length m.threads
 circle_is_short m x xs h =
-    let few = length-le_from_distinct_below (map (λ (y : Link). y.thread) (x ∷ xs)) (length m.threads) (apart_threads (x ∷ xs) h.distinct) (λ q any. threads_within m x.thread (x ∷ xs) q h.linked any) in
+    let few = length-le_from_distinct_below (map (λ (y : Link). y.thread) (x ∷ xs)) (length m.threads)
+    (apart_threads (x ∷ xs) h.distinct) (λ q any. threads_within m x.thread (x ∷ xs) q h.linked any) in
     let as_many = length-map (x ∷ xs) (λ (y : Link). y.thread) in
     omega (arith, few, as_many)
 
@@ -101,7 +108,8 @@ contains_more : (c d : Cycle) (cs : List Cycle) → Contains cs c → Contains (
 contains_more c d cs h = (suc h.0, omega (arith, h.1), h.2)
 
 -- a cycle that is found is listed
-found_is_listed : (m : PlainMachine) (n first k : ℕ) (c : Cycle) → first ≤ first_thread c → first_thread c < first + k → cycle_from m n (first_thread c) ≡ Some c
+found_is_listed : (m : PlainMachine) (n first k : ℕ) (c : Cycle) → first ≤ first_thread c
+    → first_thread c < first + k → cycle_from m n (first_thread c) ≡ Some c
     → Contains (cycles_from m n first k) c
 found_is_listed m n first zero c low high e = absurd (omega arith)
 found_is_listed m n first (suc k) c low high e =
@@ -113,10 +121,11 @@ found_is_listed m n first (suc k) c low high e =
 
     by_place : (b : Bool) → eqb first (first_thread c) ≡ b → (first ≢ first_thread c → Contains (cycles_from m n (first + 1) k) c)
         → Contains (option_to_list (cycle_from m n first) ++ cycles_from m n (first + 1) k) c
-    by_place true t behind =
+    by_place true t after =
         let at : cycle_from m n first ≡ Some c = ap (cycle_from m n) (eqb-true first (first_thread c) t) ∙ e in
         rw at (0, omega arith, refl)
-    by_place false t behind = by_found (cycle_from m n first) (behind (λ h. absurd (let own : eqb first (first_thread c) ≡ true = eq-eqb first (first_thread c) h in cc (own, t))))
+    by_place false t after = by_found (cycle_from m n first)
+        (after (λ h. absurd (let own : eqb first (first_thread c) ≡ true = eq-eqb first (first_thread c) h in cc (own, t))))
 
 -- the cycles of as many links as the machine has threads, from each thread on, are all
 pub all_are_cycles : (m : PlainMachine) (n : ℕ) → n ≡ length m.threads → AreCycles m (cycles_from m n 0 n)

@@ -1,5 +1,6 @@
 -- The enters that are counted are those by each path.
-use Rattle.std.proofs.Common.{◌≡◌, ℕ, ◌+◌, ◌<◌, ◌≤◌, ◌==◌, ◌||◌, nat_le, if◌then◌else◌, eqb-true, eq-eqb, Bool, true, false, List, [], ◌∷◌, length, map, get_or, slice_index, slice_set, refl, sym, ◌∙◌, subst, arith}
+use Rattle.std.proofs.Common.{◌≡◌, ℕ, ◌+◌, ◌<◌, ◌≤◌, ◌==◌, ◌||◌, nat_le, if◌then◌else◌, eqb-true, eq-eqb, Bool, true, false}
+use Rattle.std.proofs.Common.{List, [], ◌∷◌, length, map, get_or, slice_index, slice_set, refl, sym, ◌∙◌, subst, arith}
 use Rattle.std.proofs.lemmas.Bool.Decides.{nat_tests}
 use Rattle.std.proofs.lemmas.List.{length-set, get_or-set_same, get_or-set_other}
 use Rattle.std.specs.List.{list_any}
@@ -30,13 +31,15 @@ path_below MonitorAgain = omega arith
 raised : (counts : List ℕ) (by path : Path) → length counts ≡ 6
     → count_at (slice_set counts (path_number by) (count_at counts by + 1)) path ≡ count_at counts path + (if path_number by == path_number path then 1 else 0)
 raised counts by path six = by_test (path_number by == path_number path) refl where
-  by_test : (b : Bool) → (path_number by == path_number path) ≡ b → count_at (slice_set counts (path_number by) (count_at counts by + 1)) path ≡ count_at counts path + (if b then 1 else 0)
+  by_test : (b : Bool) → (path_number by == path_number path) ≡ b
+      → count_at (slice_set counts (path_number by) (count_at counts by + 1)) path ≡ count_at counts path + (if b then 1 else 0)
   by_test true t =
       let same : path_number by ≡ path_number path = eqb-true (path_number by) (path_number path) t in
       let P : ℕ → Type 0 = λ k. slice_index (slice_set counts (path_number by) (count_at counts by + 1)) k ≡ slice_index counts k + 1 in
       subst P same (get_or-set_same counts (path_number by) (count_at counts by + 1) 0 (omega (arith, path_below by, six)))
   by_test false t =
-      get_or-set_other counts (path_number by) (path_number path) (count_at counts by + 1) 0 (λ h. absurd (let own : (path_number by == path_number path) ≡ true = eq-eqb (path_number by) (path_number path) (sym h) in cc (own, t)))
+      get_or-set_other counts (path_number by) (path_number path) (count_at counts by + 1) 0
+      (λ h. absurd (let own : (path_number by == path_number path) ≡ true = eq-eqb (path_number by) (path_number path) (sym h) in cc (own, t)))
       ∙ omega arith
 
 -- what an entry adds to the counts
@@ -64,7 +67,7 @@ entry_adds o t (Enter k by) y six = enter_adds o t k by y six
 entry_adds o t (Resume k) y six = resume_adds o t k y six
 entry_adds o t e y six = record { counts = λ path. omega arith; six = six }
 
--- the counts behind all entries
+-- the counts after all entries
 pub record AddsAll (o : ℕ) (xs : List (ℕ × Logged)) (y next : Tally) : Type 0 where
   pub counts : (path : Path) → count_at next.paths path ≡ count_at y.paths path + enters_by xs o path
   pub six : length next.paths ≡ 6
@@ -81,7 +84,8 @@ six_counts (a ∷ b ∷ c ∷ d ∷ e ∷ f ∷ []) h = refl
 six_counts ns h = absurd (omega arith)
 
 -- counts by path that begin with none are those of the entries
-pub counts_are : (o : ℕ) (xs : List (ℕ × Logged)) (ns : List ℕ) → length ns ≡ 6 → ((path : Path) → count_at ns path ≡ enters_by xs o path) → ns ≡ map (enters_by xs o) paths
+pub counts_are : (o : ℕ) (xs : List (ℕ × Logged)) (ns : List ℕ) → length ns ≡ 6
+    → ((path : Path) → count_at ns path ≡ enters_by xs o path) → ns ≡ map (enters_by xs o) paths
 counts_are o xs ns six is = six_counts ns six ∙ rw (is BiasOwn, is BiasTaken, is StackFirst, is StackAgain, is MonitorFirst, is MonitorAgain) refl
 
 -- an object is entered where some path has an enter
@@ -118,7 +122,8 @@ no_entry o path e h = refl
 no_enters : (o : ℕ) (xs : List (ℕ × Logged)) (path : Path) → is_entered xs o ≡ false → enters_by xs o path ≡ 0
 no_enters o [] path h = refl
 no_enters o (x ∷ xs) path h = by_test (is_enter o x.1.entry) refl h (no_enters o xs path) where
-  by_test : (b : Bool) → is_enter o x.1.entry ≡ b → (b || is_entered xs o) ≡ false → (is_entered xs o ≡ false → enters_by xs o path ≡ 0) → enters_by (x ∷ xs) o path ≡ 0
+  by_test : (b : Bool) → is_enter o x.1.entry ≡ b → (b || is_entered xs o) ≡ false
+      → (is_entered xs o ≡ false → enters_by xs o path ≡ 0) → enters_by (x ∷ xs) o path ≡ 0
   by_test true e h rest = absurd (cc h)
   by_test false e h rest = let none = no_entry o path x.1.entry e in let r = rest h in rw (none, r) refl
 
@@ -126,4 +131,11 @@ pub any_counted : (o : ℕ) (xs : List (ℕ × Logged)) → list_any (λ n. nat_
 any_counted o xs = by_test (is_entered xs o) refl where
   by_test : (b : Bool) → is_entered xs o ≡ b → list_any (λ n. nat_le 1 n) (map (enters_by xs o) paths) ≡ b
   by_test true e = let r = has_path o xs e in any_path (enters_by xs o) r.path r.some
-  by_test false e = rw (no_enters o xs BiasOwn e, no_enters o xs BiasTaken e, no_enters o xs StackFirst e, no_enters o xs StackAgain e, no_enters o xs MonitorFirst e, no_enters o xs MonitorAgain e) refl
+  by_test false e = rw (
+    no_enters o xs BiasOwn e,
+    no_enters o xs BiasTaken e,
+    no_enters o xs StackFirst e,
+    no_enters o xs StackAgain e,
+    no_enters o xs MonitorFirst e,
+    no_enters o xs MonitorAgain e,
+  ) refl

@@ -1,5 +1,6 @@
 -- Why a live thread of a stuck machine can't go on: it waits and nobody has notified it, or it waits for another live thread.
-use Rattle.std.proofs.Common.{◌≡◌, ◌⊎◌, inl, inr, ℕ, ◌<◌, ◌≤◌, ◌==◌, if◌then◌else◌, Bool, true, false, List, [], ◌∷◌, length, sum, slice_get, Option, Some, None, option_and_then, is_none, refl, sym, ap, ◌∙◌, subst, arith, eq-eqb, true≢false}
+use Rattle.std.proofs.Common.{◌≡◌, ◌⊎◌, inl, inr, ℕ, ◌<◌, ◌≤◌, ◌==◌, if◌then◌else◌, Bool, true, false, List, [], ◌∷◌, length, sum, slice_get}
+use Rattle.std.proofs.Common.{Option, Some, None, option_and_then, is_none, refl, sym, ap, ◌∙◌, subst, arith, eq-eqb, true≢false}
 use Rattle.std.proofs.lemmas.Bool.{cases_lt, false≢true}
 use Rattle.std.proofs.lemmas.List.{get_or_past}
 use Rattle.std.proofs.lemmas.List.Sums.{get_or-le-sum_by}
@@ -11,11 +12,11 @@ use Rattle.plain_monitor.specs.Monitor.{PlainMonitor, is_listed}
 use Rattle.plain_monitor.specs.Listed.{times_in}
 use Rattle.plain_monitor.specs.Objects.{PlainObject, new_object}
 use Rattle.object_program.specs.Program.{ProgramText}
-use Rattle.plain_machine.specs.declared.call.Call.TheVariants as call
-use Rattle.plain_machine.specs.declared.call.Mode.{Mode}
-use Rattle.plain_machine.specs.declared.call.Mode.TheVariants.{Calling, Waiting, Unwinding, Ended}
-use Rattle.plain_machine.specs.declared.call.Asked.{Asked}
-use Rattle.plain_machine.specs.declared.call.Asked.TheVariants.{Calls, Resumes, Leaves, Ends}
+use Rattle.plain_machine.specs.declared.monitor_call.MonitorCall.TheVariants as call
+use Rattle.plain_machine.specs.declared.monitor_call.Mode.{Mode}
+use Rattle.plain_machine.specs.declared.monitor_call.Mode.TheVariants.{Calling, Waiting, Unwinding, Ended}
+use Rattle.plain_machine.specs.declared.monitor_call.NextEntry.{NextEntry}
+use Rattle.plain_machine.specs.declared.monitor_call.NextEntry.TheVariants.{Calls, Resumes, Leaves, Ends}
 use Rattle.plain_machine.specs.declared.offer.Offer.{Offer}
 use Rattle.plain_machine.specs.declared.offer.Offer.TheVariants as offer
 use Rattle.plain_machine.specs.Thread.{ThreadState}
@@ -53,8 +54,10 @@ holds_there : (m : PlainMachine) (o w : ℕ) (s : ThreadState) → IsMaker m w s
 holds_there m o w s maker owns within =
     let object : IsObject m.program o = omega (arith, maker.reached.object_count, within) in
     let stands = (beside m w o s maker object).stands in
-    let own : for_owner (monitor_at m o).owner (monitor_at m o).count w ≡ (monitor_at m o).count = ap (λ (x : Option ℕ). for_owner x (monitor_at m o).count w) owns ∙ rw (eq-eqb w w refl) refl in
-    let counted : IsOwnerOf (length m.threads) (monitor_at m o).count (Some w) = subst (λ (x : Option ℕ). IsOwnerOf (length m.threads) (monitor_at m o).count x) owns (reached_monitor m o maker.reached).owner in
+    let own : for_owner (monitor_at m o).owner (monitor_at m o).count w ≡ (monitor_at m o).count =
+    ap (λ (x : Option ℕ). for_owner x (monitor_at m o).count w) owns ∙ rw (eq-eqb w w refl) refl in
+    let counted : IsOwnerOf (length m.threads) (monitor_at m o).count (Some w) =
+    subst (λ (x : Option ℕ). IsOwnerOf (length m.threads) (monitor_at m o).count x) owns (reached_monitor m o maker.reached).owner in
     let there : o < length s.holds = omega (arith, object, (thread_of m w s maker).state.holds) in
     omega (arith, stands.holds, own, counted.1, get_or-le-sum_by (λ (x : ℕ). x) s.holds o 0 there)
 
@@ -108,7 +111,8 @@ record IsBlock (f : Offer) : Type 0 where
   block : ℕ × ℕ
   is : blocker f ≡ Some block
 
-unless_held : (m : PlainMachine) (u o : ℕ) (owner : Option ℕ) (e : Entry) → is_next (unless_owned o owner e) ≡ false → IsListedAt m u ⊎ IsBlock (unless_owned o owner e)
+unless_held : (m : PlainMachine) (u o : ℕ) (owner : Option ℕ) (e : Entry)
+    → is_next (unless_owned o owner e) ≡ false → IsListedAt m u ⊎ IsBlock (unless_owned o owner e)
 unless_held m u o None e h = absurd (true≢false h)
 unless_held m u o (Some w) e h = inr (record { block = (o, w); is = refl })
 
@@ -123,7 +127,7 @@ resume_held m u o true at h = inl (record { object = o; listed = at })
 resume_held m u o false at h = unless_held m u o (other_owner (monitor_at m o) u) (Resume o) h
 
 -- who is offered nothing is in a wait set, or blocked
-asked_held : (m : PlainMachine) (u : ℕ) (a : Asked) → is_next (asked_offer m u (Some a)) ≡ false → IsListedAt m u ⊎ IsBlock (asked_offer m u (Some a))
+asked_held : (m : PlainMachine) (u : ℕ) (a : NextEntry) → is_next (asked_offer m u (Some a)) ≡ false → IsListedAt m u ⊎ IsBlock (asked_offer m u (Some a))
 asked_held m u (Calls (call.Enter o)) h = unless_held m u o (other_owner (monitor_at m o) u) (Enter o StackFirst) h
 asked_held m u (Calls (call.Hash x o)) h = absurd (true≢false (sym (hash_goes_on o (object_at m o).hash) ∙ h))
 asked_held m u (Calls c) h = absurd (true≢false h)

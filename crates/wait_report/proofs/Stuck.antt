@@ -1,7 +1,8 @@
 -- In a stuck machine some thread waits that nobody has notified, or there is a cycle. A live thread that doesn't wait so waits for
 -- another live one, and that one in turn. The threads are taken from the greatest down: from each that is at least k this way leads
 -- to one below k, unless it comes to a circle, which is seen where its least thread is taken.
-use Rattle.std.proofs.Common.{◌≡◌, ◌⊎◌, inl, inr, ℕ, zero, suc, ◌+◌, ◌<◌, ◌≤◌, Bool, true, false, ◌||◌, List, [], ◌∷◌, ◌++◌, length, slice_get, Some, refl, sym, ◌∙◌, subst, arith}
+use Rattle.std.proofs.Common.{◌≡◌, ◌⊎◌, inl, inr, ℕ, zero, suc, ◌+◌, ◌<◌, ◌≤◌, Bool, true, false, ◌||◌, List}
+use Rattle.std.proofs.Common.{[], ◌∷◌, ◌++◌, length, slice_get, Some, refl, sym, ◌∙◌, subst, arith}
 use Rattle.std.specs.List.{AllByRecursion, list_any}
 use Rattle.std.proofs.lemmas.Bool.{cases_lt, cases_order, false≢true, and_parts}
 use Rattle.std.proofs.lemmas.Option.{same_Some, option_and_then_some, slice_get_within}
@@ -12,7 +13,7 @@ use Rattle.object_program.specs.Program.{ProgramText}
 use Rattle.object_program.specs.Valid.{IsProgram}
 use Rattle.plain_machine.specs.Thread.{ThreadState}
 use Rattle.plain_machine.specs.Machine.{PlainMachine, new_machine, take, is_live, all_barred, is_stuck}
-use Rattle.plain_machine.specs.Legal.{behind_all, machine_after}
+use Rattle.plain_machine.specs.Legal.{after_all, machine_after}
 use Rattle.machine_laws.specs.Reached.{IsReached}
 use Rattle.machine_laws.proofs.ReachedEntries.{progress}
 use Rattle.machine_laws.proofs.ReachedFirst.{first_is_reached}
@@ -56,7 +57,8 @@ longer m k a r = (subst (λ (w : ℕ). WaitsFor m k w a.object) (sym r.starts) a
 closed : (m : PlainMachine) (k : ℕ) (a : WaitsForLive m k) (r : Leads m (k + 1) a.owner) → r.last ≡ k → HasCycle m
 closed m k a r back =
     let linked : AreLinked m k (link k a.object ∷ r.links) = subst (λ (w : ℕ). AreLinked m w (link k a.object ∷ r.links)) back (longer m k a r) in
-    let least : AllByRecursion (λ y. k < y.thread) r.links = all_weaker (λ (y : Link). k + 1 ≤ y.thread) (λ (y : Link). k < y.thread) (λ y low. omega (arith, low)) r.links r.above in
+    let least : AllByRecursion (λ y. k < y.thread) r.links =
+    all_weaker (λ (y : Link). k + 1 ≤ y.thread) (λ (y : Link). k < y.thread) (λ y low. omega (arith, low)) r.links r.above in
     let begins = way_begins m k (link k a.object ∷ r.links) (refl, record { linked = linked; above = least }) in
     (cycle_of (link k a.object ∷ r.links), begins.cycle)
 
@@ -66,7 +68,15 @@ from_least m k higher (inl waits) = inl (inl waits)
 from_least m k higher (inr a) = by_order (cases_order a.owner k) where
   by_end : (r : Leads m (k + 1) a.owner) → (r.last < k) ⊎ (k ≤ r.last) → IsExplained m ⊎ Leads m k k
   by_end r (inl less) =
-      inr (record { last = r.last; live = r.live; below = less; links = link k a.object ∷ r.links; starts = refl; linked = longer m k a r; above = (omega arith, from_k k r.links r.above) })
+      inr (record {
+        last = r.last;
+        live = r.live;
+        below = less;
+        links = link k a.object ∷ r.links;
+        starts = refl;
+        linked = longer m k a r;
+        above = (omega arith, from_k k r.links r.above);
+      })
   by_end r (inr over) = let back : r.last ≡ k = omega (arith, r.below, over) in inl (inr (closed m k a r back))
 
   by_higher : IsExplained m ⊎ Leads m (k + 1) a.owner → IsExplained m ⊎ Leads m k k
@@ -76,14 +86,23 @@ from_least m k higher (inr a) = by_order (cases_order a.owner k) where
   by_order : (a.owner ≡ k) ⊎ ((a.owner < k) ⊎ (k < a.owner)) → IsExplained m ⊎ Leads m k k
   by_order (inl same) = absurd (a.waits.other same)
   by_order (inr (inl less)) =
-      inr (record { last = a.owner; live = a.live; below = less; links = link k a.object ∷ []; starts = refl; linked = (a.waits, tt); above = (omega arith, tt) })
+      inr (record {
+        last = a.owner;
+        live = a.live;
+        below = less;
+        links = link k a.object ∷ [];
+        starts = refl;
+        linked = (a.waits, tt);
+        above = (omega arith, tt);
+      })
   by_order (inr (inr more)) = by_higher (higher a.owner (omega (arith, more)) a.live)
 
 next_joined : (last w : ℕ) (xs ys : List Link) → next_thread last ys ≡ w → next_thread last (xs ++ ys) ≡ next_thread w xs
 next_joined last w [] ys e = e
 next_joined last w (x ∷ xs) ys e = refl
 
-linked_joined : (m : PlainMachine) (last w : ℕ) (xs ys : List Link) → next_thread last ys ≡ w → AreLinked m w xs → AreLinked m last ys → AreLinked m last (xs ++ ys)
+linked_joined : (m : PlainMachine) (last w : ℕ) (xs ys : List Link) → next_thread last ys ≡ w
+    → AreLinked m w xs → AreLinked m last ys → AreLinked m last (xs ++ ys)
 linked_joined m last w [] ys e a b = b
 linked_joined m last w (x ∷ xs) ys e a b =
     (subst (λ (v : ℕ). WaitsFor m x.thread v x.object) (sym (next_joined last w xs ys e)) a.0, linked_joined m last w xs ys e a.1 b)
@@ -126,7 +145,8 @@ from_each m k u h stuck higher low live = by_place (cases_lt k u) where
       let same : k ≡ u = omega (arith, low, under) in
       subst (λ (v : ℕ). IsExplained m ⊎ Leads m k v) same (least (subst (IsLive m) (sym same) live))
 
-all_lead : (m : PlainMachine) → IsReached m → is_stuck m ≡ true → (d k : ℕ) → k + d ≡ length m.threads → (u : ℕ) → k ≤ u → IsLive m u → IsExplained m ⊎ Leads m k u
+all_lead : (m : PlainMachine) → IsReached m → is_stuck m ≡ true → (d k : ℕ)
+    → k + d ≡ length m.threads → (u : ℕ) → k ≤ u → IsLive m u → IsExplained m ⊎ Leads m k u
 all_lead m h stuck zero k e u low live = let within = slice_get_within m.threads u live.state live.there in absurd (omega (arith, e, low, within))
 all_lead m h stuck (suc d) k e u low live = from_each m k u h stuck (all_lead m h stuck d (k + 1) (omega (arith, e))) low live
 
@@ -170,12 +190,13 @@ has_cycle m h stuck none = by_end (stuck_is_explained m h stuck) where
   by_end (inl waits) = absurd (none waits.0 waits.1 waits.2)
   by_end (inr c) = c
 
-behind_is_reached : (m last : PlainMachine) (xs : List (ℕ × Logged)) → IsReached m → behind_all m xs ≡ Some last → IsReached last
-behind_is_reached m last [] h e = subst IsReached (same_Some m last e) h
-behind_is_reached m last (x ∷ xs) h e =
-    option_and_then_some (λ (n : PlainMachine). behind_all n xs) (take m x.0 x.1.entry) last e
-    (λ n at rest. behind_is_reached n last xs (progress m n x.0 x.1.entry h at).reached rest)
+after_is_reached : (m last : PlainMachine) (xs : List (ℕ × Logged)) → IsReached m → after_all m xs ≡ Some last → IsReached last
+after_is_reached m last [] h e = subst IsReached (same_Some m last e) h
+after_is_reached m last (x ∷ xs) h e =
+    option_and_then_some (λ (n : PlainMachine). after_all n xs) (take m x.0 x.1.entry) last e
+    (λ n at rest. after_is_reached n last xs (progress m n x.0 x.1.entry h at).reached rest)
 
 -- the machine under a program's logs is reached
-pub logs_are_reached : (p : ProgramText) (fuel : ℕ) (logs : List (List Logged)) (m : PlainMachine) → IsProgram p → machine_after p fuel logs ≡ Some m → IsReached m
-logs_are_reached p fuel logs m h e = behind_is_reached (new_machine p fuel) m (order logs) (first_is_reached p fuel h) e
+pub logs_are_reached : (p : ProgramText) (fuel : ℕ) (logs : List (List Logged)) (m : PlainMachine)
+    → IsProgram p → machine_after p fuel logs ≡ Some m → IsReached m
+logs_are_reached p fuel logs m h e = after_is_reached (new_machine p fuel) m (order logs) (first_is_reached p fuel h) e

@@ -1,5 +1,6 @@
 -- The tally of one object, entry by entry.
-use Rattle.std.proofs.Common.{◌≡◌, ℕ, zero, suc, ◌+◌, ◌-◌, ◌<◌, ◌==◌, if◌then◌else◌, eqb-true, eq-eqb, Bool, true, false, List, [], ◌∷◌, ◌++◌, length, replicate, slice_set, refl, sym, ap, ◌∙◌, subst, arith}
+use Rattle.std.proofs.Common.{◌≡◌, ℕ, zero, suc, ◌+◌, ◌-◌, ◌<◌, ◌==◌, if◌then◌else◌, eqb-true, eq-eqb, Bool, true, false}
+use Rattle.std.proofs.Common.{List, [], ◌∷◌, ◌++◌, length, replicate, slice_set, refl, sym, ap, ◌∙◌, subst, arith}
 use Rattle.std.proofs.lemmas.List.{length-append, length-replicate, get_or-set_same, get_or-set_other}
 use Rattle.plain_monitor.specs.declared.entry.Path.{Path}
 use Rattle.plain_monitor.specs.declared.entry.Path.TheVariants.{BiasOwn, BiasTaken, StackFirst, StackAgain, MonitorFirst, MonitorAgain}
@@ -7,7 +8,7 @@ use Rattle.plain_monitor.specs.declared.entry.Entry.{Entry}
 use Rattle.plain_monitor.specs.declared.entry.Entry.TheVariants.{Enter, Resume}
 use Rattle.plain_monitor.specs.declared.entry.Logged.{Logged}
 use Rattle.wait_report.specs.declared.tallies.Tally.{Tally}
-use Rattle.wait_report.specs.inner.Tallies.{new_tally, had_by, entered_by, tally_at, count_at, reaching, behind_entry, behind_entries}
+use Rattle.wait_report.specs.inner.Tallies.{new_tally, had_by, entered_by, tally_at, count_at, reaching, after_entry, after_entries}
 
 -- nothing is counted at first
 pub none_yet : (path : Path) → count_at new_tally.paths path ≡ 0
@@ -18,13 +19,13 @@ none_yet StackAgain = refl
 none_yet MonitorFirst = refl
 none_yet MonitorAgain = refl
 
--- the tally of object o behind an entry of thread t
+-- the tally of object o after an entry of thread t
 abbrev pub tally_on : ℕ → Tally → ℕ → Entry → Tally
 tally_on o y t (Enter object path) = if object == o then entered_by (had_by y t) path else y
 tally_on o y t (Resume object) = if object == o then had_by y t else y
 tally_on o y t e = y
 
--- behind these entries
+-- after these entries
 abbrev pub tally_through : ℕ → Tally → List (ℕ × Logged) → Tally
 tally_through o y [] = y
 tally_through o y (x ∷ xs) = tally_through o (tally_on o y x.0 x.1.entry) xs
@@ -61,11 +62,11 @@ written ys o k f = by_test (k == o) refl where
       get_or-set_other zs k o (f (tally_at zs k)) new_tally (λ h. absurd (let own : (k == o) ≡ true = eq-eqb k o (sym h) in cc (own, t)))
       ∙ added_at ys ((k + 1) - length ys) o
 
-behind_at : (ys : List Tally) (o t : ℕ) (e : Entry) → tally_at (behind_entry ys t e) o ≡ tally_on o (tally_at ys o) t e
-behind_at ys o t (Enter k path) = written ys o k (λ z. entered_by (had_by z t) path)
-behind_at ys o t (Resume k) = written ys o k (λ z. had_by z t)
-behind_at ys o t e = refl
+after_at : (ys : List Tally) (o t : ℕ) (e : Entry) → tally_at (after_entry ys t e) o ≡ tally_on o (tally_at ys o) t e
+after_at ys o t (Enter k path) = written ys o k (λ z. entered_by (had_by z t) path)
+after_at ys o t (Resume k) = written ys o k (λ z. had_by z t)
+after_at ys o t e = refl
 
-pub through_at : (ys : List Tally) (o : ℕ) (xs : List (ℕ × Logged)) → tally_at (behind_entries ys xs) o ≡ tally_through o (tally_at ys o) xs
+pub through_at : (ys : List Tally) (o : ℕ) (xs : List (ℕ × Logged)) → tally_at (after_entries ys xs) o ≡ tally_through o (tally_at ys o) xs
 through_at ys o [] = refl
-through_at ys o (x ∷ xs) = through_at (behind_entry ys x.0 x.1.entry) o xs ∙ ap (λ y. tally_through o y xs) (behind_at ys o x.0 x.1.entry)
+through_at ys o (x ∷ xs) = through_at (after_entry ys x.0 x.1.entry) o xs ∙ ap (λ y. tally_through o y xs) (after_at ys o x.0 x.1.entry)

@@ -1,14 +1,17 @@
 -- What an entry does to the owner of one object.
-use Rattle.std.proofs.Common.{◌≡◌, ◌≢◌, ◌⊎◌, ℕ, ◌+◌, ◌-◌, nat_le, if◌then◌else◌, eqb-true, Bool, true, false, is_none, ◌&&◌, List, [], ◌++◌, slice_set, slice_index_or, Option, Some, None, refl, sym, ap, ◌∙◌, subst, inl, inr}
+use Rattle.std.proofs.Common.{◌≡◌, ◌≢◌, ◌⊎◌, ℕ, ◌+◌, ◌-◌, nat_le, if◌then◌else◌, eqb-true, Bool, true, false, is_none, ◌&&◌, List}
+use Rattle.std.proofs.Common.{[], ◌++◌, slice_set, slice_index_or, Option, Some, None, refl, sym, ap, ◌∙◌, subst, inl, inr}
 use Rattle.std.proofs.lemmas.List.{get_or-set_same, get_or-set_other}
 use Rattle.std.proofs.lemmas.Option.{cond_some, same_Some, none-some, slice_get_within, get_or_from_slice_get}
 use Rattle.plain_monitor.specs.declared.entry.Entry.{Entry}
-use Rattle.plain_monitor.specs.declared.entry.Entry.TheVariants.{Enter, Exit, Get, Put, Wait, Resume, Notify, NotifyAll, Hash, New, Print, Dump, Trap, Spent, Done}
-use Rattle.plain_monitor.specs.Monitor.{PlainMonitor, owns, is_thread, is_outside, only_if, enter, exit, wait, resume, resumed, count_of, calls, notify, notify_all}
+use Rattle.plain_monitor.specs.declared.entry.Entry.TheVariants.{Enter, Exit, Get, Put, Wait, Resume, Notify, NotifyAll}
+use Rattle.plain_monitor.specs.declared.entry.Entry.TheVariants.{Hash, New, Print, Dump, Trap, Spent, Done}
+use Rattle.plain_monitor.specs.Monitor.{PlainMonitor, owns, is_thread, is_outside, only_if, enter, exit}
+use Rattle.plain_monitor.specs.Monitor.{wait, resume, resumed, count_of, calls, notify, notify_all}
 use Rattle.plain_monitor.specs.Objects.{PlainObject, new_object, take_at, take_named, with_monitor, with_hash, hashed}
 use Rattle.plain_machine.proofs.Counted.{owner-calls}
 use Rattle.machine_laws.proofs.ReachedAsked.{taken_at}
-use Rattle.wait_report.specs.Handovers.{monitor_of}
+use Rattle.wait_report.specs.Handovers.{monitor_at}
 
 -- who owns the monitor afterwards owned it before
 abbrev pub Keeps : PlainMonitor → PlainMonitor → Type 0
@@ -31,7 +34,8 @@ owner_is (Some u) t h = ap (λ (v : ℕ). Some v) (eqb-true u t h)
 
 entered : (m n : PlainMonitor) (t : ℕ) → enter m t ≡ Some n → Enters m n t
 entered m n t h = by_owner (owns m t) refl h where
-  by_owner : (b : Bool) → owns m t ≡ b → (if b then Some (record m { count = m.count + 1 }) else only_if (is_none m.owner && is_outside m t) (record m { owner = Some t; count = 1 })) ≡ Some n → Enters m n t
+  by_owner : (b : Bool) → owns m t ≡ b → (if b then Some (record m { count = m.count + 1 })
+      else only_if (is_none m.owner && is_outside m t) (record m { owner = Some t; count = 1 })) ≡ Some n → Enters m n t
   by_owner true own h =
       let same : record m { count = m.count + 1 } ≡ n = same_Some _ n h in
       let before = owner_is m.owner t own in
@@ -86,7 +90,8 @@ object_turns x y t (Resume o) h = resumes x.monitor y.monitor t (count_of x.moni
 object_turns x y t (Notify o woken) h = notified x.monitor y.monitor t woken (stepped x y (notify x.monitor t woken) h)
 object_turns x y t (NotifyAll o k) h = all_notified x.monitor y.monitor t k (stepped x y (notify_all x.monitor t k) h)
 object_turns x y t (Get o k v) h = let r = cond_some _ x y h in subst (λ (z : PlainObject). Keeps x.monitor z.monitor) r.1 (λ u e. e)
-object_turns x y t (Put o k v) h = let r = cond_some _ (record x { slots = slice_set x.slots k v }) y h in subst (λ (z : PlainObject). Keeps x.monitor z.monitor) r.1 (λ u e. e)
+object_turns x y t (Put o k v) h = let r = cond_some _ (record x { slots = slice_set x.slots k v }) y h in
+    subst (λ (z : PlainObject). Keeps x.monitor z.monitor) r.1 (λ u e. e)
 object_turns x y t (Hash o v drawn) h = hash_stays x y (hashed x.hash v) h
 object_turns x y t (New o c) h = stays x y h
 object_turns x y t (Print v) h = stays x y h
@@ -97,24 +102,31 @@ object_turns x y t Done h = stays x y h
 
 -- what an entry does to the owner of object o, by the object that it names
 pub record Turns (objects : List PlainObject) (o t k : ℕ) (e : Entry) (after : List PlainObject) : Type 0 where
-  pub here : k ≡ o → TurnOf e (monitor_of objects o) (monitor_of after o) t
-  pub elsewhere : k ≢ o → Keeps (monitor_of objects o) (monitor_of after o)
+  pub here : k ≡ o → TurnOf e (monitor_at objects o) (monitor_at after o) t
+  pub elsewhere : k ≢ o → Keeps (monitor_at objects o) (monitor_at after o)
 
-pub named_turns : (objects : List PlainObject) (o t k : ℕ) (e : Entry) (after : List PlainObject) → take_named objects t e (Some k) ≡ Some after → Turns objects o t k e after
+pub named_turns : (objects : List PlainObject) (o t k : ℕ) (e : Entry) (after : List PlainObject)
+    → take_named objects t e (Some k) ≡ Some after → Turns objects o t k e after
 named_turns objects o t k e after h =
     let r = taken_at objects k t e after h in
     let before : slice_index_or objects k (new_object 0) ≡ r.x = get_or_from_slice_get objects k r.x (new_object 0) r.there in
-    let written : slice_index_or after k (new_object 0) ≡ r.y = ap (λ (xs : List PlainObject). slice_index_or xs k (new_object 0)) (sym r.is) ∙ get_or-set_same objects k r.y (new_object 0) (slice_get_within objects k r.x r.there) in
+    let written : slice_index_or after k (new_object 0) ≡ r.y = ap (λ (xs : List PlainObject). slice_index_or xs k (new_object 0)) (sym r.is)
+    ∙ get_or-set_same objects k r.y (new_object 0) (slice_get_within objects k r.x r.there) in
     record {
       here = λ same.
-          let old : TurnOf e (monitor_of objects k) r.y.monitor t = subst (λ (x : PlainObject). TurnOf e x.monitor r.y.monitor t) (sym before) (object_turns r.x r.y t e r.takes) in
-          let turn : TurnOf e (monitor_of objects k) (monitor_of after k) t = subst (λ (y : PlainObject). TurnOf e (monitor_of objects k) y.monitor t) (sym written) old in
-          subst (λ (j : ℕ). TurnOf e (monitor_of objects j) (monitor_of after j) t) same turn;
+          let old : TurnOf e (monitor_at objects k) r.y.monitor t =
+          subst (λ (x : PlainObject). TurnOf e x.monitor r.y.monitor t) (sym before) (object_turns r.x r.y t e r.takes) in
+          let turn : TurnOf e (monitor_at objects k) (monitor_at after k) t =
+          subst (λ (y : PlainObject). TurnOf e (monitor_at objects k) y.monitor t) (sym written) old in
+          subst (λ (j : ℕ). TurnOf e (monitor_at objects j) (monitor_at after j) t) same turn;
       elsewhere = λ other.
-          let there : slice_index_or after o (new_object 0) ≡ slice_index_or objects o (new_object 0) = ap (λ (xs : List PlainObject). slice_index_or xs o (new_object 0)) (sym r.is) ∙ get_or-set_other objects k o r.y (new_object 0) (λ e. other (sym e)) in
+          let there : slice_index_or after o (new_object 0) ≡ slice_index_or objects o (new_object 0) =
+          ap (λ (xs : List PlainObject). slice_index_or xs o (new_object 0)) (sym r.is)
+          ∙ get_or-set_other objects k o r.y (new_object 0) (λ e. other (sym e)) in
           λ u own. ap (λ (x : PlainObject). x.monitor.owner) (sym there) ∙ own;
     }
 
 -- an entry that names no object does nothing to any
-pub unnamed_turns : (objects : List PlainObject) (o : ℕ) (after : List PlainObject) → Some objects ≡ Some after → Keeps (monitor_of objects o) (monitor_of after o)
-unnamed_turns objects o after h = subst (λ (xs : List PlainObject). Keeps (monitor_of objects o) (monitor_of xs o)) (same_Some objects after h) (λ u e. e)
+pub unnamed_turns : (objects : List PlainObject) (o : ℕ) (after : List PlainObject)
+    → Some objects ≡ Some after → Keeps (monitor_at objects o) (monitor_at after o)
+unnamed_turns objects o after h = subst (λ (xs : List PlainObject). Keeps (monitor_at objects o) (monitor_at xs o)) (same_Some objects after h) (λ u e. e)

@@ -1,5 +1,6 @@
--- The way from a thread back to one behind it is found, and it is the only one.
-use Rattle.std.proofs.Common.{◌≡◌, ◌≢◌, ℕ, zero, suc, ◌==◌, nat_lt, ◌<◌, ◌≤◌, if◌then◌else◌, eqb-true, eq-eqb, ne_eqb, Bool, true, false, List, [], ◌∷◌, length, Option, Some, None, option_map, refl, sym, ap, ◌∙◌, subst, arith}
+-- The way from a thread back to one after it is found, and it is the only one.
+use Rattle.std.proofs.Common.{◌≡◌, ◌≢◌, ℕ, zero, suc, ◌==◌, nat_lt, ◌<◌, ◌≤◌, if◌then◌else◌, eqb-true, eq-eqb, ne_eqb, Bool, true}
+use Rattle.std.proofs.Common.{false, List, [], ◌∷◌, length, Option, Some, None, option_map, refl, sym, ap, ◌∙◌, subst, arith}
 use Rattle.std.specs.List.{AllByRecursion}
 use Rattle.std.proofs.lemmas.Bool.Decides.{nat_tests}
 use Rattle.plain_machine.specs.Machine.{PlainMachine}
@@ -21,7 +22,8 @@ IsWayFrom m first u [] = ⊥
 IsWayFrom m first u (x ∷ xs) = (x.thread ≡ u) × IsWay m first x xs
 
 -- one link more in front
-longer : (m : PlainMachine) (first u : ℕ) (b : ℕ × ℕ) (ls : List Link) → WaitsFor m u b.1 b.0 → first < b.1 → IsWayFrom m first b.1 ls → IsWayFrom m first u (link u b.0 ∷ ls)
+longer : (m : PlainMachine) (first u : ℕ) (b : ℕ × ℕ) (ls : List Link) → WaitsFor m u b.1 b.0
+    → first < b.1 → IsWayFrom m first b.1 ls → IsWayFrom m first u (link u b.0 ∷ ls)
 longer m first u b [] waits over way = absurd way
 longer m first u b (y ∷ ys) waits over way =
     let here : WaitsFor m u y.thread b.0 = subst (λ (w : ℕ). WaitsFor m u w b.0) (sym way.0) waits in
@@ -46,13 +48,15 @@ found_on m first n u links (Some b) at rest e = by_end (b.1 == first) refl e whe
   waits : WaitsFor m u b.1 b.0
   waits = blocked_waits m u b at
 
-  by_less : (l : Bool) → nat_lt b.1 first ≡ l → b.1 ≢ first → (if l then None else option_map (λ ls. link u b.0 ∷ ls) (links_from m first n b.1)) ≡ Some links → IsWayFrom m first u links
+  by_less : (l : Bool) → nat_lt b.1 first ≡ l → b.1 ≢ first
+      → (if l then None else option_map (λ ls. link u b.0 ∷ ls) (links_from m first n b.1)) ≡ Some links → IsWayFrom m first u links
   by_less true t other e = absurd (cc e)
   by_less false t other e =
       let over : first < b.1 = grind (arith, nat_tests) in
       mapped m first u b links (links_from m first n b.1) waits over (rest b.1) e
 
-  by_end : (l : Bool) → (b.1 == first) ≡ l → (if l then Some (link u b.0 ∷ []) else if nat_lt b.1 first then None else option_map (λ ls. link u b.0 ∷ ls) (links_from m first n b.1)) ≡ Some links → IsWayFrom m first u links
+  by_end : (l : Bool) → (b.1 == first) ≡ l → (if l then Some (link u b.0 ∷ []) else if nat_lt b.1 first then None
+      else option_map (λ ls. link u b.0 ∷ ls) (links_from m first n b.1)) ≡ Some links → IsWayFrom m first u links
   by_end true t e =
       let same : link u b.0 ∷ [] ≡ links = cc e in
       subst (IsWayFrom m first u) same (one_link m first u b waits (eqb-true b.1 first t))
@@ -64,7 +68,8 @@ found_is_way m first zero u links e = absurd (cc e)
 found_is_way m first (suc n) u links e = found_on m first n u links (blocker (offered m u)) refl (found_is_way m first n) e
 
 -- a way is found, if it isn't too long
-pub way_is_found : (m : PlainMachine) (first n : ℕ) (x : Link) (xs : List Link) → IsWay m first x xs → length (x ∷ xs) ≤ n → links_from m first n x.thread ≡ Some (x ∷ xs)
+pub way_is_found : (m : PlainMachine) (first n : ℕ) (x : Link) (xs : List Link)
+    → IsWay m first x xs → length (x ∷ xs) ≤ n → links_from m first n x.thread ≡ Some (x ∷ xs)
 way_is_found m first zero x xs way few = absurd (omega arith)
 way_is_found m first (suc n) x [] way few =
     let at = waiting_blocks m x.thread first x.object way.linked.0 in
@@ -83,7 +88,8 @@ AreOthers first xs = AllByRecursion (λ y. first ≢ y.thread) xs
 
 -- a thread waits for one thread by one object
 one_wish : (m : PlainMachine) (u w o v k : ℕ) → WaitsFor m u w o → WaitsFor m u v k → ◌≡◌ {A = ℕ × ℕ} (o, w) (k, v)
-one_wish m u w o v k a b = let same : ◌≡◌ {A = Option (ℕ × ℕ)} (Some (o, w)) (Some (k, v)) = sym (waiting_blocks m u w o a) ∙ waiting_blocks m u v k b in cc same
+one_wish m u w o v k a b =
+    let same : ◌≡◌ {A = Option (ℕ × ℕ)} (Some (o, w)) (Some (k, v)) = sym (waiting_blocks m u w o a) ∙ waiting_blocks m u v k b in cc same
 
 -- two ways from one thread are the same
 same_way : (m : PlainMachine) (first : ℕ) (xs ys : List Link) → AreLinked m first xs → AreLinked m first ys → AreOthers first xs → AreOthers first ys
@@ -100,12 +106,15 @@ same_way m first (x ∷ xs) (y ∷ ys) a b others more e =
     let one : x ≡ y = ap (λ (u : ℕ). link u x.object) e ∙ ap (link y.thread) object in
     ap (λ (z : Link). z ∷ xs) one ∙ ap (λ (zs : List Link). y ∷ zs) rest
 
--- the first thread of a way doesn't come again behind it
-not_again : (m : PlainMachine) (first : ℕ) (whole xs : List Link) → AreLinked m first whole → AreOthers first whole → AreLinked m first xs → AreOthers first xs → length xs < length whole
+-- the first thread of a way doesn't come again after it
+not_again : (m : PlainMachine) (first : ℕ) (whole xs : List Link) → AreLinked m first whole
+    → AreOthers first whole → AreLinked m first xs → AreOthers first xs → length xs < length whole
     → AllByRecursion (λ y. next_thread first whole ≢ y.thread) xs
 not_again m first whole [] a others b more few = tt
-not_again m first whole (y ∷ ys) a others b more few =
-    (λ e. let same : whole ≡ y ∷ ys = same_way m first whole (y ∷ ys) a b others more e in omega (arith, ap length same), not_again m first whole ys a others b.1 more.1 (omega arith))
+not_again m first whole (y ∷ ys) a others b more few = (
+  λ e. let same : whole ≡ y ∷ ys = same_way m first whole (y ∷ ys) a b others more e in omega (arith, ap length same),
+  not_again m first whole ys a others b.1 more.1 (omega arith),
+)
 
 -- no thread of a way comes twice
 pub way_is_apart : (m : PlainMachine) (first : ℕ) (xs : List Link) → AreLinked m first xs → AreOthers first xs → AreApart xs

@@ -6,7 +6,7 @@ use Rattle.wait_report.specs.declared.cycles.Link.{Link}
 use Rattle.wait_report.specs.declared.cycles.Cycle.{Cycle}
 use Rattle.wait_report.specs.Waiting.{WaitsFor}
 
--- the thread of the first of these links, or `first` behind the last
+-- the thread of the first of these links, or `first` after the last
 abbrev pub next_thread : ℕ → List Link → ℕ
 next_thread first [] = first
 next_thread first (x ∷ xs) = x.thread

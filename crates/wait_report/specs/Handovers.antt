@@ -7,20 +7,20 @@ use Rattle.plain_monitor.specs.Monitor.{PlainMonitor}
 use Rattle.plain_monitor.specs.Objects.{PlainObject, new_object, new_objects, take_entry}
 use Rattle.object_program.specs.Program.{ProgramText, shape_of}
 
-abbrev pub monitor_of : List PlainObject → ℕ → PlainMonitor
-monitor_of objects o = (slice_index_or objects o (new_object 0)).monitor
+abbrev pub monitor_at : List PlainObject → ℕ → PlainMonitor
+monitor_at objects o = (slice_index_or objects o (new_object 0)).monitor
 
--- the entry takes object o, whose count is n behind it: a resume, or an enter that makes the count 1
+-- the entry takes object o, whose count is n after it: a resume, or an enter that makes the count 1
 abbrev pub is_taking : ℕ → ℕ → Entry → Bool
 is_taking o n (Resume object) = object == o
 is_taking o n (Enter object path) = (object == o) && (n == 1)
 is_taking o n e = false
 
--- the thread of the entry, where it takes object o, and then those of the entries behind it
+-- the thread of the entry, where it takes object o, and then those of the entries after it
 abbrev pub takers_on : ℕ → ℕ × Logged → Option (List PlainObject) → (List PlainObject → List ℕ) → List ℕ
 takers_on o x None others = []
 takers_on o x (Some objects) others =
-    if is_taking o (monitor_of objects o).count x.1.entry then x.0 ∷ others objects else others objects
+    if is_taking o (monitor_at objects o).count x.1.entry then x.0 ∷ others objects else others objects
 
 -- the threads that take object o, one for each taking, where these are the objects before the entries
 abbrev pub takers_from : List PlainObject → ℕ → List (ℕ × Logged) → List ℕ

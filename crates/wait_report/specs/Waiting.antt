@@ -1,14 +1,14 @@
 -- Who waits for whom: a thread that asks to have a monitor waits for the other thread that has it. And who waits to be notified.
 use Rattle.std.specs.Prelude.{◌≡◌, ◌≢◌, ℕ, ◌<◌, true, false, if◌then◌else◌, length, slice_get, Option, Some, None, option_and_then}
 use Rattle.plain_monitor.specs.Monitor.{is_listed}
-use Rattle.plain_machine.specs.declared.call.Call.TheVariants as call
-use Rattle.plain_machine.specs.declared.call.Asked.{Asked}
-use Rattle.plain_machine.specs.declared.call.Asked.TheVariants.{Calls, Resumes}
+use Rattle.plain_machine.specs.declared.monitor_call.MonitorCall.TheVariants as call
+use Rattle.plain_machine.specs.declared.monitor_call.NextEntry.{NextEntry}
+use Rattle.plain_machine.specs.declared.monitor_call.NextEntry.TheVariants.{Calls, Resumes}
 use Rattle.plain_machine.specs.Asking.{ask}
 use Rattle.plain_machine.specs.Machine.{PlainMachine, monitor_at}
 
 -- the object that thread u asks to enter or to resume; one that waits and was not notified asks for none
-abbrev pub wish_of : PlainMachine → ℕ → Option Asked → Option ℕ
+abbrev pub wish_of : PlainMachine → ℕ → Option NextEntry → Option ℕ
 wish_of m u (Some (Calls (call.Enter o))) = Some o
 wish_of m u (Some (Resumes o)) = if is_listed (monitor_at m o).waits u then None else Some o
 wish_of m u asked = None

@@ -3,7 +3,7 @@
 ghost use Rattle.std.specs.Prelude.{◌≡◌, ◌<◌, ◌≤◌, ◌+◌, ◌^◌, ◌++◌, OnOk, replicate, vec_len};
 ghost use Rattle.lock_journal.specs.RunText.{path_number};
 ghost use Rattle.wait_report.specs.Handovers.{is_handover};
-ghost use Rattle.wait_report.specs.inner.Tallies.{new_tally, had_by, entered_by, count_at, reaching, with_enter, with_resume, behind_entry, HaveRoom, is_counted};
+ghost use Rattle.wait_report.specs.inner.Tallies.{new_tally, had_by, entered_by, count_at, reaching, with_enter, with_resume, after_entry, HaveRoom, is_counted};
 
 use plain_monitor::{Entry, NoMemory, Path};
 
@@ -22,7 +22,7 @@ pub(crate) struct Tally {
 pub(crate) fn count_entry(tallies: &mut Vec<Tally>, t: u32, entry: &Entry) -> Result<(), NoMemory>
     requires room { HaveRoom 1 tallies.old.items }
     requires few { vec_len tallies.old ≤ 2 ^ 32 }
-    ensures counted { OnOk result (tallies.new.items ≡ behind_entry tallies.old.items t entry.now) }
+    ensures counted { OnOk result (tallies.new.items ≡ after_entry tallies.old.items t entry.now) }
     ensures few { OnOk result (vec_len tallies.new ≤ 2 ^ 32) }
 {
     match entry {

@@ -1,10 +1,13 @@
 -- From a world to which a heap comes on, who is notified stays so until its own Resume.
-use Rattle.core_locks.proofs.Prelude.{◌≡◌, ◌≢◌, ℕ, ◌+◌, ◌<◌, ◌≤◌, ◌==◌, ◌&&◌, max, cond, Bool, true, false, List, [], ◌∷◌, ◌++◌, length, None, refl, sym, ap, ◌∙◌, subst, arith, inl, inr, same_Some, is_listed, PlainObject, Entry, Logged, World, logs, notified_at, Known, StepPlan, last_stamp, log_of, objects_after, LegalObjects, new_objects, order, order_appended, StepMade, hits, by_equal, ne_eqb}
+use Rattle.core_locks.proofs.Prelude.{◌≡◌, ◌≢◌, ℕ, ◌+◌, ◌<◌, ◌≤◌, ◌==◌, ◌&&◌, max, cond, Bool, true, false, List, [], ◌∷◌, ◌++◌}
+use Rattle.core_locks.proofs.Prelude.{length, None, refl, sym, ap, ◌∙◌, subst, arith, inl, inr, same_Some, is_listed, PlainObject}
+use Rattle.core_locks.proofs.Prelude.{Entry, Logged, World, logs, notified_at, ThreadView, StepPlan, last_stamp, log_of, objects_after}
+use Rattle.core_locks.proofs.Prelude.{LegalObjects, new_objects, order, order_appended, StepMade, hits, by_equal, ne_eqb}
 use Rattle.plain_monitor.specs.Order.{insert_ordered}
 use Rattle.plain_monitor.specs.declared.entry.Entry.TheVariants as entry
 use Rattle.plain_history.proofs.SoundHistories.{new_sound}
-use Rattle.core_world.specs.declared.plan.Note.{Note}
-use Rattle.core_world.specs.declared.plan.Note.TheVariants.{Quiet, Log, LogGet, LogHash}
+use Rattle.core_world.specs.declared.plan.LogEffect.{LogEffect}
+use Rattle.core_world.specs.declared.plan.LogEffect.TheVariants.{Quiet, Log, LogGet, LogHash}
 use Rattle.core_world.specs.Steps.{is_taking, stamp_by, with_entry, log_after, known_after, known_hit, known_miss, world_after}
 use Rattle.core_world.specs.Trees.Operations.{value_found}
 use Rattle.core_world.specs.Words.Forms.{hash_in}
@@ -12,11 +15,11 @@ use Rattle.core_world.specs.Words.Shape.{Shape, IsInLimits}
 use Rattle.plain_monitor.specs.ValueWords.{read_value}
 use Rattle.core_world.specs.Valid.{IsValid}
 use Rattle.core_world.proofs.KnowledgeParts.{logs_length, log_at, logs_stay, logs_grow, with_known_here, with_known_else}
-use Rattle.core_world.proofs.LookWhileRevoking.{forgotten}
+use Rattle.core_world.proofs.bias.LookWhileRevoking.{forgotten}
 use Rattle.core_world.proofs.RefusedWorlds.{revoking_logs}
 use Rattle.core_law.specs.WholeLaw.{LawsHold}
 use Rattle.core_law.specs.Logic.{Heap}
-use Rattle.core_law.specs.Reached.{Comes, moves}
+use Rattle.core_law.specs.Reached.{IsReachable, moves}
 use Rattle.core_steps.proofs.ReachedWorlds.{reached_worlds_valid}
 use Rattle.step_history.specs.Leads.{Leads, stays, goes}
 use Rattle.step_history.proofs.Listed.{listed_reached}
@@ -40,7 +43,7 @@ told w P (inr s) =
       taken = ap (objects_after w.shape.objects) e ∙ ap (λ (x : Shape). objects_after x.objects (logs s.before)) s.shape ∙ s.fits.taken;
     }
 
-pub reached_told : (heap : Heap) (w : World) → IsInLimits heap.shape → Comes heap w → Told w
+pub reached_told : (heap : Heap) (w : World) → IsInLimits heap.shape → IsReachable heap w → Told w
 reached_told heap w limits c =
     let v = reached_worlds_valid heap w limits c in
     told w v.objects (forgotten LawsHold w v.objects v.is)
@@ -70,7 +73,7 @@ module _ (w : World) (u : ℕ) (p : StepPlan) (within : u < w.shape.threads) (t 
   abbrev log : List Logged
   log = (w.known u).log
 
-  abbrev k : Known
+  abbrev k : ThreadView
   k = known_after w.shape w.start p n (w.known u)
 
   abbrev Notified : List PlainObject → Type 0
@@ -84,8 +87,8 @@ module _ (w : World) (u : ℕ) (p : StepPlan) (within : u < w.shape.threads) (t 
   own_log : (R : List Logged → Type 0) → (t ≡ u → R k.log) → (t ≢ u → R (w.known t).log) → R ((world_after p u w).known t).log
   own_log R mine others =
       by_equal t u
-      (λ e. subst R (sym (ap (λ i. ((world_after p u w).known i).log) e ∙ ap (λ (y : Known). y.log) (with_known_here u k w.known))) (mine e))
-      (λ d. subst R (sym (ap (λ (y : Known). y.log) (with_known_else u k w.known t d))) (others d))
+      (λ e. subst R (sym (ap (λ i. ((world_after p u w).known i).log) e ∙ ap (λ (y : ThreadView). y.log) (with_known_here u k w.known))) (mine e))
+      (λ d. subst R (sym (ap (λ (y : ThreadView). y.log) (with_known_else u k w.known t d))) (others d))
 
   same_logs : k.log ≡ log → After
   same_logs same =
@@ -122,7 +125,7 @@ module _ (w : World) (u : ℕ) (p : StepPlan) (within : u < w.shape.threads) (t 
           mine s = by_test (is_resume o e) refl
             where
               now : resumes_of o k.log ≡ resumes_of o (w.known t).log
-              now = ap (λ (y : Known). resumes_of o y.log) (sym (ap (λ i. (world_after p u w).known i) s ∙ with_known_here u k w.known)) ∙ none
+              now = ap (λ (y : ThreadView). resumes_of o y.log) (sym (ap (λ i. (world_after p u w).known i) s ∙ with_known_here u k w.known)) ∙ none
 
               by_test : (b : Bool) → is_resume o e ≡ b → (b && (u == t)) ≡ false
               by_test false f = refl
@@ -149,7 +152,7 @@ module _ (w : World) (u : ℕ) (p : StepPlan) (within : u < w.shape.threads) (t 
           (subst (λ s. Ahead t o (after_all t o (order (logs w)) (stands_at t o first)) s)
           (sym (b ∙ ap (λ xs. after_all t o xs (stands_at t o first)) in_order)) c)
 
-  by_note : (note : Note) → k.log ≡ log_after note n log → After
+  by_note : (note : LogEffect) → k.log ≡ log_after note n log → After
   by_note Quiet e = same_logs e
   by_note (Log e) grown = one_more e grown
   by_note (LogGet i slot) grown = one_more (entry.Get i slot (value_found (read_value n))) grown
@@ -171,7 +174,7 @@ module _ (w : World) (u : ℕ) (p : StepPlan) (within : u < w.shape.threads) (t 
       by_hit false e = same_logs (log_by false e)
 
 -- ALL STEPS
-module _ (heap : Heap) (limits : IsInLimits heap.shape) (w : World) (t o : ℕ) (c : Comes heap w) (P : List PlainObject) (was : AreAfterLogs w P)
+module _ (heap : Heap) (limits : IsInLimits heap.shape) (w : World) (t o : ℕ) (c : IsReachable heap w) (P : List PlainObject) (was : AreAfterLogs w P)
     (called : is_listed (notified_at P o) t ≡ true) where
   record Since (v : World) : Type 0 where
     pub grows : resumes_of o (w.known t).log ≤ resumes_of o (v.known t).log
@@ -199,7 +202,7 @@ module _ (heap : Heap) (limits : IsInLimits heap.shape) (w : World) (t o : ℕ) 
             (step Q is).stays (r.stays still middle.objects middle.taken) (none ∙ sym still);
       }
 
-pub notified_stay : (heap : Heap) (w v : World) (xs : List (ℕ × StepMade)) (P Q : List PlainObject) (t o : ℕ) → IsInLimits heap.shape → Comes heap w
+pub notified_stay : (heap : Heap) (w v : World) (xs : List (ℕ × StepMade)) (P Q : List PlainObject) (t o : ℕ) → IsInLimits heap.shape → IsReachable heap w
     → Leads w xs v → AreAfterLogs w P → AreAfterLogs v Q → is_listed (notified_at P o) t ≡ true
     → resumes_of o (v.known t).log ≡ resumes_of o (w.known t).log → is_listed (notified_at Q o) t ≡ true
 notified_stay heap w v xs P Q t o limits c leads was is called none = (since heap limits w t o c P was called v xs leads).stays none Q is

@@ -1,8 +1,10 @@
 -- Who is notified has a waiting word that says so; who waits by its word is in the wait set; and in a halted world another owns the object of each who
 -- is notified.
-use Rattle.core_locks.proofs.Prelude.{◌≡◌, ◌⊎◌, ℕ, ◌<◌, ◌≤◌, Bool, true, false, List, Option, Some, None, refl, sym, ap, ◌∙◌, subst, arith, inl, inr, same_Some, is_listed, PlainObject, Safepoint, Waiting, Calm, World, logs, monitor_of, waits_at, notified_at, Fits, Shape, Unfinished, sound, waiter_unnotified, listed_count, ends, by_equal, nat_lt, nat_tests, Known}
+use Rattle.core_locks.proofs.Prelude.{◌≡◌, ◌⊎◌, ℕ, ◌<◌, ◌≤◌, Bool, true, false, List, Option, Some, None, refl, sym, ap, ◌∙◌, subst, arith, inl, inr}
+use Rattle.core_locks.proofs.Prelude.{same_Some, is_listed, PlainObject, Safepoint, Waiting, Settled, World, logs, monitor_of, waits_at, notified_at}
+use Rattle.core_locks.proofs.Prelude.{Fits, Shape, Unfinished, sound, waiter_unnotified, listed_count, ends, by_equal, nat_lt, nat_tests, ThreadView}
 use Rattle.plain_monitor.specs.History.{objects_after}
-use Rattle.core_world.specs.declared.task.Op.TheVariants as op
+use Rattle.core_world.specs.declared.heap_call.Operation.TheVariants as op
 use Rattle.core_world.specs.Clauses.Safepoints.{IsHeldUp, IsStuck, IsUnfinished}
 use Rattle.core_world.specs.Threads.Stages.{notification_in}
 use Rattle.core_world.specs.Words.Forms.{waits_on, says_notified, says_ended, notified_form, ended_form, is_halted, requester_in}
@@ -12,10 +14,10 @@ use Rattle.mark_word.specs.declared.wait.WaitForm.{WaitForm}
 use Rattle.mark_word.specs.declared.wait.WaitForm.TheVariants as wait
 use Rattle.core_world.specs.Valid.{IsValid, Valid}
 use Rattle.core_world.proofs.RefusedWorlds.{revoking_logs}
-use Rattle.core_world.proofs.LookWhileRevoking.{forgotten}
+use Rattle.core_world.proofs.bias.LookWhileRevoking.{forgotten}
 use Rattle.core_law.specs.WholeLaw.{LawsHold, WhollyValid}
 use Rattle.core_law.specs.Logic.{Heap}
-use Rattle.core_law.specs.Reached.{Comes}
+use Rattle.core_law.specs.Reached.{IsReachable}
 use Rattle.core_steps.proofs.ReachedWorlds.{reached_worlds_valid}
 use Rattle.wake_ups.specs.WakeUps.{AreAfterLogs, IsTold, OwnedByAnother}
 use Rattle.wake_ups.proofs.Untouched.{word_before}
@@ -37,12 +39,12 @@ record Reads (w : World) (P : List PlainObject) : Type 0 where
   pub logged : logs w ≡ logs view
   pub waiting : (t : ℕ) → w.words (Waiting t) ≡ view.words (Waiting t)
   pub safepoint : w.words Safepoint ≡ view.words Safepoint
-  pub stage : (t : ℕ) → ((w.known t).stage ≡ (view.known t).stage) ⊎ ((view.known t).stage ≡ Calm)
+  pub stage : (t : ℕ) → ((w.known t).stage ≡ (view.known t).stage) ⊎ ((view.known t).stage ≡ Settled)
 
 within_heap : (w : World) (P : List PlainObject) (r : ℕ) → Fits w P → (w.known r).reached ≡ true → r < w.shape.threads
 within_heap w P r fits reached =
     by_order r w.shape.threads (λ less. less)
-    (λ far. let none = ap (λ (y : Known). y.reached) (fits.absent r far) in absurd (cc (reached, none)))
+    (λ far. let none = ap (λ (y : ThreadView). y.reached) (fits.absent r far) in absurd (cc (reached, none)))
 
 reads : (w : World) (P : List PlainObject) → IsValid w P → Reads w P
 reads w P (inl fits) = record {
@@ -63,10 +65,10 @@ reads w P (inr s) = record {
   safepoint = s.untouched;
   stage = λ t. by_equal t s.requester
       (λ e. inr (ap (λ u. (s.before.known u).stage) e ∙ s.was_calm))
-      (λ d. inl (ap (λ (k : Known). k.stage) (s.others t d)));
+      (λ d. inl (ap (λ (k : ThreadView). k.stage) (s.others t d)));
 }
 
-module _ (heap : Heap) (w : World) (objects : List PlainObject) (limits : IsInLimits heap.shape) (comes : Comes heap w)
+module _ (heap : Heap) (w : World) (objects : List PlainObject) (limits : IsInLimits heap.shape) (comes : IsReachable heap w)
     (history : AreAfterLogs w objects) where
   valid : WhollyValid w
   valid = reached_worlds_valid heap w limits comes
@@ -146,7 +148,7 @@ module _ (heap : Heap) (w : World) (objects : List PlainObject) (limits : IsInLi
     there : (t o : ℕ) → is_listed (notified_at objects o) t ≡ true → t < v.shape.threads
     there t o listed = by_order t v.shape.threads (λ less. less)
         (λ far.
-        let none = ap (λ (y : Known). y.unfinished) (fits.absent t far) in
+        let none = ap (λ (y : ThreadView). y.unfinished) (fits.absent t far) in
         let some = fits.waits.unfinished t o (inr listed) in
         absurd (cc (none, some)))
 
@@ -174,23 +176,23 @@ module _ (heap : Heap) (w : World) (objects : List PlainObject) (limits : IsInLi
             let differ = ap (λ (u : Unfinished). u.op) e in
             absurd (cc differ)
 
-pub notified_are_told : (heap : Heap) (w : World) (objects : List PlainObject) (t o : ℕ) → IsInLimits heap.shape → Comes heap w
+pub notified_are_told : (heap : Heap) (w : World) (objects : List PlainObject) (t o : ℕ) → IsInLimits heap.shape → IsReachable heap w
     → AreAfterLogs w objects
     → is_listed (notified_at objects o) t ≡ true → IsTold w t o
 notified_are_told heap w objects t o limits comes history = notified_told heap w objects limits comes history t o
 
-pub waiters_are_listed : (heap : Heap) (w : World) (objects : List PlainObject) (t o : ℕ) → IsInLimits heap.shape → Comes heap w
+pub waiters_are_listed : (heap : Heap) (w : World) (objects : List PlainObject) (t o : ℕ) → IsInLimits heap.shape → IsReachable heap w
     → AreAfterLogs w objects
     → waits_on (w.words (Waiting t)) o ≡ true → is_listed (waits_at objects o) t ≡ true
 waiters_are_listed heap w objects t o limits comes history = waiter_listed heap w objects limits comes history t o
 
-pub told_are_notified : (heap : Heap) (w : World) (objects : List PlainObject) (t o : ℕ) → IsInLimits heap.shape → Comes heap w
+pub told_are_notified : (heap : Heap) (w : World) (objects : List PlainObject) (t o : ℕ) → IsInLimits heap.shape → IsReachable heap w
     → AreAfterLogs w objects
     → says_notified (w.words (Waiting t)) o ≡ true → (is_listed (notified_at objects o) t ≡ true)
     ⊎ ((is_listed (waits_at objects o) t ≡ true) × ((u : ℕ) × (notification_in (w.known u).stage ≡ Some o)))
 told_are_notified heap w objects t o limits comes history = told_notified heap w objects limits comes history t o
 
-pub halted_face_another : (heap : Heap) (w : World) (objects : List PlainObject) (t o : ℕ) → IsInLimits heap.shape → Comes heap w
+pub halted_face_another : (heap : Heap) (w : World) (objects : List PlainObject) (t o : ℕ) → IsInLimits heap.shape → IsReachable heap w
     → AreAfterLogs w objects
     → is_halted (w.words Safepoint) ≡ true → is_listed (notified_at objects o) t ≡ true → OwnedByAnother objects o t
 halted_face_another heap w objects t o limits comes history halted = faces_another heap w objects limits comes history halted t o

@@ -1,6 +1,7 @@
 -- How a thread stands at an object's plain monitor, by the entries alone: whether it waits or was notified, and whether it was notified. With one entry more,
 -- wherever it stands in the order, a thread stays notified, unless the entry is its own Resume.
-use Rattle.std.proofs.Common.{◌≡◌, ℕ, ◌==◌, ◌&&◌, ◌||◌, ◌+◌, ◌-◌, nat_le, not, eq-eqb, ne_eqb, eqb-true, cond, is_none, Bool, true, false, List, [], ◌∷◌, ◌++◌, slice_set, Option, Some, None, refl, sym, ap, ◌∙◌, subst, inl, inr}
+use Rattle.std.proofs.Common.{◌≡◌, ℕ, ◌==◌, ◌&&◌, ◌||◌, ◌+◌, ◌-◌, nat_le, not, eq-eqb, ne_eqb, eqb-true, cond, is_none, Bool, true}
+use Rattle.std.proofs.Common.{false, List, [], ◌∷◌, ◌++◌, slice_set, Option, Some, None, refl, sym, ap, ◌∙◌, subst, inl, inr}
 use Rattle.std.proofs.Math.Bool.{or-true, or-false, and-true, and-false}
 use Rattle.std.proofs.lemmas.Bool.{cases_eq}
 use Rattle.std.proofs.lemmas.List.{get_or-set_same, get_or-set_other}
@@ -8,7 +9,8 @@ use Rattle.std.proofs.lemmas.Option.{cond_some, same_Some, get_or_from_slice_get
 use Rattle.plain_monitor.specs.declared.entry.Entry.{Entry}
 use Rattle.plain_monitor.specs.declared.entry.Entry.TheVariants as entry
 use Rattle.plain_monitor.specs.declared.entry.Logged.{Logged}
-use Rattle.plain_monitor.specs.Monitor.{PlainMonitor, is_thread, is_listed, only_if, owns, count_of, without, is_outside, enter, exit, wait, resumed, resume, calls, notify, notify_all}
+use Rattle.plain_monitor.specs.Monitor.{PlainMonitor, is_thread, is_listed, only_if, owns, count_of, without}
+use Rattle.plain_monitor.specs.Monitor.{is_outside, enter, exit, wait, resumed, resume, calls, notify, notify_all}
 use Rattle.plain_monitor.specs.Objects.{PlainObject, new_object, take_at, take_named, take_entry, named}
 use Rattle.plain_monitor.specs.Order.{is_before, insert_ordered}
 use Rattle.plain_monitor.specs.History.{take_all}
@@ -62,7 +64,7 @@ resumed_called m n u t (Some k) h =
           ∙ sym (ap (λ b. is_listed m.called t && not b) (ne_eqb u t (λ q. other (sym q))) ∙ and-true (is_listed m.called t))
     ]
 
--- of the tests whether the thread is the one that is woken, whether it waits behind it, and whether it was notified before
+-- of the tests whether the thread is the one that is woken, whether it waits after it, and whether it was notified before
 woken_now : (a b c : Bool) → (c || (a || false)) ≡ (c || (((a || b) || c) && a))
 woken_now true b c = refl
 woken_now false b true = refl

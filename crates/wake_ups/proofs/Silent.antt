@@ -1,21 +1,23 @@
 -- A notify that logs whom it wakes, and stores nothing, leads to no valid world: who is notified in the logs then still waits by its word.
-use Rattle.core_locks.proofs.Prelude.{◌≡◌, ℕ, ◌+◌, ◌==◌, ◌||◌, Bool, true, false, cond, List, [], ◌∷◌, ◌++◌, length, Some, None, refl, sym, ap, ◌∙◌, inl, is_listed, owns, calls, only_if, with_monitor, same_Some, PlainObject, Logged, Waiting, Length, StepPlan, waits_on, Known, World, notified_at, Notify, local_of, same_number}
+use Rattle.core_locks.proofs.Prelude.{◌≡◌, ℕ, ◌+◌, ◌==◌, ◌||◌, Bool, true, false, cond, List, [], ◌∷◌, ◌++◌, length, Some, None, refl, sym}
+use Rattle.core_locks.proofs.Prelude.{ap, ◌∙◌, inl, is_listed, owns, calls, only_if, with_monitor, same_Some, PlainObject, Logged, Waiting}
+use Rattle.core_locks.proofs.Prelude.{Length, StepPlan, waits_on, ThreadView, World, notified_at, Notify, local_of, same_number}
 use Rattle.plain_monitor.specs.Monitor.{notify}
 use Rattle.core_world.specs.Steps.{is_idle, world_after}
-use Rattle.core_world.specs.Trees.Plans.{Purpose, next_stamp}
+use Rattle.core_world.specs.Trees.Plans.{CallContext, next_stamp}
 use Rattle.core_world.specs.Trees.WaitSteps.{publish_plan, publish_steps}
 use Rattle.core_world.specs.Valid.{Valid}
-use Rattle.core_world.proofs.LookWhileRevoking.{without_clause}
-use Rattle.core_world.proofs.OwnersShown.{running_fits}
-use Rattle.core_locks.proofs.RefutedOwning.{takes_it}
+use Rattle.core_world.proofs.bias.LookWhileRevoking.{without_clause}
+use Rattle.core_world.proofs.enter_exit.OwnersShown.{running_fits}
+use Rattle.core_locks.proofs.enter_exit.RefutedOwning.{takes_it}
 use Rattle.core_locks.proofs.RefutedSteps.{knows, hit, hit_fits}
 use Rattle.core_locks.proofs.RefutedTaken.{taken_here, object_after}
-use Rattle.core_law.specs.Logic.{Heap, Stands, DoesSteps}
+use Rattle.core_law.specs.Logic.{Heap, SoundWorldWith, DoesSteps}
 use Rattle.core_law.specs.WholeLaw.{LawsHold}
 use Rattle.core_law.proofs.Standing.{away, valid_here}
 use Rattle.wake_ups.proofs.Notified.{no_lost_notify}
 
--- whom a notify wakes was notified behind it
+-- whom a notify wakes was notified after it
 listed_at_end : (ps : List (ℕ × ℕ)) (p : ℕ × ℕ) (u : ℕ) → (p.0 == u) ≡ true → is_listed (ps ++ p ∷ []) u ≡ true
 listed_at_end [] p u h = ap (λ b. b || false) h
 listed_at_end (q ∷ ps) p u h = by_head (q.0 == u) (listed_at_end ps p u h)
@@ -41,7 +43,7 @@ woken x y t u taken = by_owner (owns x.monitor t) taken
     by_owner true h = by_waits x.monitor.waits h
     by_owner false h = absurd (cc h)
 
-pub no_silent_notify : (w : World) (o t u n : ℕ) (e : Purpose) → Valid w → (w.known t).running ≡ true → waits_on (w.words (Waiting u)) o ≡ true
+pub no_silent_notify : (w : World) (o t u n : ℕ) (e : CallContext) → Valid w → (w.known t).running ≡ true → waits_on (w.words (Waiting u)) o ≡ true
     → Valid (world_after (publish_plan e t (Notify o (Some u)) n) t w) → ⊥
 no_silent_notify w o t u n e v runs waits valid =
     let plan : StepPlan = publish_plan e t (Notify o (Some u)) n in
@@ -55,7 +57,7 @@ no_silent_notify w o t u n e v runs waits valid =
     no_lost_notify (hit plan t w) (record { objects = a.0; is = inl a.1 }) u o notified waits
 
 -- so the tree that makes this step keeps no such world valid
-pub no_silent_steps : (heap : Heap) (k : Known) (fresh : Bool) (v : Stands heap k) (e : Purpose) (o u : ℕ) → is_idle heap.shape k ≡ fresh
+pub no_silent_steps : (heap : Heap) (k : ThreadView) (fresh : Bool) (v : SoundWorldWith heap k) (e : CallContext) (o u : ℕ) → is_idle heap.shape k ≡ fresh
     → k.running ≡ true → waits_on (v.world.words (Waiting u)) o ≡ true
     → DoesSteps heap fresh (publish_steps (Notify o (Some u)) e (local_of k)) k → ⊥
 no_silent_steps heap k fresh v e o u at_first runs waits does =

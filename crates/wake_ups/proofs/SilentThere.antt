@@ -9,14 +9,14 @@ use Rattle.plain_monitor.specs.declared.entry.Entry.TheVariants.{Notify}
 use Rattle.std.specs.Prelude.{Some}
 use Rattle.core_world.specs.Due.{steps_due}
 use Rattle.core_world.specs.Steps.{is_idle}
-use Rattle.core_world.specs.Threads.Known.{local_of}
+use Rattle.core_world.specs.Threads.ThreadView.{local_of}
 use Rattle.core_world.specs.Trees.Calls.{steps_of}
-use Rattle.core_world.specs.Trees.Plans.{Purpose}
+use Rattle.core_world.specs.Trees.Plans.{CallContext}
 use Rattle.core_world.specs.Trees.WaitSteps.{publish_steps}
 use Rattle.core_world.specs.Words.Shape.{IsInLimits, ring_bits}
 use Rattle.core_world.specs.World.{World}
-use Rattle.core_law.specs.Logic.{Stands, DoesSteps}
-use Rattle.core_law.specs.Reached.{Comes}
+use Rattle.core_law.specs.Logic.{SoundWorldWith, DoesSteps}
+use Rattle.core_law.specs.Reached.{IsReachable}
 use Rattle.core_law.proofs.NextSteps.{stands_here}
 use Rattle.core_steps.proofs.ReachedWorlds.{reached_worlds_valid}
 use Rattle.step_history.specs.Examples.{world_of, owns_beside}
@@ -27,7 +27,7 @@ use Rattle.wake_ups.proofs.Silent.{no_silent_steps}
 abbrev w : World
 w = world_of rivals owns_beside
 
-comes_beside : Comes rivals w
+comes_beside : IsReachable rivals w
 unfolding steps_due is_idle steps_of read_safe read_mark read_hold read_wait read_owner ring_bits
 comes_beside = by_turns rivals owns_beside refl
 
@@ -35,11 +35,11 @@ limits : IsInLimits rivals.shape
 limits =
     record { threads = omega arith; classes = omega arith; declared = omega arith; objects = omega arith; each = ((omega arith, omega arith), tt) }
 
-stands : Stands rivals (w.known 1)
+stands : SoundWorldWith rivals (w.known 1)
 unfolding steps_due is_idle steps_of read_safe read_mark read_hold read_wait read_owner ring_bits
 stands = stands_here w 1 (omega arith) (reached_worlds_valid rivals w limits comes_beside)
 
-pub silent_there : (e : Purpose)
-    → Comes rivals w × (DoesSteps rivals true (publish_steps (Notify 0 (Some 0)) e (local_of (w.known 1))) (w.known 1) → ⊥)
+pub silent_there : (e : CallContext)
+    → IsReachable rivals w × (DoesSteps rivals true (publish_steps (Notify 0 (Some 0)) e (local_of (w.known 1))) (w.known 1) → ⊥)
 unfolding steps_due is_idle steps_of read_safe read_mark read_hold read_wait read_owner ring_bits stands
 silent_there e = (comes_beside, no_silent_steps rivals (w.known 1) true stands e 0 0 refl refl refl)

@@ -1,5 +1,6 @@
 -- A revocation stores no waiting word.
-use Rattle.core_locks.proofs.Prelude.{◌≡◌, ℕ, ◌<◌, ◌++◌, Bool, true, false, List, [], ◌∷◌, refl, sym, ap, ◌∙◌, subst, PlainObject, Name, Shape, same_name, World, IsRevoking}
+use Rattle.core_locks.proofs.Prelude.{◌≡◌, ℕ, ◌<◌, ◌++◌, Bool, true, false, List, [], ◌∷◌, refl, sym, ap, ◌∙◌}
+use Rattle.core_locks.proofs.Prelude.{subst, PlainObject, WordId, Shape, same_name, World, IsRevoking}
 use Rattle.std.specs.List.{AllByRecursion}
 use Rattle.core_world.specs.RevocationRules.{Write, writes_in}
 use Rattle.core_world.proofs.Naming.{same_named}
@@ -7,8 +8,8 @@ use Rattle.core_world.proofs.RefusedWorlds.{untouched_word}
 use Rattle.core_bias.proofs.GoodWrites.{is_revocation_word, AreGood, good_writes}
 use Rattle.core_bias.proofs.Stores.{first_below}
 
-module _ (s : Shape) (f : Name → ℕ) where
-  spared : (n : Name) (xs ys : List Write) → is_revocation_word n ≡ false → AreGood s f (xs ++ ys)
+module _ (s : Shape) (f : WordId → ℕ) where
+  spared : (n : WordId) (xs ys : List Write) → is_revocation_word n ≡ false → AreGood s f (xs ++ ys)
       → AllByRecursion (λ x. same_name n x.at ≡ false) xs
   spared n [] ys none h = tt
   spared n (x ∷ xs) ys none h = (other (same_name n x.at) refl, spared n xs ys none h.1)
@@ -18,7 +19,7 @@ module _ (s : Shape) (f : Name → ℕ) where
       other true e = let same = ap is_revocation_word (same_named n x.at e) in absurd (cc (same, h.0.0, none))
 
 -- so every word that is none of a revocation's is what it was before the first store
-module _ (w : World) (P : List PlainObject) (s : IsRevoking w P) (n : Name) where
+module _ (w : World) (P : List PlainObject) (s : IsRevoking w P) (n : WordId) where
   abbrev b : World
   b = s.before
 

@@ -5,7 +5,7 @@ use Rattle.plain_monitor.specs.declared.entry.Entry.TheVariants as entry
 use Rattle.plain_monitor.specs.declared.entry.Logged.{Logged}
 use Rattle.plain_monitor.specs.Objects.{PlainObject}
 use Rattle.plain_monitor.specs.History.{objects_after}
-use Rattle.core_world.specs.declared.name.Name.TheVariants.{Waiting}
+use Rattle.core_world.specs.declared.word_id.WordId.TheVariants.{Waiting}
 use Rattle.core_world.specs.declared.stage.Stage.TheVariants.{Resumes}
 use Rattle.core_world.specs.Words.Forms.{says_notified}
 use Rattle.core_world.specs.World.{World, logs}

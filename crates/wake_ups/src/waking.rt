@@ -3,15 +3,15 @@
 ghost use Rattle.std.specs.Prelude.{◌≡◌, ◌⊎◌, ℕ, true, List, Some};
 ghost use Rattle.plain_monitor.specs.Objects.{PlainObject};
 ghost use Rattle.plain_monitor.specs.Monitor.{is_listed};
-ghost use Rattle.core_world.specs.declared.name.Name.TheVariants.{Safepoint, Waiting};
+ghost use Rattle.core_world.specs.declared.word_id.WordId.TheVariants.{Safepoint, Waiting};
 ghost use Rattle.core_world.specs.Threads.Stages.{notification_in};
 ghost use Rattle.core_world.specs.Words.Forms.{waits_on, says_notified, is_halted};
 ghost use Rattle.core_world.specs.Words.Shape.{IsInLimits};
 ghost use Rattle.core_world.specs.World.{World};
 ghost use Rattle.core_world.specs.Locks.{waits_at, notified_at};
-ghost use Rattle.core_world.specs.Threads.Known.{StepMade};
+ghost use Rattle.core_world.specs.Threads.ThreadView.{StepMade};
 ghost use Rattle.core_law.specs.Logic.{Heap};
-ghost use Rattle.core_law.specs.Reached.{Comes};
+ghost use Rattle.core_law.specs.Reached.{IsReachable};
 ghost use Rattle.step_history.specs.Leads.{Leads};
 ghost use Rattle.wake_ups.specs.WakeUps.{AreAfterLogs, IsTold, OwnedByAnother, resumes_of};
 
@@ -23,18 +23,18 @@ ghost use Rattle.wake_ups.specs.WakeUps.{AreAfterLogs, IsTold, OwnedByAnother, r
 /// each who is notified is owned by another thread (`halted`).
 pub fn no_wake_up_is_lost()
     ensures notified { (heap : Heap) (w : World) (objects : List PlainObject) (t o : ℕ) → IsInLimits heap.shape
-        → Comes heap w → AreAfterLogs w objects
+        → IsReachable heap w → AreAfterLogs w objects
         → is_listed (notified_at objects o) t ≡ true → IsTold w t o }
     ensures waits { (heap : Heap) (w : World) (objects : List PlainObject) (t o : ℕ) → IsInLimits heap.shape
-        → Comes heap w → AreAfterLogs w objects
+        → IsReachable heap w → AreAfterLogs w objects
         → waits_on (w.words (Waiting t)) o ≡ true → is_listed (waits_at objects o) t ≡ true }
     ensures told { (heap : Heap) (w : World) (objects : List PlainObject) (t o : ℕ) → IsInLimits heap.shape
-        → Comes heap w → AreAfterLogs w objects → says_notified (w.words (Waiting t)) o ≡ true
+        → IsReachable heap w → AreAfterLogs w objects → says_notified (w.words (Waiting t)) o ≡ true
         → (is_listed (notified_at objects o) t ≡ true)
         ⊎ ((is_listed (waits_at objects o) t ≡ true)
         × ((u : ℕ) × (notification_in (w.known u).stage ≡ Some o))) }
     ensures halted { (heap : Heap) (w : World) (objects : List PlainObject) (t o : ℕ) → IsInLimits heap.shape
-        → Comes heap w → AreAfterLogs w objects → is_halted (w.words Safepoint) ≡ true
+        → IsReachable heap w → AreAfterLogs w objects → is_halted (w.words Safepoint) ≡ true
         → is_listed (notified_at objects o) t ≡ true → OwnedByAnother objects o t }
 {}
 
@@ -43,7 +43,7 @@ pub fn no_wake_up_is_lost()
 /// thread's entry, and no entry of its own but that one, puts it back among those who wait or lets it be forgotten.
 pub fn who_is_notified_stays_so_until_its_resume()
     ensures { (heap : Heap) (w v : World) (xs : List (ℕ × StepMade)) (objects after : List PlainObject) (t o : ℕ)
-        → IsInLimits heap.shape → Comes heap w → Leads w xs v → AreAfterLogs w objects → AreAfterLogs v after
+        → IsInLimits heap.shape → IsReachable heap w → Leads w xs v → AreAfterLogs w objects → AreAfterLogs v after
         → is_listed (notified_at objects o) t ≡ true
         → resumes_of o (v.known t).log ≡ resumes_of o (w.known t).log
         → is_listed (notified_at after o) t ≡ true }

@@ -1,5 +1,6 @@
 -- How lines are checked one after the other.
-use Rattle.std.specs.Prelude.{ℕ, ◌+◌, Bool, ◌&&◌, ◌||◌, ◌==◌, nat_lt, if◌then◌else◌, List, [], ◌∷◌, position, Option, Some, None, option_map, option_and_then, Result, Ok, Err}
+use Rattle.std.specs.Prelude.{ℕ, ◌+◌, Bool, ◌&&◌, ◌||◌, ◌==◌, nat_lt, if◌then◌else◌, List, [], ◌∷◌, position}
+use Rattle.std.specs.Prelude.{Option, Some, None, option_map, option_and_then, Result, Ok, Err}
 use Rattle.plain_monitor.specs.declared.entry.Entry.{Entry}
 use Rattle.object_program.specs.Program.{ProgramText}
 use Rattle.plain_machine.specs.Machine.{PlainMachine, new_machine, take}
@@ -19,7 +20,7 @@ abbrev pub is_above : Option (ℕ × ℕ) → ℕ → ℕ → Bool
 is_above None stamp thread = nat_lt 0 stamp
 is_above (Some last) stamp thread = nat_lt last.0 stamp || ((last.0 == stamp) && nat_lt last.1 thread)
 
--- the entry and the machine behind it, where it takes the entry
+-- the entry and the machine after it, where it takes the entry
 abbrev pub taken_by : PlainMachine → ℕ → Entry → Option (Entry × PlainMachine)
 taken_by m t e = option_map (λ n. (e, n)) (take m t e)
 
@@ -36,7 +37,7 @@ abbrev pub first_check : ProgramText → ℕ → ℕ → Check
 first_check p fuel start =
     record { machine = new_machine p fuel; hashes = new_hashes p start; last = None; stopped = None }
 
--- behind a line that tells this, where the machine takes it
+-- after a line that tells this, where the machine takes it
 abbrev pub after : ℕ → Check → LineRead → Option (Entry × PlainMachine) → Check
 after number c read None = record c { stopped = Some number }
 after number c read (Some x) =
@@ -50,7 +51,7 @@ gone_by (Some line) number c read = c
 gone_by None number c read =
     if is_above c.last read.stamp read.thread then stepped number c read else record c { stopped = Some number }
 
--- behind the line with this number, which tells this; behind a line that was no step nothing is taken
+-- after the line with this number, which tells this; after a line that was no step nothing is taken
 abbrev pub gone : ℕ → Check → LineRead → Check
 gone number c read = gone_by c.stopped number c read
 
@@ -59,7 +60,7 @@ abbrev pub next_check : ℕ → Option LineRead → (LineRead → Result Check �
 next_check number None go_on = Err number
 next_check number (Some read) go_on = go_on read
 
--- the check behind these lines, where so many stand before them, or the number of the first that tells no entry
+-- the check after these lines, where so many stand before them, or the number of the first that tells no entry
 abbrev pub checked_from : Names → ℕ → Check → List (List ℕ) → Result Check ℕ
 checked_from t n c [] = Ok c
 checked_from t n c (line ∷ lines) =
@@ -73,7 +74,7 @@ abbrev pub verdict_by : Check → ℕ → Option ℕ → Checked
 verdict_by c lines (Some line) = NoStep line
 verdict_by c lines None = hash_verdict c lines (position is_bad c.hashes.marks)
 
--- the answer behind the last line
+-- the answer after the last line
 abbrev pub verdict_of : Check → ℕ → Checked
 verdict_of c lines = verdict_by c lines c.stopped
 

@@ -1,5 +1,6 @@
 -- How a check follows the hash entries: a mark for each object, and a generator for each thread.
-use Rattle.std.specs.Prelude.{ℕ, zero, suc, ◌+◌, Bool, true, false, ◌&&◌, ◌==◌, if◌then◌else◌, List, [], ◌∷◌, ◌++◌, length, replicate, slice_index_or, slice_set, Option, Some, None}
+use Rattle.std.specs.Prelude.{ℕ, zero, suc, ◌+◌, Bool, true, false, ◌&&◌, ◌==◌, if◌then◌else◌, List, [], ◌∷◌}
+use Rattle.std.specs.Prelude.{◌++◌, length, replicate, slice_index_or, slice_set, Option, Some, None}
 use Rattle.lock_policy.specs.Draws.{start_state, next_state, value_of}
 use Rattle.plain_monitor.specs.declared.entry.Entry.{Entry}
 use Rattle.plain_monitor.specs.declared.entry.Entry.TheVariants.{Hash}
@@ -31,7 +32,7 @@ drawer_next d = record { draw = next_state d.draw; count = d.count + 1 }
 abbrev pub gives : Drawer → ℕ → ℕ → Bool
 gives d value number = (number == d.count + 1) && (value == value_of (next_state d.draw))
 
--- the mark behind a hash entry before which none was drawn; `drawn` tells whether the draw is right, where it is one
+-- the mark after a hash entry before which none was drawn; `drawn` tells whether the draw is right, where it is one
 abbrev pub first_mark : ℕ → Option Bool → Mark
 first_mark value None = Undrawn value
 first_mark value (Some right) = if right then Drawn value else Bad
@@ -40,7 +41,7 @@ abbrev pub second_mark : ℕ → Option Bool → Mark
 second_mark value None = Drawn value
 second_mark value (Some right) = Bad
 
--- the mark behind one more hash entry
+-- the mark after one more hash entry
 abbrev pub marked : Mark → ℕ → Option Bool → Mark
 marked Unseen value drawn = first_mark value drawn
 marked (Undrawn first) value drawn = if first == value then first_mark value drawn else Bad
@@ -59,13 +60,13 @@ drawn_at h t o value number =
     let d = drawer_at h t in
     marked_at (record h { drawers = slice_set h.drawers t (drawer_next d) }) o value (Some (gives d value number))
 
--- behind an entry of thread t
+-- after an entry of thread t
 abbrev pub noted : HashState → ℕ → Entry → HashState
 noted h t (Hash o value None) = marked_at h o value None
 noted h t (Hash o value (Some number)) = drawn_at h t o value number
 noted h t e = h
 
--- behind the last line, an object with this mark breaks the rule
+-- after the last line, an object with this mark breaks the rule
 abbrev pub is_bad : Mark → Bool
 is_bad Unseen = false
 is_bad (Undrawn value) = true

@@ -1,11 +1,13 @@
 -- What a line tells, word by word.
-use Rattle.std.specs.Prelude.{ℕ, ℤ, pos, ◌+◌, ◌-◌, ◌*◌, ◌^◌, nat_abs, ◌&&◌, ◌==◌, nat_lt, if◌then◌else◌, List, [], ◌∷◌, codes, drop, map, position, slice_get, take, Option, Some, None, option_map, option_and_then}
+use Rattle.std.specs.Prelude.{ℕ, ℤ, pos, ◌+◌, ◌-◌, ◌*◌, ◌^◌, nat_abs, ◌&&◌, ◌==◌, nat_lt, if◌then◌else◌, List, [], ◌∷◌, codes}
+use Rattle.std.specs.Prelude.{drop, map, position, slice_get, take, Option, Some, None, option_map, option_and_then}
 use Rattle.std.specs.Fmt.{signed_decimal}
 use Rattle.std.specs.Str.{bytes_eq}
 use Rattle.plain_monitor.specs.Limits.{most_classes, most_made, most_threads}
 use Rattle.plain_monitor.specs.declared.entry.Value.TheVariants.{Nil, Int, Ref}
 use Rattle.plain_monitor.specs.declared.entry.Entry.{Entry}
-use Rattle.plain_monitor.specs.declared.entry.Entry.TheVariants.{Enter, Exit, Get, Put, Wait, Resume, Notify, NotifyAll, Hash, New, Print, Dump, Trap, Spent, Done}
+use Rattle.plain_monitor.specs.declared.entry.Entry.TheVariants.{Enter, Exit, Get, Put, Wait, Resume, Notify, NotifyAll}
+use Rattle.plain_monitor.specs.declared.entry.Entry.TheVariants.{Hash, New, Print, Dump, Trap, Spent, Done}
 use Rattle.plain_monitor.specs.Monitor.{only_if}
 use Rattle.plain_monitor.specs.Numbers.{least_number, greatest_number}
 use Rattle.object_program.specs.declared.program.ObjectDef.{ObjectDef}
@@ -72,7 +74,7 @@ abbrev pub element_at : ObjectDef → List ℕ → Option ℕ
 element_at d digits =
     option_and_then (λ i. only_if (nat_lt (d.first + i) (2 ^ 32)) (d.first + i)) (count_below d.size digits)
 
--- the object of a declaration, or an element of an array by what stands behind the opening bracket
+-- the object of a declaration, or an element of an array by what stands after the opening bracket
 abbrev pub element_of : ObjectDef → Option (List ℕ) → Option ℕ
 element_of d None = if d.array then None else Some d.first
 element_of d (Some index) =
@@ -94,7 +96,7 @@ abbrev pub made_at : Names → ℕ → ℕ → Option ℕ
 made_at t n k =
     only_if (nat_lt (t.total + (most_made * n + k)) (2 ^ 32)) (t.total + (most_made * n + k))
 
--- the object that a thread makes, by the thread's name and what stands behind the dot
+-- the object that a thread makes, by the thread's name and what stands after the dot
 abbrev pub made_in : Names → List ℕ → List ℕ → Option ℕ
 made_in t name digits =
     option_and_then (λ n. option_and_then (λ k. made_at t n k) (count_below most_made digits)) (thread_in t name)
@@ -136,7 +138,7 @@ get_read o k v = record { plain = Get o k v.plain; other = option_map (λ n. Get
 abbrev pub put_read : ℕ → ℕ → ValueRead → EntryRead
 put_read o k v = record { plain = Put o k v.plain; other = option_map (λ n. Put o k (Ref n)) v.other }
 
--- what a verb tells with no words behind it, with one, and so on
+-- what a verb tells with no words after it, with one, and so on
 abbrev pub none_told : Verb → Option EntryRead
 none_told verb.Spent = Some (sure Spent)
 none_told verb.Done = Some (sure Done)

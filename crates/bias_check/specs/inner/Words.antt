@@ -1,4 +1,4 @@
--- A line as words: a space between each two, and a line feed behind the last.
+-- A line as words: a space between each two, and a line feed after the last.
 use Rattle.std.specs.Prelude.{ℕ, ◌==◌, if◌then◌else◌, List, [], ◌∷◌, Option, Some, None, option_map}
 use Rattle.std.specs.List.{slice_split}
 
@@ -6,10 +6,10 @@ use Rattle.std.specs.List.{slice_split}
 abbrev pub words_of : List ℕ → List (List ℕ)
 words_of text = slice_split (λ b. b == 32) text
 
--- the words of what is left of a line; behind the last word nothing is left
-abbrev pub words_behind : Option (List ℕ) → List (List ℕ)
-words_behind None = []
-words_behind (Some text) = words_of text
+-- the words of what is left of a line; after the last word nothing is left
+abbrev pub words_after : Option (List ℕ) → List (List ℕ)
+words_after None = []
+words_after (Some text) = words_of text
 
 -- what stands before this byte at the end
 abbrev pub before_last : ℕ → List ℕ → Option (List ℕ)

@@ -1,7 +1,7 @@
 -- Options with which a program can be run.
 use Rattle.std.specs.Prelude.{◌≤◌}
 use Rattle.plain_monitor.specs.Limits.{most_fuel}
-use Rattle.run_words.specs.declared.options.Options.{Options}
+use Rattle.cli_args.specs.declared.options.Options.{Options}
 
 -- a run can have these options: there is a worker, each turn has an instruction, and the fuel is one that the logs have room for
 pub record IsRunnable (o : Options) : Type 0 where

@@ -12,7 +12,7 @@ use Rattle.lock_journal.specs.RunText.{lines_of_run}
 use Rattle.lock_journal.specs.declared.lines.Lines.{Lines}
 use Rattle.lock_journal.specs.declared.record.RunRecord.{RunRecord}
 use Rattle.program_run.specs.Ran.{IsRan}
-use Rattle.run_words.specs.declared.options.Options.{Options}
+use Rattle.cli_args.specs.declared.options.Options.{Options}
 use Rattle.bias_cli.specs.Asked.{settings_of}
 use Rattle.bias_cli.specs.Finish.{is_cut_short, status_of}
 use Rattle.bias_cli.specs.Report.{IsReportWhere}

@@ -3,7 +3,7 @@ use Rattle.std.specs.Prelude.{◌≡◌, Option}
 use Rattle.std.specs.Io.KnownBytes.{append_known}
 use Rattle.run_io.specs.declared.sink.Sink as of_sink
 use Rattle.run_io.specs.Buffered.{Buffered}
-use Rattle.run_words.specs.declared.options.Command.{Command}
+use Rattle.cli_args.specs.declared.options.Command.{Command}
 use Rattle.bias_cli.specs.Seen.{SourceSeen, SinkSeen}
 use Rattle.bias_cli.specs.Finish.{IsFinish}
 use Rattle.bias_cli.specs.declared.finish.Finish.{Finish}

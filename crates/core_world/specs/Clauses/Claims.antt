@@ -1,7 +1,7 @@
 -- Each monitor is kept by one thread, named by one mark, being given back by one thread, or at one ring position.
 use Rattle.std.specs.Prelude.{◌≡◌, ◌⊎◌, ℕ, zero, suc, ◌+◌, ◌%◌, ◌^◌, ◌<◌, ◌≤◌, is_some, Bool, true, Option, Some, None}
 use Rattle.core_world.specs.Threads.Stages.{one_if}
-use Rattle.core_world.specs.Threads.Known.{Moving, Fetches, Returns}
+use Rattle.core_world.specs.Threads.ThreadView.{Moving, Fetches, Returns}
 
 -- how many of the first n have a monitor
 abbrev pub count_with_monitor : ℕ → (ℕ → Option ℕ) → ℕ

@@ -39,12 +39,12 @@ abbrev pub all_draws : ℕ → List (List Logged) → ℕ
 all_draws o [] = 0
 all_draws o (log ∷ logs) = draws_for o log + all_draws o logs
 
--- the draw is the next one behind n others of the generator that began with this word
+-- the draw is the next one after n others of the generator that began with this word
 abbrev pub IsNextDraw : ℕ → ℕ → Option Draw → Type 0
 IsNextDraw first n None = Unit {0}
 IsNextDraw first n (Some d) = (d.number ≡ n + 1) × (d.value ≡ nth_value first (n + 1))
 
--- the draws of a log are the generator's, behind n others
+-- the draws of a log are the generator's, after n others
 abbrev pub AreDraws : ℕ → ℕ → List Logged → Type 0
 AreDraws first n [] = Unit {0}
 AreDraws first n (l ∷ log) = IsNextDraw first n (draw_in l.entry) × AreDraws first (drawn_by (draw_in l.entry) + n) log

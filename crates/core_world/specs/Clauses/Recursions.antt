@@ -2,9 +2,9 @@
 use Rattle.std.specs.Prelude.{◌≡◌, ◌⊎◌, ℕ, ◌+◌, ◌≤◌, true, List, slice_index, Some}
 use Rattle.plain_monitor.specs.Monitor.{is_listed}
 use Rattle.core_world.specs.declared.stage.Stage.{Stage}
-use Rattle.core_world.specs.declared.stage.Stage.TheVariants.{Waits, Resumes, TakesOver}
+use Rattle.core_world.specs.declared.stage.Stage.TheVariants.{Waits, Resumes, OwnerConverted}
 use Rattle.core_world.specs.Words.Forms.{is_neutral, monitor_in, hold_word}
-use Rattle.core_world.specs.Threads.Stages.{recursions_ahead, recursions_behind}
+use Rattle.core_world.specs.Threads.Stages.{recursions_ahead, recursions_lowered}
 use Rattle.core_world.specs.Locks.{Lock, Open, OnRecord, OwnedBy, recursion_count}
 
 -- the records of thread t go by the monitor: it has the lock through it, or waits, or was notified
@@ -22,7 +22,7 @@ pub record RecursionsFit (mark recursions : ℕ → ℕ) (lock : ℕ → Lock) (
   -- or leaving; at the stages Waits and Resumes the word may be anything
   pub owned : (o m t : ℕ) → monitor_in (mark o) ≡ Some m → lock o ≡ OwnedBy t → (stage t ≡ Waits o → ⊥)
       → (stage t ≡ Resumes o → ⊥)
-      → recursions m + recursions_behind (stage t) o ≡ recursion_count o (displaced t) (holds t)
+      → recursions m + recursions_lowered (stage t) o ≡ recursion_count o (displaced t) (holds t)
       + recursions_ahead (stage t) o
   -- a thread that waits or was notified keeps them
   pub waiting : (o t : ℕ) → (is_listed (waits o) t ≡ true) ⊎ (is_listed (called o) t ≡ true)
@@ -30,4 +30,4 @@ pub record RecursionsFit (mark recursions : ℕ → ℕ) (lock : ℕ → Lock) (
   pub on_record : (o m t p : ℕ) → monitor_in (mark o) ≡ Some m → lock o ≡ OnRecord t p → recursions m ≡ 0
   pub free : (o m : ℕ) → monitor_in (mark o) ≡ Some m → lock o ≡ Open → recursions m ≡ 0
   -- a thread that has become the owner in place of its own record has made no record above depth 1 through the monitor
-  pub thread_owns : (o t : ℕ) → stage t ≡ TakesOver o → recursion_count o (displaced t) (holds t) ≡ 0
+  pub thread_owns : (o t : ℕ) → stage t ≡ OwnerConverted o → recursion_count o (displaced t) (holds t) ≡ 0

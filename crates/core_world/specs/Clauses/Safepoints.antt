@@ -4,11 +4,11 @@ use Rattle.plain_monitor.specs.declared.entry.Entry.{Entry}
 use Rattle.plain_monitor.specs.declared.entry.Entry.TheVariants.{Trap, Spent, Done}
 use Rattle.plain_monitor.specs.declared.entry.Logged.{Logged}
 use Rattle.plain_monitor.specs.Monitor.{PlainMonitor, is_listed, owns}
-use Rattle.core_world.specs.declared.task.Op.{Op}
-use Rattle.core_world.specs.declared.task.Op.TheVariants as op
-use Rattle.core_world.specs.declared.task.Unfinished.{Unfinished}
+use Rattle.core_world.specs.declared.heap_call.Operation.{Operation}
+use Rattle.core_world.specs.declared.heap_call.Operation.TheVariants as op
+use Rattle.core_world.specs.declared.heap_call.Unfinished.{Unfinished}
 use Rattle.core_world.specs.declared.stage.Stage.{Stage}
-use Rattle.core_world.specs.declared.stage.Stage.TheVariants.{Calm, Takes}
+use Rattle.core_world.specs.declared.stage.Stage.TheVariants.{Settled, BiasAcquired}
 use Rattle.core_world.specs.Words.Forms.{runs_in, asks_in, requester_in, is_halted}
 use Rattle.core_world.specs.Threads.Stages.{revocation_in}
 
@@ -24,7 +24,7 @@ ends [] = false
 ends (l ∷ log) = is_ending l.entry || ends log
 
 -- the unfinished operation is this one, on o
-abbrev pub IsUnfinished : Option Unfinished → Op → ℕ → Type 0
+abbrev pub IsUnfinished : Option Unfinished → Operation → ℕ → Type 0
 IsUnfinished unfinished op o = unfinished ≡ Some (record { op = op; object = o })
 
 -- thread t waits, or was notified or enters where another is the owner
@@ -53,9 +53,9 @@ pub record SafepointIsKnown (n safe : ℕ) (running requesting reached halted en
   pub still : is_halted safe ≡ true → (requester_in safe ≡ None) × ((u : ℕ) → running u ≡ false)
       × IsStuck n ended unfinished monitors
 
--- the thread stands in the middle of nothing; or at its reached safepoint it has given itself a bias, which it takes behind the release
+-- the thread stands in the middle of nothing; or at its reached safepoint it has given itself a bias, which it takes after the release
 abbrev pub IsQuiet : Bool → Stage → Type 0
-IsQuiet reached stage = (stage ≡ Calm) ⊎ ((reached ≡ true) × ((o : ℕ) × (stage ≡ Takes o)))
+IsQuiet reached stage = (stage ≡ Settled) ⊎ ((reached ≡ true) × ((o : ℕ) × (stage ≡ BiasAcquired o)))
 
 -- so stands a thread that doesn't run, and no bias is being revoked
 pub record StoppedAreQuiet (running reached : ℕ → Bool) (stage : ℕ → Stage) : Type 0 where

@@ -3,12 +3,13 @@ use Rattle.std.specs.Prelude.{◌≡◌, ◌≢◌, ◌⊎◌, ℕ, ◌||◌, Bo
 use Rattle.mark_word.specs.declared.mark.MarkForm.{MarkForm}
 use Rattle.mark_word.specs.declared.mark.MarkForm.TheVariants.{Biased}
 use Rattle.mark_word.specs.Mark.{read_mark}
-use Rattle.core_world.specs.declared.name.Name.{Name}
-use Rattle.core_world.specs.declared.name.Name.TheVariants.{Safepoint, Prototype, Revocations, LastBulk, Mark, Stamp, Slot, Hold, Displaced, Waiting, Length, Owner, Recursions, Header, Object, Claim, End, Ring, Class}
+use Rattle.core_world.specs.declared.word_id.WordId.{WordId}
+use Rattle.core_world.specs.declared.word_id.WordId.TheVariants.{Safepoint, Prototype, Revocations, LastBulk, Mark, Stamp, Slot, Hold, Displaced}
+use Rattle.core_world.specs.declared.word_id.WordId.TheVariants.{Waiting, Length, Owner, Recursions, Header, Object, Claim, End, Ring, Class}
 use Rattle.core_world.specs.Words.Names.{its_monitor, has_class}
 use Rattle.core_world.specs.Words.Forms.{epoch_in, is_biased, monitor_in, waits_on, says_notified}
 use Rattle.core_world.specs.Threads.Stages.{Inflation, inflation_in, bears, revocation_in}
-use Rattle.core_world.specs.Threads.Known.{Known, StepMade, last_seen}
+use Rattle.core_world.specs.Threads.ThreadView.{ThreadView, StepMade, last_seen}
 use Rattle.core_world.specs.World.{World}
 use Rattle.core_world.specs.RevocationRules.{FoundAfter, words_after, writes_in}
 use Rattle.core_world.specs.Locks.{has_epoch, marks, prototype_of}
@@ -19,15 +20,15 @@ IsValidBias (Some (Biased thread epoch age)) prototype = has_epoch (epoch_in pro
 IsValidBias _ prototype = ⊥
 
 -- the thread is in the middle of an inflation, and P holds of it
-abbrev pub InMiddleOf : Known → (Inflation → Type 0) → Type 0
+abbrev pub InMiddleOf : ThreadView → (Inflation → Type 0) → Type 0
 InMiddleOf k P = (i : Inflation) × (inflation_in k.stage ≡ Some i) × P i
 
 -- m is the monitor of an object of which thread t is the plain owner, or whose lock it has without an entry that says so
-abbrev pub IsOwnMonitor : World → Known → (ℕ → ℕ → Bool) → ℕ → ℕ → Type 0
+abbrev pub IsOwnMonitor : World → ThreadView → (ℕ → ℕ → Bool) → ℕ → ℕ → Type 0
 IsOwnMonitor w k owner t m = (o : ℕ) × (monitor_in (marks w o) ≡ Some m) × ((owner o t || bears k.stage o) ≡ true)
 
 -- a word that stays while thread t runs, which knows k, where its call last saw v there. The plain owners are `owner`
-abbrev pub StaysWhileRunning : World → Known → (ℕ → ℕ → Bool) → ℕ → Name → ℕ → Type 0
+abbrev pub StaysWhileRunning : World → ThreadView → (ℕ → ℕ → Bool) → ℕ → WordId → ℕ → Type 0
 StaysWhileRunning w k owner t Safepoint v = ⊥
 StaysWhileRunning w k owner t (Prototype c) v = Unit {0}
 StaysWhileRunning w k owner t (Revocations c) v = Unit {0}
@@ -53,7 +54,7 @@ StaysWhileRunning w k owner t (Ring p) v = ⊥
 StaysWhileRunning w k owner t (Class o) v = v ≢ 0
 
 -- a word that stays while a thread's request stands
-abbrev pub StaysWhileAsking : World → Name → ℕ → Type 0
+abbrev pub StaysWhileAsking : World → WordId → ℕ → Type 0
 StaysWhileAsking w (Prototype c) v = Unit {0}
 StaysWhileAsking w (Revocations c) v = Unit {0}
 StaysWhileAsking w (LastBulk c) v = Unit {0}
@@ -61,27 +62,27 @@ StaysWhileAsking w (Class o) v = v ≢ 0
 StaysWhileAsking w (Mark o) v = IsValidBias (read_mark v) (prototype_of w o)
 StaysWhileAsking w _ v = ⊥
 
-abbrev pub Stays : World → Known → (ℕ → ℕ → Bool) → ℕ → Name → ℕ → Type 0
+abbrev pub Stays : World → ThreadView → (ℕ → ℕ → Bool) → ℕ → WordId → ℕ → Type 0
 Stays w k owner t n v =
     ((k.running ≡ true) × StaysWhileRunning w k owner t n v)
     ⊎ ((k.requesting ≡ true) × (revocation_in k.stage ≡ None) × StaysWhileAsking w n v)
 
 -- the thread keeps the monitor, or a mark names it
-abbrev pub IsKeptOrNamed : World → Known → ℕ → Type 0
+abbrev pub IsKeptOrNamed : World → ThreadView → ℕ → Type 0
 IsKeptOrNamed w k m = (k.kept ≡ Some m) ⊎ ((o : ℕ) × (monitor_in (marks w o) ≡ Some m))
 
 -- a step of these was on a word of m
 abbrev pub HasMet : List StepMade → ℕ → ℕ → Type 0
-HasMet steps m v = (n : Name) × (its_monitor n ≡ Some m) × (last_seen n steps ≡ Some v)
+HasMet steps m v = (n : WordId) × (its_monitor n ≡ Some m) × (last_seen n steps ≡ Some v)
 
 -- from some words on, these steps alone made the words what they are, and each found what those before it left
-pub record AreTheSteps (words : Name → ℕ) (steps : List StepMade) : Type 0 where
-  pub before : Name → ℕ
+pub record AreTheSteps (words : WordId → ℕ) (steps : List StepMade) : Type 0 where
+  pub before : WordId → ℕ
   pub found : FoundAfter before steps
   pub same : words ≡ words_after (writes_in steps) before
 
 pub record SeenStays (w : World) (owner : ℕ → ℕ → Bool) (waits : ℕ → List (ℕ × ℕ)) : Type 0 where
-  pub stays : (t : ℕ) (n : Name) (v : ℕ) → last_seen n (w.known t).seen ≡ Some v
+  pub stays : (t : ℕ) (n : WordId) (v : ℕ) → last_seen n (w.known t).seen ≡ Some v
       → Stays w (w.known t) owner t n v → w.words n ≡ v
   -- a mark that had no bias pattern has none
   pub unbiased : (t o v : ℕ) → last_seen (Mark o) (w.known t).seen ≡ Some v → ((w.known t).running ≡ true)
@@ -100,7 +101,7 @@ pub record SeenStays (w : World) (owner : ℕ → ℕ → Bool) (waits : ℕ →
   pub unwaited : (t o v : ℕ) → last_seen (Mark o) (w.known t).seen ≡ Some v → (w.known t).running ≡ true
       → owner o t ≡ true → monitor_in v ≡ None → waits o ≡ []
   -- at its reached safepoint each word is as the thread saw it since
-  pub stands : (t : ℕ) (n : Name) (v : ℕ) → (w.known t).reached ≡ true
+  pub stands : (t : ℕ) (n : WordId) (v : ℕ) → (w.known t).reached ≡ true
       → last_seen n (w.known t).seen_at_safepoint ≡ Some v → w.words n ≡ v
   -- and nobody else has stored anything since; while it revokes a bias, more is known of its stores
   pub alone : (t : ℕ) → (w.known t).reached ≡ true → revocation_in (w.known t).stage ≡ None

@@ -4,9 +4,9 @@ use Rattle.plain_monitor.specs.declared.entry.Logged.{Logged}
 use Rattle.plain_monitor.specs.History.{last_stamp}
 use Rattle.plain_history.specs.Stamps.{IsBounded}
 use Rattle.plain_history.specs.HeldByLog.{held_by, nothing_held, HasLetGo}
-use Rattle.core_world.specs.declared.task.Op.{Op}
-use Rattle.core_world.specs.declared.task.Op.TheVariants as op
-use Rattle.core_world.specs.declared.task.Unfinished.{Unfinished}
+use Rattle.core_world.specs.declared.heap_call.Operation.{Operation}
+use Rattle.core_world.specs.declared.heap_call.Operation.TheVariants as op
+use Rattle.core_world.specs.declared.heap_call.Unfinished.{Unfinished}
 use Rattle.core_world.specs.Clauses.Safepoints.{IsUnfinished}
 
 -- the number of all entries
@@ -19,7 +19,7 @@ abbrev pub bound_stamp : (ℕ → List Logged) → ℕ → Option ℕ → ℕ
 bound_stamp log word None = word
 bound_stamp log word (Some t) = last_stamp (log t)
 
-abbrev pub is_letting_go : Op → Bool
+abbrev pub is_letting_go : Operation → Bool
 is_letting_go op.Exit = true
 is_letting_go op.Wait = true
 is_letting_go _ = false

@@ -6,8 +6,8 @@ use Rattle.mark_word.specs.declared.wait.WaitForm.TheVariants.{Notified}
 use Rattle.plain_monitor.specs.declared.entry.Entry.TheVariants as entry
 use Rattle.plain_monitor.specs.declared.entry.Logged.{Logged}
 use Rattle.plain_monitor.specs.Monitor.{is_listed}
-use Rattle.core_world.specs.declared.task.Op.TheVariants as op
-use Rattle.core_world.specs.declared.task.Unfinished.{Unfinished}
+use Rattle.core_world.specs.declared.heap_call.Operation.TheVariants as op
+use Rattle.core_world.specs.declared.heap_call.Unfinished.{Unfinished}
 use Rattle.core_world.specs.declared.stage.Stage.{Stage}
 use Rattle.core_world.specs.declared.stage.Stage.TheVariants.{Resumes, Waits, Notifies}
 use Rattle.core_world.specs.Words.Forms.{waits_on, stamp_in, says_notified, enters_on, says_ended}
@@ -15,15 +15,15 @@ use Rattle.core_world.specs.Threads.Stages.{notification_in}
 use Rattle.core_world.specs.Clauses.Safepoints.{IsUnfinished, ends}
 
 -- of two threads whose waiting words say that they wait on o, the first has the smaller stamp, or at equal stamps the smaller number
-abbrev pub StandsBefore : (ℕ → ℕ) → ℕ → ℕ × ℕ → ℕ × ℕ → Type 0
-StandsBefore wait o p q =
+abbrev pub WaitsLongerThan : (ℕ → ℕ) → ℕ → ℕ × ℕ → ℕ × ℕ → Type 0
+WaitsLongerThan wait o p q =
     waits_on (wait p.0) o ≡ true → waits_on (wait q.0) o ≡ true
     → (nat_lt (stamp_in (wait p.0)) (stamp_in (wait q.0))
     || ((stamp_in (wait p.0) == stamp_in (wait q.0)) && nat_lt p.0 q.0)) ≡ true
 
 abbrev pub StandByStamps : (ℕ → ℕ) → ℕ → List (ℕ × ℕ) → Type 0
 StandByStamps wait o [] = Unit {0}
-StandByStamps wait o (p ∷ ps) = AllByRecursion (StandsBefore wait o p) ps × StandByStamps wait o ps
+StandByStamps wait o (p ∷ ps) = AllByRecursion (WaitsLongerThan wait o p) ps × StandByStamps wait o ps
 
 -- the first n of those who wait on o were notified, and all others say that they wait
 abbrev pub AreNotified : (ℕ → ℕ) → ℕ → ℕ → List (ℕ × ℕ) → Type 0

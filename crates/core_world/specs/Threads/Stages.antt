@@ -3,7 +3,8 @@ use Rattle.std.specs.Prelude.{ℕ, ◌==◌, Bool, true, false, if◌then◌else
 use Rattle.plain_monitor.specs.declared.entry.Path.{Path}
 use Rattle.plain_monitor.specs.declared.entry.Path.TheVariants.{BiasTaken}
 use Rattle.core_world.specs.declared.stage.Stage.{Stage}
-use Rattle.core_world.specs.declared.stage.Stage.TheVariants.{Calm, Seizes, Grabs, Takes, Enters, Resumes, Exits, Waits, Ahead, Behind, Inflates, Notifies, Revokes}
+use Rattle.core_world.specs.declared.stage.Stage.TheVariants.{Settled, RecordLocked, MonitorAcquired, BiasAcquired, Enters, Resumes, Exits}
+use Rattle.core_world.specs.declared.stage.Stage.TheVariants.{Waits, RecursionsRaised, RecursionsLowered, Inflates, Notifies, Revokes}
 
 -- 1 where the test holds, and else 0
 abbrev pub one_if : Bool → ℕ
@@ -11,8 +12,8 @@ one_if b = if b then 1 else 0
 
 -- the thread has the lock of o for a reason that its log doesn't tell: it is taking o, or has logged its Wait and not let go
 abbrev pub bears : Stage → ℕ → Bool
-bears (Seizes object place) o = object == o
-bears (Grabs object) o = object == o
+bears (RecordLocked object place) o = object == o
+bears (MonitorAcquired object) o = object == o
 bears (Enters object place path) o = object == o
 bears (Resumes object) o = object == o
 bears (Waits object) o = object == o
@@ -26,16 +27,16 @@ hold_words_ahead _ o = 0
 
 -- by how much the recursions of o's monitor are above and below those of its records
 abbrev pub recursions_ahead : Stage → ℕ → ℕ
-recursions_ahead (Ahead object) o = one_if (object == o)
+recursions_ahead (RecursionsRaised object) o = one_if (object == o)
 recursions_ahead _ o = 0
 
-abbrev pub recursions_behind : Stage → ℕ → ℕ
-recursions_behind (Behind object) o = one_if (object == o)
-recursions_behind _ o = 0
+abbrev pub recursions_lowered : Stage → ℕ → ℕ
+recursions_lowered (RecursionsLowered object) o = one_if (object == o)
+recursions_lowered _ o = 0
 
 -- the path by which it is about to log its Enter of o: from the bias that it gave itself on, and from its hold word on
 abbrev pub path_into : Stage → ℕ → Option Path
-path_into (Takes object) o = if object == o then Some BiasTaken else None
+path_into (BiasAcquired object) o = if object == o then Some BiasTaken else None
 path_into (Enters object place path) o = if object == o then Some path else None
 path_into _ o = None
 
@@ -47,7 +48,7 @@ pub record Inflation : Type 0 where
 
 -- the thread is in the middle of nothing
 abbrev pub is_calm : Stage → Bool
-is_calm Calm = true
+is_calm Settled = true
 is_calm _ = false
 
 -- the inflation that the thread is in the middle of

@@ -5,15 +5,15 @@ use Rattle.plain_monitor.specs.declared.entry.Entry.TheVariants.{New}
 use Rattle.plain_monitor.specs.Made.{made_number}
 use Rattle.plain_history.specs.Known.{news}
 use Rattle.core_world.specs.declared.act.Act.TheVariants.{Store}
-use Rattle.core_world.specs.declared.name.Name.TheVariants.{Prototype, Mark, Class}
+use Rattle.core_world.specs.declared.word_id.WordId.TheVariants.{Prototype, Mark, Class}
 use Rattle.core_world.specs.declared.plan.StepPlan.{StepPlan}
-use Rattle.core_world.specs.declared.task.Op.TheVariants as op
-use Rattle.core_world.specs.declared.task.Task.TheVariants.{Create}
+use Rattle.core_world.specs.declared.heap_call.Operation.TheVariants as op
+use Rattle.core_world.specs.declared.heap_call.HeapCall.TheVariants.{Create}
 use Rattle.core_world.specs.Words.Shape.{Shape}
-use Rattle.core_world.specs.Threads.Known.{Local}
+use Rattle.core_world.specs.Threads.ThreadView.{Local}
 use Rattle.core_world.specs.Threads.References.{numbering}
-use Rattle.core_world.specs.Trees.Plans.{Purpose, purpose, lone_purpose, load, store, logging_plan}
-use Rattle.core_world.specs.Trees.Todo.{Todo, done, ◌>>=◌, ask}
+use Rattle.core_world.specs.Trees.Plans.{CallContext, call_context, lone_context, load, store, logging_plan}
+use Rattle.core_world.specs.Trees.StepTree.{StepTree, done, ◌>>=◌, ask}
 
 -- how many objects the thread has made, and which one it makes next, by its own log
 abbrev pub count_made : Local → ℕ
@@ -23,20 +23,20 @@ abbrev pub next_made : Shape → Local → ℕ
 next_made s k = made_number (numbering s) k.thread (count_made k)
 
 -- a class word is the class plus 1
-abbrev pub class_plan : Purpose → ℕ → ℕ → StepPlan
+abbrev pub class_plan : CallContext → ℕ → ℕ → StepPlan
 class_plan e o c = store e (Class o) (c + 1)
 
 -- the first mark
-abbrev pub make_plan : Purpose → ℕ → ℕ → ℕ → StepPlan
+abbrev pub make_plan : CallContext → ℕ → ℕ → ℕ → StepPlan
 make_plan e o c mark = logging_plan (New o c) e (Mark o) (Store mark)
 
 -- the call that makes o, from the store of the class word on
-abbrev pub creating : ℕ → ℕ → Purpose
-creating o c = purpose (Create c) op.Create o
+abbrev pub creating : ℕ → ℕ → CallContext
+creating o c = call_context (Create c) op.Create o
 
-abbrev pub make_steps : ℕ → ℕ → Todo ℕ
+abbrev pub make_steps : ℕ → ℕ → StepTree ℕ
 make_steps o c = do
-  prototype ← ask (load (lone_purpose (Create c)) (Prototype c))
+  prototype ← ask (load (lone_context (Create c)) (Prototype c))
   _ ← ask (class_plan (creating o c) o c)
   _ ← ask (make_plan (creating o c) o c prototype)
   done o

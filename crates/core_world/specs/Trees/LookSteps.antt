@@ -10,84 +10,84 @@ use Rattle.mark_word.specs.declared.wait.WaitForm.TheVariants.{Ready, Entering, 
 use Rattle.mark_word.specs.Mark.{read_mark}
 use Rattle.mark_word.specs.Owner.{read_owner}
 use Rattle.mark_word.specs.Wait.{read_wait}
-use Rattle.core_world.specs.declared.name.Name.TheVariants as name
-use Rattle.core_world.specs.declared.plan.Own.TheVariants as own
+use Rattle.core_world.specs.declared.word_id.WordId.TheVariants as id
+use Rattle.core_world.specs.declared.plan.LocalEffect.TheVariants as own
 use Rattle.core_world.specs.declared.plan.StepPlan.{StepPlan}
-use Rattle.core_world.specs.declared.stage.Stage.TheVariants.{Calm}
+use Rattle.core_world.specs.declared.stage.Stage.TheVariants.{Settled}
 use Rattle.core_world.specs.Words.Shape.{Shape}
 use Rattle.core_world.specs.Words.Forms.{epoch_in}
 use Rattle.core_world.specs.Locks.{has_epoch}
-use Rattle.core_world.specs.Trees.Todo.{Todo, done, never, ◌>>=◌, ask, each_from, all_from}
-use Rattle.core_world.specs.Trees.Plans.{Purpose, with_own, load, class_steps}
+use Rattle.core_world.specs.Trees.StepTree.{StepTree, done, unreachable, ◌>>=◌, ask, each_from, all_from}
+use Rattle.core_world.specs.Trees.Plans.{CallContext, with_own, load, class_steps}
 
 -- THE PLAN of the step that keeps a shot: the safepoint word is loaded once more.
-abbrev pub keep_shot_plan : Purpose → StepPlan
-keep_shot_plan e = with_own own.TakeShot (load e name.Safepoint)
+abbrev pub keep_shot_plan : CallContext → StepPlan
+keep_shot_plan e = with_own own.TakeShot (load e id.Safepoint)
 
 -- THE STEPS. The hold words of a thread.
-abbrev pub look_at_holds : Purpose → ℕ → Todo (Unit {0})
+abbrev pub look_at_holds : CallContext → ℕ → StepTree (Unit {0})
 look_at_holds e t = all_from 0 most_holds (λ p. do
-  _ ← ask (load e (name.Hold t p))
+  _ ← ask (load e (id.Hold t p))
   done tt)
 
-abbrev pub look_at_owner : Option OwnerForm → Purpose → Todo (Unit {0})
+abbrev pub look_at_owner : Option OwnerForm → CallContext → StepTree (Unit {0})
 look_at_owner (Some (ByThread thread)) e = look_at_holds e thread
 look_at_owner (Some (ByRecord thread place)) e = look_at_holds e thread
 look_at_owner _ e = done tt
 
--- What a mark names: the prototype behind a bias, the monitor, and the hold words of the thread that has the lock.
-abbrev pub look_behind : Option MarkForm → Purpose → Shape → ℕ → Todo (Unit {0})
-look_behind (Some (Biased thread epoch age)) e s o = do
-  class ← class_steps e Calm s o
-  prototype ← ask (load e (name.Prototype class))
+-- What a mark names: the prototype under a bias, the monitor, and the hold words of the thread that has the lock.
+abbrev pub look_at_named : Option MarkForm → CallContext → Shape → ℕ → StepTree (Unit {0})
+look_at_named (Some (Biased thread epoch age)) e s o = do
+  class ← class_steps e Settled s o
+  prototype ← ask (load e (id.Prototype class))
   if has_epoch (epoch_in prototype) epoch then look_at_holds e thread else done tt
-look_behind (Some (Locked thread place)) e s o = look_at_holds e thread
-look_behind (Some (Inflated monitor)) e s o = do
-  owner ← ask (load e (name.Owner monitor))
+look_at_named (Some (Locked thread place)) e s o = look_at_holds e thread
+look_at_named (Some (Inflated monitor)) e s o = do
+  owner ← ask (load e (id.Owner monitor))
   look_at_owner (read_owner owner) e
-look_behind _ e s o = done tt
+look_at_named _ e s o = done tt
 
-abbrev pub look_at_objects : Purpose → Shape → Todo (Unit {0})
+abbrev pub look_at_objects : CallContext → Shape → StepTree (Unit {0})
 look_at_objects e s = all_from 0 (length s.objects) (λ o. do
-  mark ← ask (load e (name.Mark o))
-  look_behind (read_mark mark) e s o)
+  mark ← ask (load e (id.Mark o))
+  look_at_named (read_mark mark) e s o)
 
 -- The headers of all objects and the lengths of all logs. The safepoint word is loaded once more, and with this step the shot is kept.
-abbrev pub take_shot_steps : Purpose → Shape → Todo (Unit {0})
+abbrev pub take_shot_steps : CallContext → Shape → StepTree (Unit {0})
 take_shot_steps e s = do
   _ ← look_at_objects e s
   _ ← all_from 0 s.threads (λ t. do
-    _ ← ask (load e (name.Length t))
+    _ ← ask (load e (id.Length t))
     done tt)
   _ ← ask (keep_shot_plan e)
   done tt
 
 -- whether thread t may take the monitor with this owner: it is free or t's own
-abbrev pub is_open_to : Option OwnerForm → ℕ → Bool
-is_open_to (Some Free) t = true
-is_open_to (Some (ByThread thread)) t = thread == t
-is_open_to (Some (ByRecord thread place)) t = thread == t
-is_open_to None t = false
+abbrev pub can_acquire : Option OwnerForm → ℕ → Bool
+can_acquire (Some Free) t = true
+can_acquire (Some (ByThread thread)) t = thread == t
+can_acquire (Some (ByRecord thread place)) t = thread == t
+can_acquire None t = false
 
--- what a thread's waiting word and the owner behind it say: None where it has ended, and else whether it can go on
-abbrev pub look_at_monitor : Option MarkForm → Purpose → ℕ → Todo (Option Bool)
+-- what a thread's waiting word and the owner that is loaded after it say: None where it has ended, and else whether it can go on
+abbrev pub look_at_monitor : Option MarkForm → CallContext → ℕ → StepTree (Option Bool)
 look_at_monitor (Some (Inflated monitor)) e t = do
-  owner ← ask (load e (name.Owner monitor))
-  done (Some (is_open_to (read_owner owner) t))
-look_at_monitor _ e t = never
+  owner ← ask (load e (id.Owner monitor))
+  done (Some (can_acquire (read_owner owner) t))
+look_at_monitor _ e t = unreachable
 
-abbrev pub look_at_object : Purpose → ℕ → ℕ → Todo (Option Bool)
+abbrev pub look_at_object : CallContext → ℕ → ℕ → StepTree (Option Bool)
 look_at_object e t o = do
-  mark ← ask (load e (name.Mark o))
+  mark ← ask (load e (id.Mark o))
   look_at_monitor (read_mark mark) e t
 
-abbrev pub look_at_wait : Option WaitForm → Purpose → ℕ → Todo (Option Bool)
+abbrev pub look_at_wait : Option WaitForm → CallContext → ℕ → StepTree (Option Bool)
 look_at_wait (Some Ready) e t = done (Some true)
 look_at_wait (Some (Entering object)) e t = look_at_object e t object
 look_at_wait (Some (Waiting object stamp)) e t = done (Some false)
 look_at_wait (Some (Notified object)) e t = look_at_object e t object
 look_at_wait (Some Ended) e t = done None
-look_at_wait None e t = never
+look_at_wait None e t = unreachable
 
 -- some thread is live, and none of the threads can go on
 abbrev pub some_live : List (Option Bool) → Bool
@@ -101,9 +101,9 @@ none_goes_on (None ∷ ts) = none_goes_on ts
 none_goes_on (Some on ∷ ts) = not on && none_goes_on ts
 
 -- whether the run stands still, by the waiting words of all threads
-abbrev pub stands_still_steps : Purpose → Shape → Todo Bool
+abbrev pub stands_still_steps : CallContext → Shape → StepTree Bool
 stands_still_steps e s = do
   threads ← each_from 0 s.threads (λ t. do
-    word ← ask (load e (name.Waiting t))
+    word ← ask (load e (id.Waiting t))
     look_at_wait (read_wait word) e t)
   done (some_live threads && none_goes_on threads)

@@ -12,8 +12,8 @@ pub record Shape : Type 0 where
   pub objects : List (ℕ × ℕ)
 
 -- the class of a declared object
-abbrev pub class_of : Shape → ℕ → ℕ
-class_of s o = (slice_index_or s.objects o (0, 0)).0
+abbrev pub class_in_shape : Shape → ℕ → ℕ
+class_in_shape s o = (slice_index_or s.objects o (0, 0)).0
 
 abbrev pub slots_of : Shape → ℕ → ℕ
 slots_of s o = (slice_index_or s.objects o (0, 0)).1

@@ -1,7 +1,7 @@
 use Rattle.std.proofs.Common.{arith}
-use Rattle.core_world.specs.declared.task.Op.TheVariants as op
+use Rattle.core_world.specs.declared.heap_call.Operation.TheVariants as op
 use Rattle.embed_example.specs.declared.Act.TheVariants as act
-use Rattle.embed_example.proofs.Behind.{free_may, new_free, new_rests, new_stopped, tried_may}
+use Rattle.embed_example.proofs.After.{free_may, new_free, new_rests, new_stopped, tried_may}
 use Rattle.lock_runtime.proofs.Declared.{declared_known}
 use Rattle.embed_example.proofs.begin_to_wait.Goals as goal
 

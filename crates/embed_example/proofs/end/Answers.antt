@@ -1,4 +1,4 @@
-use Rattle.embed_example.proofs.Behind.{added, added_beside, beside_stop, did_by, may_finish}
+use Rattle.embed_example.proofs.After.{added, added_beside, beside_stop, did_by, may_finish}
 use Rattle.plain_monitor.specs.declared.entry.Entry.TheVariants as entry
 use Rattle.std.proofs.Common.{◌≡◌, [], ◌∷◌, None, false, refl, arith}
 use Rattle.embed_example.proofs.end.Goals as goal

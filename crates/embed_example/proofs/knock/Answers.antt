@@ -1,6 +1,6 @@
 use Rattle.std.proofs.Common.{arith}
-use Rattle.core_world.specs.declared.task.Op.TheVariants as op
-use Rattle.embed_example.proofs.Behind.{free_may, new_free, new_rests, new_stopped}
+use Rattle.core_world.specs.declared.heap_call.Operation.TheVariants as op
+use Rattle.embed_example.proofs.After.{free_may, new_free, new_rests, new_stopped}
 use Rattle.embed_example.proofs.knock.Goals as goal
 
 pub set_running-requires-clause-rests : goal.set_running-requires-clause-rests

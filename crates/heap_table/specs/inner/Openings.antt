@@ -9,7 +9,7 @@ abbrev pub copies : ℕ → List ℕ → List ℕ
 copies zero group = []
 copies (suc n) group = group ++ copies n group
 
--- one kind of group behind the other, and these words behind them all
+-- one kind of group after the other, and these words after them all
 abbrev pub spread : List (ℕ × List ℕ) → List ℕ → List ℕ
 spread [] ws = ws
 spread (x ∷ xs) ws = copies x.0 x.1 ++ spread xs ws

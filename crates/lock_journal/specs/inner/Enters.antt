@@ -38,7 +38,7 @@ enters_of m c xs =
     map (λ path. enters_by m c path xs)
     (BiasOwn ∷ BiasTaken ∷ StackFirst ∷ StackAgain ∷ MonitorFirst ∷ MonitorAgain ∷ [])
 
--- each count behind a space
+-- each count after a space
 abbrev pub counts_text : List ℕ → List ℕ
 counts_text counts = flat_map (λ n. codes " " ++ decimal n) counts
 

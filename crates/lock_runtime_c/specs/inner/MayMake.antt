@@ -1,13 +1,13 @@
 -- What a call that begins asks.
 use Rattle.std.specs.Prelude.{◌×◌}
-use Rattle.core_world.specs.declared.task.Task.{Task}
-use Rattle.core_world.specs.declared.task.Task.TheVariants.{Poll, Stop, Resume, Check, Create, StackEnter, StackExit, Request, Reached, Release}
+use Rattle.core_world.specs.declared.heap_call.HeapCall.{HeapCall}
+use Rattle.core_world.specs.declared.heap_call.HeapCall.TheVariants.{Poll, Stop, Resume, Check, Create, StackEnter, StackExit, Request, Reached, Release}
 use Rattle.heap_table.specs.Resting.{MayCall, MayOperate}
 use Rattle.heap_table.specs.Seen.{HeapSeen, PassSeen}
 use Rattle.lock_runtime_c.specs.LogRoom.{Fits, room_for}
 
 -- an operation also that the log has room for it
-abbrev pub MayMake : HeapSeen → PassSeen → Task → Type 0
+abbrev pub MayMake : HeapSeen → PassSeen → HeapCall → Type 0
 MayMake h p Poll = MayCall h p Poll
 MayMake h p Stop = MayCall h p Stop
 MayMake h p Resume = MayCall h p Resume

@@ -5,23 +5,23 @@ use Rattle.plain_monitor.specs.declared.entry.Ending.TheVariants.{Done}
 use Rattle.plain_monitor.specs.Objects.{PlainObject, new_object}
 use Rattle.object_program.specs.declared.program.Code.{Code}
 use Rattle.object_program.specs.Program.{ProgramText}
-use Rattle.plain_machine.specs.declared.call.Call.TheVariants.{Dump}
-use Rattle.plain_machine.specs.declared.call.Mode.{Mode}
-use Rattle.plain_machine.specs.declared.call.Mode.TheVariants.{Calling, Unwinding}
+use Rattle.plain_machine.specs.declared.monitor_call.MonitorCall.TheVariants.{Dump}
+use Rattle.plain_machine.specs.declared.monitor_call.Mode.{Mode}
+use Rattle.plain_machine.specs.declared.monitor_call.Mode.TheVariants.{Calling, Unwinding}
 use Rattle.plain_machine.specs.Thread.{ThreadState, step_of}
 use Rattle.plain_machine.specs.Running.{instruction_at}
 use Rattle.plain_machine.specs.Machine.{code_of}
 use Rattle.machine_laws.specs.ReachedMonitor.{standing}
 use Rattle.machine_words.specs.MadeWords.{read_row}
 use Rattle.machine_words.specs.ModeWords.{mode_with}
-use Rattle.machine_words.specs.ObjectWords.{begins, behind_one, read_object}
+use Rattle.machine_words.specs.ObjectWords.{begins, after_one, read_object}
 use Rattle.machine_words.specs.ThreadWords.{ThreadParts, read_thread, holds_in, calling_in}
 
--- so many items are read off these words, behind others: `done` are they and those that were read, `left` are not read, which begin at `rest`
+-- so many items are read off these words, after others: `done` are they and those that were read, `left` are not read, which begin at `rest`
 pub record Reads {A : Type 0} (read : ℕ → List ℕ → List A × List ℕ) (start : List A) (count : ℕ) (words : List ℕ) (done : List A) (left : ℕ)
     (rest : List ℕ) : Type 0 where
   pub items : start ++ (read count words).0 ≡ done ++ (read left rest).0
-  pub behind : (read count words).1 ≡ (read left rest).1
+  pub beyond : (read count words).1 ≡ (read left rest).1
 
 -- each item, of which the first has number k, becomes what the step makes of it and the words, which goes on with the words that the step leaves
 abbrev pub walk : {A : Type 0} → (ℕ → A → List ℕ → A × List ℕ) → ℕ → List A → List ℕ → List A × List ℕ
@@ -33,7 +33,7 @@ walk step k (x ∷ xs) ws =
 pub record Walks {A : Type 0} (step : ℕ → A → List ℕ → A × List ℕ) (first : List A) (words : List ℕ) (k : ℕ) (items : List A) (rest : List ℕ)
     : Type 0 where
   pub done : (walk step 0 first words).0 ≡ take k items ++ (walk step k (drop k first) rest).0
-  pub behind : (walk step 0 first words).1 ≡ (walk step k (drop k first) rest).1
+  pub beyond : (walk step 0 first words).1 ≡ (walk step k (drop k first) rest).1
   pub left : drop k items ≡ drop k first
   pub count : length items ≡ length first
 
@@ -46,11 +46,11 @@ renew_step k x ws = (renewed x, ws)
 
 -- object k, which has as many slots as the one that stands there, by the words that begin with its number; else it is as at first
 abbrev pub object_step : ℕ → PlainObject → List ℕ → PlainObject × List ℕ
-object_step k x ws = if begins k ws then read_object (length x.slots) (behind_one ws) else (renewed x, ws)
+object_step k x ws = if begins k ws then read_object (length x.slots) (after_one ws) else (renewed x, ws)
 
--- behind the numbers of the thread that makes this object, where those that threads make begin with the first
-abbrev pub behind_row : ℕ → ℕ → ℕ
-behind_row first number = first + ((number - first) / most_made + 1) * most_made
+-- after the numbers of the thread that makes this object, where those that threads make begin with the first
+abbrev pub after_row : ℕ → ℕ → ℕ
+after_row first number = first + ((number - first) / most_made + 1) * most_made
 
 abbrev pub row_step : ℕ → List ℕ → List ℕ → List ℕ × List ℕ
 row_step t row ws = read_row ws

@@ -5,17 +5,17 @@ use Rattle.plain_monitor.specs.declared.entry.Entry.{Entry}
 use Rattle.plain_monitor.specs.declared.entry.Logged.{Logged}
 use Rattle.object_program.specs.Program.{ProgramText}
 use Rattle.plain_machine.specs.Machine.{PlainMachine, new_machine}
-use Rattle.plain_machine.specs.Legal.{behind_all}
+use Rattle.plain_machine.specs.Legal.{after_all}
 use Rattle.outcome_search.specs.Witness.{CountOn}
 
 pub record IsTrail (p : ProgramText) (m : PlainMachine) (entries : List (ℕ × Logged)) : Type 0 where
   pub stamps : CountOn 0 entries
-  pub leads : behind_all (new_machine p most_fuel) entries ≡ Some m
+  pub leads : after_all (new_machine p most_fuel) entries ≡ Some m
 
 -- from whichever program's first machine the entries lead to m, these lead to n
 abbrev pub LeadsOn : PlainMachine → List (ℕ × Logged) → PlainMachine → List (ℕ × Logged) → Type 0
 LeadsOn m before n after = (p : ProgramText) → IsTrail p m before → IsTrail p n after
 
--- the entry with the stamp behind those of these
+-- the entry with the stamp after those of these
 abbrev pub stamped : List (ℕ × Logged) → Entry → Logged
 stamped before entry = record { stamp = length before + 1; entry = entry }

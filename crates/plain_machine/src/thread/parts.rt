@@ -2,9 +2,9 @@
 
 ghost use Rattle.std.specs.Prelude.{◌≡◌, ◌<◌, ◌^◌, ◌++◌, ◌∷◌, [], sum, length, slice_set, OnOk};
 ghost use Rattle.plain_monitor.specs.declared.entry.Ending.TheVariants.{Done};
-ghost use Rattle.plain_machine.specs.declared.call.Mode.TheVariants.{Unwinding};
+ghost use Rattle.plain_machine.specs.declared.monitor_call.Mode.TheVariants.{Unwinding};
 
-use crate::call::Mode;
+use crate::monitor_call::Mode;
 use crate::thread::Thread;
 use plain_monitor::{Ending, NoMemory, Value};
 

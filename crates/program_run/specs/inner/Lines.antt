@@ -1,6 +1,6 @@
 -- Adding up counts of verdicts, and why a count fits its line.
 use Rattle.std.specs.Prelude.{ℕ, ◌+◌, ◌^◌, ◌<◌, slice_index}
-use Rattle.core_world.specs.declared.name.Name.TheVariants.{Revocations}
+use Rattle.core_world.specs.declared.word_id.WordId.TheVariants.{Revocations}
 use Rattle.heap_table.specs.declared.counts.ClassCounts.{ClassCounts}
 use Rattle.heap_table.specs.Layout.{place_of}
 use Rattle.heap_table.specs.Seen.{ClosedSeen}

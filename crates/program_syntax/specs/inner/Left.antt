@@ -2,11 +2,11 @@
 use Rattle.std.specs.Prelude.{◌==◌, ℕ, List, [], ◌∷◌, length, Option, Some, None, if◌then◌else◌}
 use Rattle.program_syntax.specs.Left.{words_in}
 
--- the words behind a blank
-abbrev pub words_behind : Option (List ℕ) → List (List ℕ)
-words_behind None = []
-words_behind (Some text) = words_in text
+-- the words after a blank
+abbrev pub words_after : Option (List ℕ) → List (List ℕ)
+words_after None = []
+words_after (Some text) = words_in text
 
 -- the words of a line that begins with these bytes and a blank
 abbrev pub words_from : List ℕ → Option (List ℕ) → List (List ℕ)
-words_from part rest = if length part == 0 then words_behind rest else part ∷ words_behind rest
+words_from part rest = if length part == 0 then words_after rest else part ∷ words_after rest

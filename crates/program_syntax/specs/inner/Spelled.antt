@@ -1,7 +1,9 @@
 -- The words that lines begin with, in four parts.
 use Rattle.std.specs.Prelude.{ℕ, List, [], ◌∷◌, codes}
 use Rattle.program_syntax.specs.declared.keyword.Keyword.{Keyword}
-use Rattle.program_syntax.specs.declared.keyword.Keyword.TheVariants.{Class, Object, Array, Thread, Local, Label, Set, Add, Sub, Mul, Ref, Elem, Enter, Exit, Wait, Notify, NotifyAll, Get, Put, Hash, New, Print, Jump, Jlt, Jeq, Dump, End}
+use Rattle.program_syntax.specs.declared.keyword.Keyword.TheVariants.{Class, Object, Array, Thread, Local, Label, Set, Add, Sub}
+use Rattle.program_syntax.specs.declared.keyword.Keyword.TheVariants.{Mul, Ref, Elem, Enter, Exit, Wait, Notify, NotifyAll, Get}
+use Rattle.program_syntax.specs.declared.keyword.Keyword.TheVariants.{Put, Hash, New, Print, Jump, Jlt, Jeq, Dump, End}
 
 -- the lines that aren't instructions
 abbrev pub declaring : List (List ℕ × Keyword)

@@ -1,7 +1,7 @@
 -- The state of the reader, and what reading a line answers.
 use Rattle.std.specs.Prelude.{◌≡◌, ◌⊎◌, ℕ, Bool, false, not, List, [], map, Option, Some, None, Result, Ok, Err}
 use Rattle.object_program.specs.Valid.{is_among}
-use Rattle.program_syntax.specs.Reading.{Before, behind_keyword, behind_line}
+use Rattle.program_syntax.specs.Reading.{Before, after_keyword, after_line}
 use Rattle.program_syntax.specs.Refusal.{names_before, is_bad_name, is_twice, is_bad_number, line_cause}
 use Rattle.program_syntax.specs.State.{before_of, cause_of}
 use Rattle.program_syntax.specs.declared.operand.Space.{Space}
@@ -14,8 +14,8 @@ use Rattle.program_syntax.specs.declared.state.Section.{Section}
 use Rattle.program_syntax.specs.declared.state.Reader.{Reader}
 use Rattle.program_syntax.specs.declared.keyword.Keyword.{Keyword}
 use Rattle.program_syntax.specs.declared.error.ProgramError.{ProgramError}
-use Rattle.program_syntax.specs.declared.error.Why.{Why}
-use Rattle.program_syntax.specs.declared.error.Why.TheVariants.{NoMemory}
+use Rattle.program_syntax.specs.declared.error.RefusalCause.{RefusalCause}
+use Rattle.program_syntax.specs.declared.error.RefusalCause.TheVariants.{NoMemory}
 
 -- the names of all labels of the open section
 abbrev pub label_names : Option Section → List (List ℕ)
@@ -38,24 +38,24 @@ fails test.Twice r o w = is_twice (before_of r) o w
 fails test.Undeclared r o w = is_unknown r o w
 fails test.BadNumber r o w = is_bad_number o w
 
--- the state behind a line with this cause, where it has none; memory may be wanting
-abbrev pub IsStep : Result Reader Why → Option Why → Before → Type 0
+-- the state after a line with this cause, where it has none; memory may be wanting
+abbrev pub IsStep : Result Reader RefusalCause → Option RefusalCause → Before → Type 0
 IsStep (Ok r) cause after = (cause ≡ None) × (before_of r ≡ after)
 IsStep (Err why) cause after = (cause ≡ Some why) ⊎ (why ≡ NoMemory)
 
-abbrev pub IsKeywordStep : Reader → List (List ℕ) → List (List ℕ) → Keyword → Result Reader Why → Type 0
-IsKeywordStep r later ws k result = IsStep result (cause_of r later ws k) (behind_keyword (before_of r) later ws k)
+abbrev pub IsKeywordStep : Reader → List (List ℕ) → List (List ℕ) → Keyword → Result Reader RefusalCause → Type 0
+IsKeywordStep r later ws k result = IsStep result (cause_of r later ws k) (after_keyword (before_of r) later ws k)
 
 -- what reading any line answers
-abbrev pub IsLineStep : Reader → List (List ℕ) → List ℕ → Result Reader Why → Type 0
+abbrev pub IsLineStep : Reader → List (List ℕ) → List ℕ → Result Reader RefusalCause → Type 0
 IsLineStep r later line result =
-    IsStep result (line_cause (before_of r) later line) (behind_line (before_of r) later line)
+    IsStep result (line_cause (before_of r) later line) (after_line (before_of r) later line)
 
 -- a refusal for want of memory, which is no line's
 abbrev pub no_memory : ProgramError
 no_memory = record { line = 0; why = NoMemory }
 
 -- a refusal of the line with this number
-abbrev pub refusal : ℕ → Why → ProgramError
+abbrev pub refusal : ℕ → RefusalCause → ProgramError
 refusal n NoMemory = no_memory
 refusal n why = record { line = n; why = why }

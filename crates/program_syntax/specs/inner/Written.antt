@@ -18,6 +18,6 @@ code_text classes objects thread code = lines_text (code_lines classes objects t
 abbrev pub labels_text : ℕ → List LabelDef → List ℕ
 labels_text n labels = lines_text (map label_words (labels_at n labels))
 
--- instruction n behind its labels
+-- instruction n after its labels
 abbrev pub step_text : List ClassDef → List ObjectDef → ThreadDef → ℕ → Code → List ℕ
 step_text classes objects thread n code = labels_text n thread.labels ++ instruction_text classes objects thread code

@@ -5,8 +5,8 @@ use Rattle.object_program.specs.declared.program.Code.{Code}
 use Rattle.object_program.specs.declared.program.Code.TheVariants as instr
 use Rattle.object_program.specs.declared.program.ThreadDef.{ThreadDef}
 use Rattle.object_program.specs.Program.{most_in}
-use Rattle.plain_machine.specs.declared.call.Mode.{Mode}
-use Rattle.plain_machine.specs.declared.call.Mode.TheVariants.{Calling, Waiting, Unwinding, Ended}
+use Rattle.plain_machine.specs.declared.monitor_call.Mode.{Mode}
+use Rattle.plain_machine.specs.declared.monitor_call.Mode.TheVariants.{Calling, Waiting, Unwinding, Ended}
 use Rattle.plain_machine.specs.Thread.{ThreadState}
 use Rattle.plain_machine.specs.Running.{instruction_at}
 use Rattle.plain_machine.specs.Machine.{PlainMachine, code_of}
@@ -30,11 +30,11 @@ HasAt code at [] = Unit {0}
 HasAt code at (c ∷ cs) = (instruction_at code at ≡ c) × HasAt code (at + 1) cs
 
 -- the code after this many instructions does what is left
-abbrev pub Stands : List Code → ℕ → Left → Type 0
-Stands code at Over = instruction_at code at ≡ instr.End
-Stands code at (Runs b left) = ArePlain b × HasAt code at (code_at at b) × Stands code (at + size b) left
-Stands code at (Exits x left) = (instruction_at code at ≡ instr.Exit x) × Stands code (at + 1) left
-Stands code at (Pays left) = (to : ℕ) × (instruction_at code at ≡ instr.Jump (to + 1)) × Stands code to left
+abbrev pub StandsInCode : List Code → ℕ → Left → Type 0
+StandsInCode code at Over = instruction_at code at ≡ instr.End
+StandsInCode code at (Runs b left) = ArePlain b × HasAt code at (code_at at b) × StandsInCode code (at + size b) left
+StandsInCode code at (Exits x left) = (instruction_at code at ≡ instr.Exit x) × StandsInCode code (at + 1) left
+StandsInCode code at (Pays left) = (to : ℕ) × (instruction_at code at ≡ instr.Jump (to + 1)) × StandsInCode code to left
 
 abbrev pub unplaced_mode : Mode → Mode
 unplaced_mode (Unwinding e) = Unwinding (unplaced e)
@@ -47,8 +47,8 @@ erased s = record s { place = 0; mode = unplaced_mode s.mode }
 
 -- where a thread in this mode goes on, the code does what is left: after the call that it stands before, or where it waits
 abbrev pub StandsIn : List Code → Mode → ℕ → Left → Type 0
-StandsIn code (Calling c) at left = Stands code (at + 1) left
-StandsIn code (Waiting o) at left = Stands code at left
+StandsIn code (Calling c) at left = StandsInCode code (at + 1) left
+StandsIn code (Waiting o) at left = StandsInCode code at left
 StandsIn code m at left = Unit {0}
 
 -- the two threads are alike, the index of a trap aside

@@ -8,33 +8,33 @@ use Rattle.program_syntax.specs.declared.state.Declared.{Declared}
 use Rattle.program_syntax.specs.declared.keyword.Keyword.{Keyword}
 use Rattle.program_syntax.specs.declared.keyword.Keyword.TheVariants as keyword
 use Rattle.object_program.specs.declared.program.ThreadDef.{ThreadDef}
-use Rattle.program_syntax.specs.declared.error.Why.TheVariants.{NoMemory}
-use Rattle.sync_syntax.specs.declared.error.SyncWhy.{SyncWhy}
-use Rattle.sync_syntax.specs.declared.error.SyncWhy.TheVariants.{Plain}
+use Rattle.program_syntax.specs.declared.error.RefusalCause.TheVariants.{NoMemory}
+use Rattle.sync_syntax.specs.declared.error.SyncRefusalCause.{SyncRefusalCause}
+use Rattle.sync_syntax.specs.declared.error.SyncRefusalCause.TheVariants.{Plain}
 use Rattle.sync_syntax.specs.declared.error.SyncError.{SyncError}
 use Rattle.sync_syntax.specs.declared.word.Word.{Word}
 use Rattle.sync_syntax.specs.declared.word.Word.TheVariants as word
 use Rattle.sync_syntax.specs.Word.{is_left_out}
 use Rattle.sync_syntax.specs.declared.state.SyncReader.{SyncReader}
-use Rattle.sync_syntax.specs.Reading.{SyncBefore, behind_word, behind_line}
+use Rattle.sync_syntax.specs.Reading.{SyncBefore, after_word, after_line}
 use Rattle.sync_syntax.specs.Refusal.{word_cause, line_cause, of_text}
 use Rattle.sync_syntax.specs.inner.State.{sync_before}
 
--- the state behind a line with this cause, where it has none; memory may be wanting
-abbrev pub IsStep : Result SyncReader SyncWhy → Option SyncWhy → SyncBefore → Type 0
+-- the state after a line with this cause, where it has none; memory may be wanting
+abbrev pub IsStep : Result SyncReader SyncRefusalCause → Option SyncRefusalCause → SyncBefore → Type 0
 IsStep (Ok r) cause after = (cause ≡ None) × (sync_before r ≡ after)
 IsStep (Err why) cause after = (cause ≡ Some why) ⊎ (why ≡ Plain NoMemory)
 
-abbrev pub IsWordStep : SyncReader → List (List ℕ) → List (List ℕ) → Word → Result SyncReader SyncWhy → Type 0
+abbrev pub IsWordStep : SyncReader → List (List ℕ) → List (List ℕ) → Word → Result SyncReader SyncRefusalCause → Type 0
 IsWordStep r later ws k result =
-    IsStep result (word_cause (sync_before r) later ws (Some k)) (behind_word (sync_before r) later ws k)
+    IsStep result (word_cause (sync_before r) later ws (Some k)) (after_word (sync_before r) later ws k)
 
-abbrev pub IsLineStep : SyncReader → List (List ℕ) → List ℕ → Result SyncReader SyncWhy → Type 0
+abbrev pub IsLineStep : SyncReader → List (List ℕ) → List ℕ → Result SyncReader SyncRefusalCause → Type 0
 IsLineStep r later line result =
-    IsStep result (line_cause (sync_before r) later line) (behind_line (sync_before r) later line)
+    IsStep result (line_cause (sync_before r) later line) (after_line (sync_before r) later line)
 
 -- a refusal of the line with this number. Want of memory is no line's
-abbrev pub refusal : ℕ → SyncWhy → SyncError
+abbrev pub refusal : ℕ → SyncRefusalCause → SyncError
 refusal n (Plain NoMemory) = of_text NoMemory
 refusal n why = record { line = n; why = why }
 

@@ -1,22 +1,22 @@
 -- What a thread came to without a call, or what it has to make.
 use Rattle.std.specs.Prelude.{◌≡◌, ℕ, Bool, true, false, Some}
-use Rattle.core_world.specs.declared.answer.Turn.{Turn}
-use Rattle.core_world.specs.declared.answer.Turn.TheVariants.{Done}
+use Rattle.core_world.specs.declared.answer.Progress.{Progress}
+use Rattle.core_world.specs.declared.answer.Progress.TheVariants.{Done}
 use Rattle.heap_table.specs.Seen.{HeapSeen, PassSeen}
 use Rattle.object_program.specs.Program.{ProgramText}
-use Rattle.plain_machine.specs.declared.call.Call.{Call}
-use Rattle.plain_machine.specs.declared.call.Mode.TheVariants.{Calling, Waiting, Unwinding}
+use Rattle.plain_machine.specs.declared.monitor_call.MonitorCall.{MonitorCall}
+use Rattle.plain_machine.specs.declared.monitor_call.Mode.TheVariants.{Calling, Waiting, Unwinding}
 use Rattle.thread_calls.specs.Advances.{HasAdvanced, MayAdvance}
 use Rattle.thread_calls.specs.declared.next.Reached.{Reached}
 use Rattle.thread_calls.specs.declared.next.Reached.TheVariants.{Ran, Spent, Calls, Waits, Unwinds}
 use Rattle.thread_frame.specs.Frames.{FrameSeen, before_call, IsAtInstruction}
 
 -- It is at a call. It may make this as if it stood before it, and what it comes to from there, it comes to from where it was.
-pub record IsAtCall (h : HeapSeen) (text : ProgramText) (fuel : ℕ) (p : PassSeen) (f g : FrameSeen) (c : Call) : Type 0 where
+pub record IsAtCall (h : HeapSeen) (text : ProgramText) (fuel : ℕ) (p : PassSeen) (f g : FrameSeen) (c : MonitorCall) : Type 0 where
   pub may : MayAdvance h text fuel p (before_call g c)
   pub placed : IsAtInstruction g.place g.made (Some (Calling c))
-  pub from : (q : PassSeen) (e : FrameSeen) (turn : Turn Bool) → HasAdvanced h text fuel p q (before_call g c) e turn
-      → HasAdvanced h text fuel p q f e turn
+  pub from : (q : PassSeen) (e : FrameSeen) (progress : Progress Bool) → HasAdvanced h text fuel p q (before_call g c) e progress
+      → HasAdvanced h text fuel p q f e progress
 
 -- the frame was f, and is g; the pass was left as it was
 abbrev pub HasReached : HeapSeen → ProgramText → ℕ → PassSeen → FrameSeen → FrameSeen → Reached → Type 0

@@ -1,12 +1,12 @@
 -- What each outcome of an instruction makes of a frame, and where a frame may stand for it.
 use Rattle.std.specs.Prelude.{◌+◌, ◌-◌, ◌<◌, slice_set, Some}
 use Rattle.object_program.specs.Limits.{most_code}
-use Rattle.plain_machine.specs.declared.call.Mode.TheVariants.{Calling, Unwinding}
+use Rattle.plain_machine.specs.declared.monitor_call.Mode.TheVariants.{Calling, Unwinding}
 use Rattle.plain_machine.specs.declared.step.Next.{Next}
 use Rattle.plain_machine.specs.declared.step.Next.TheVariants as next
 use Rattle.thread_frame.specs.Frames.{FrameSeen, IsAtInstruction}
 
--- the frame behind the instruction that it is at, by what this leads to
+-- the frame after the instruction that it is at, by what this leads to
 abbrev pub frame_moved : FrameSeen → Next → FrameSeen
 frame_moved f (next.Sets x value) =
     record f { place = f.place + 1; locals = slice_set f.locals x value; fuel = f.fuel - 1 }

@@ -1,15 +1,15 @@
 -- What the parts of a turn do.
 use Rattle.std.specs.Prelude.{◌≡◌, ◌⊎◌, ℕ, ◌+◌, ◌<◌, ◌≤◌, Bool, true, false, List, ◌++◌}
 use Rattle.core_calls.specs.Causes.{is_stopping}
-use Rattle.core_world.specs.declared.answer.Turn.{Turn}
-use Rattle.core_world.specs.declared.answer.Turn.TheVariants.{Done, Pending}
-use Rattle.core_world.specs.declared.answer.Why.{Why}
-use Rattle.core_world.specs.declared.answer.Why.TheVariants.{Stopping}
-use Rattle.core_world.specs.declared.task.Task.TheVariants as task
-use Rattle.core_world.specs.Threads.Known.{Known, StepMade}
+use Rattle.core_world.specs.declared.answer.Progress.{Progress}
+use Rattle.core_world.specs.declared.answer.Progress.TheVariants.{Done, Pending}
+use Rattle.core_world.specs.declared.answer.PendingCause.{PendingCause}
+use Rattle.core_world.specs.declared.answer.PendingCause.TheVariants.{Stopping}
+use Rattle.core_world.specs.declared.heap_call.HeapCall.TheVariants as task
+use Rattle.core_world.specs.Threads.ThreadView.{ThreadView, StepMade}
 use Rattle.core_world.specs.Threads.Stages.{one_if}
 use Rattle.heap_table.specs.Seen.{HeapSeen, PassSeen}
-use Rattle.lock_runtime.specs.Standing.{IsRunning, IsAsking, IsStopped, StandsBehind}
+use Rattle.lock_runtime.specs.Standing.{IsRunning, IsAsking, IsStopped, StandsAfterTurn}
 use Rattle.object_program.specs.Program.{ProgramText}
 use Rattle.thread_calls.specs.Advances.{DoneIn, PendedIn, HasStepped, HasSpent, HasFallen, MayAdvance}
 use Rattle.thread_calls.specs.Between.{IsOn}
@@ -32,20 +32,20 @@ pub record IsSet (h : HeapSeen) (p q : PassSeen) : Type 0 where
   pub added : HasAdded p q
 
 -- or its resume was pending for this, and left the thread stopped
-pub record StaysStopped (h : HeapSeen) (p q : PassSeen) (why : Why) : Type 0 where
+pub record StaysStopped (h : HeapSeen) (p q : PassSeen) (why : PendingCause) : Type 0 where
   pub stopped : IsStopped q.known
   pub other : is_stopping why ≡ false
   pub free : p.known.requesting ≡ false
   pub pended : PendedIn h why p q task.Resume
   pub stepped : HasStepped p q
 
-abbrev pub StandsReady : HeapSeen → PassSeen → PassSeen → Turn (Unit {0}) → Type 0
+abbrev pub StandsReady : HeapSeen → PassSeen → PassSeen → Progress (Unit {0}) → Type 0
 StandsReady h p q (Done x) = IsSet h p q
 StandsReady h p q (Pending why) = StaysStopped h p q why
 
 -- the pass was p, and is q
-pub record IsReady (h : HeapSeen) (text : ProgramText) (fuel : ℕ) (p q : PassSeen) (f : FrameSeen)
-    (turn : Turn (Unit {0})) : Type 0 where
+pub record HasTriedToRun (h : HeapSeen) (text : ProgramText) (fuel : ℕ) (p q : PassSeen) (f : FrameSeen)
+    (turn : Progress (Unit {0})) : Type 0 where
   pub on : IsOn h text fuel q f
   pub checking : q.known.checking ≡ p.known.checking
   pub asking : q.known.requesting ≡ p.known.requesting
@@ -54,16 +54,16 @@ pub record IsReady (h : HeapSeen) (text : ProgramText) (fuel : ℕ) (p q : PassS
   pub stands : StandsReady h p q turn
 
 -- A STEP OF A TURN: a poll where the thread runs, and then one instruction or entry. The pass and the frame were p and f, and are q and g.
-abbrev pub CalledBy : HeapSeen → PassSeen → PassSeen → Turn Bool → Type 0
+abbrev pub CalledBy : HeapSeen → PassSeen → PassSeen → Progress Bool → Type 0
 CalledBy h p q (Done b) = CalledLast (DoneIn h) h p q
 CalledBy h p q (Pending why) = CalledLast (PendedIn h why) h p q
 
 pub record HasPolled (h : HeapSeen) (text : ProgramText) (fuel : ℕ) (p q : PassSeen) (f g : FrameSeen)
-    (turn : Turn Bool) : Type 0 where
+    (turn : Progress Bool) : Type 0 where
   pub on : IsOn h text fuel q g
   pub unchecked : q.known.checking ≡ false
   pub thread : q.known.thread ≡ p.known.thread
-  pub stands : StandsBehind q.known turn
+  pub stands : StandsAfterTurn q.known turn
   pub spent : HasSpent f g turn
   pub fallen : HasFallen p q f g turn
   pub stepped : HasStepped p q
@@ -87,7 +87,7 @@ IsGoneTo h quantum count p q g (Blocked why) = (has_ended g ≡ false) × Called
 IsGoneTo h quantum count p q g Ended = (has_ended g ≡ true) × CalledLast (DoneIn h) h p q
 
 -- it runs, unless it is blocked for running threads: then its request stands
-abbrev pub StandsGone : Known → RunState → Type 0
+abbrev pub StandsGone : ThreadView → RunState → Type 0
 StandsGone k (Blocked (Stopping word)) = IsAsking k
 StandsGone k _ = IsRunning k
 
@@ -114,7 +114,7 @@ pub record HasBeenStopped (h : HeapSeen) (p q : PassSeen) : Type 0 where
   pub stopped : IsStopped q.known
   pub ran : DoneIn h p q task.Stop
 
-pub record IsStill (h : HeapSeen) (text : ProgramText) (fuel : ℕ) (p q : PassSeen) (f : FrameSeen) : Type 0 where
+pub record IsSetStopped (h : HeapSeen) (text : ProgramText) (fuel : ℕ) (p q : PassSeen) (f : FrameSeen) : Type 0 where
   pub on : IsOn h text fuel q f
   pub checking : q.known.checking ≡ p.known.checking
   pub thread : q.known.thread ≡ p.known.thread

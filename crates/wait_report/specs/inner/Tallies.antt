@@ -1,5 +1,6 @@
 -- What is counted of each object while the entries are gone through once.
-use Rattle.std.specs.Prelude.{ℕ, ◌+◌, ◌-◌, ◌<◌, ◌^◌, Bool, nat_le, if◌then◌else◌, List, [], ◌∷◌, ◌++◌, length, replicate, slice_index, slice_index_or, slice_set, Some, None}
+use Rattle.std.specs.Prelude.{ℕ, ◌+◌, ◌-◌, ◌<◌, ◌^◌, Bool, nat_le, if◌then◌else◌, List, [], ◌∷◌, ◌++◌}
+use Rattle.std.specs.Prelude.{length, replicate, slice_index, slice_index_or, slice_set, Some, None}
 use Rattle.std.specs.List.{AllByRecursion, list_any}
 use Rattle.plain_monitor.specs.declared.entry.Path.{Path}
 use Rattle.plain_monitor.specs.declared.entry.Entry.{Entry}
@@ -18,14 +19,14 @@ new_tally = record { paths = 0 ∷ 0 ∷ 0 ∷ 0 ∷ 0 ∷ 0 ∷ []; handovers =
 abbrev pub count_at : List ℕ → Path → ℕ
 count_at counts path = slice_index counts (path_number path)
 
--- behind an enter or a resume by thread t
+-- after an enter or a resume by thread t
 abbrev pub had_by : Tally → ℕ → Tally
 had_by y t = record y { handovers = y.handovers + (if is_handover y.taker t then 1 else 0); taker = Some t }
 
 abbrev pub entered_by : Tally → Path → Tally
 entered_by y path = record y { paths = slice_set y.paths (path_number path) (count_at y.paths path + 1) }
 
--- an object behind the last that has a tally has a new one
+-- an object after the last that has a tally has a new one
 abbrev pub tally_at : List Tally → ℕ → Tally
 tally_at ys o = slice_index_or ys o new_tally
 
@@ -41,24 +42,24 @@ with_enter ys t o path = slice_set ys o (entered_by (had_by (tally_at ys o) t) p
 abbrev pub with_resume : List Tally → ℕ → ℕ → List Tally
 with_resume ys t o = slice_set ys o (had_by (tally_at ys o) t)
 
--- the tallies behind an entry of thread t: of the objects up to the greatest that was entered or resumed
-abbrev pub behind_entry : List Tally → ℕ → Entry → List Tally
-behind_entry ys t (Enter o path) = with_enter (reaching ys o) t o path
-behind_entry ys t (Resume o) = with_resume (reaching ys o) t o
-behind_entry ys t e = ys
+-- the tallies after an entry of thread t: of the objects up to the greatest that was entered or resumed
+abbrev pub after_entry : List Tally → ℕ → Entry → List Tally
+after_entry ys t (Enter o path) = with_enter (reaching ys o) t o path
+after_entry ys t (Resume o) = with_resume (reaching ys o) t o
+after_entry ys t e = ys
 
--- behind these entries, one after the other
-abbrev pub behind_entries : List Tally → List (ℕ × Logged) → List Tally
-behind_entries ys [] = ys
-behind_entries ys (x ∷ xs) = behind_entries (behind_entry ys x.0 x.1.entry) xs
+-- after these entries, one after the other
+abbrev pub after_entries : List Tally → List (ℕ × Logged) → List Tally
+after_entries ys [] = ys
+after_entries ys (x ∷ xs) = after_entries (after_entry ys x.0 x.1.entry) xs
 
 -- no count passes a number of 64 bits, if n are added to it
-pub record HasRoom (n : ℕ) (y : Tally) : Type 0 where
+pub record TallyHasRoom (n : ℕ) (y : Tally) : Type 0 where
   pub paths : (path : Path) → count_at y.paths path + n < 2 ^ 64
   pub handovers : y.handovers + n < 2 ^ 64
 
 abbrev pub HaveRoom : ℕ → List Tally → Type 0
-HaveRoom n ys = AllByRecursion (HasRoom n) ys
+HaveRoom n ys = AllByRecursion (TallyHasRoom n) ys
 
 -- the object was entered
 abbrev pub is_counted : Tally → Bool

@@ -10,12 +10,14 @@ use Rattle.bias_check.specs.Answer.{IsTrueOf}
 use Rattle.bias_check.proofs.TrueAnswers.{found, found_true, found_only}
 use Rattle.bias_check.proofs.check.check_journal.Goals as goal
 
-true_of : (p : ProgramText) (fuel start : ℕ) (lines : List (List ℕ)) (r : Result Checked CheckFault) → IsProgram p → (r ≡ Err NoMemory) ⊎ (r ≡ found p fuel start lines)
+true_of : (p : ProgramText) (fuel start : ℕ) (lines : List (List ℕ)) (r : Result Checked CheckFault)
+    → IsProgram p → (r ≡ Err NoMemory) ⊎ (r ≡ found p fuel start lines)
     → IsTrueOf p fuel start lines r
 true_of p fuel start lines r h (inl e) = rw e tt
 true_of p fuel start lines r h (inr e) = rw e (found_true p fuel start lines h)
 
-only_of : (p : ProgramText) (fuel start : ℕ) (lines : List (List ℕ)) (r answer : Result Checked CheckFault) → IsProgram p → (r ≡ Err NoMemory) ⊎ (r ≡ found p fuel start lines)
+only_of : (p : ProgramText) (fuel start : ℕ) (lines : List (List ℕ)) (r answer : Result Checked CheckFault)
+    → IsProgram p → (r ≡ Err NoMemory) ⊎ (r ≡ found p fuel start lines)
     → IsTrueOf p fuel start lines answer → answer ≢ Err NoMemory → (r ≡ answer) ⊎ (r ≡ Err NoMemory)
 only_of p fuel start lines r answer h (inl e) holds other = inr e
 only_of p fuel start lines r answer h (inr e) holds other = inl (e ∙ found_only p fuel start lines answer h holds other)

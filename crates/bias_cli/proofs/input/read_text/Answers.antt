@@ -20,7 +20,8 @@ returns-clause-took g c =
           rw (w.source-is, w.bytes-is) (rw full at c.loop-source.invariant.took)
       | then-loop-source-test+in_ok-read_piece+then-branch-eq0 w ↦
           let none : w.in_ok-read_piece.field-0 ≡ 0 = w.if-branch-eq0.true in
-          rw (w.source-is, w.bytes-is) (took_to_end _ c.args.most _ _ _ _ _ (omega (arith, c.loop-source.invariant.most)) c.loop-source.invariant.took (rw none at w.in_ok-read_piece.ensures.took) (w.in_ok-read_piece.ensures.ended none))
+          rw (w.source-is, w.bytes-is) (took_to_end _ c.args.most _ _ _ _ _ (omega (arith, c.loop-source.invariant.most))
+          c.loop-source.invariant.took (rw none at w.in_ok-read_piece.ensures.took) (w.in_ok-read_piece.ensures.ended none))
     ]
 
 pub returns-in_err-read_piece-clause-some : goal.returns-in_err-read_piece-clause-some

@@ -12,5 +12,6 @@ loop-written-preserved g c =
     record {
       counted = omega (arith, c.in_ok-written.ensures.counted);
       within = omega (arith, c.in_ok-written.ensures.bound, length-drop c.loop-written.written c.args.piece.now);
-      wrote = wrote_more _ _ _ _ _ c.args.piece.now _ (take_all _ _ (omega (arith, length-drop c.loop-written.written c.args.piece.now))) c.loop-written.invariant.wrote c.in_ok-written.ensures.appended;
+      wrote = wrote_more _ _ _ _ _ c.args.piece.now _ (take_all _ _ (omega (arith, length-drop c.loop-written.written c.args.piece.now)))
+          c.loop-written.invariant.wrote c.in_ok-written.ensures.appended;
     }

@@ -2,7 +2,7 @@ use Rattle.std.proofs.Common.{◌≤◌, ◌-◌, length, take}
 use Rattle.bias_cli.specs.Output.{Wrote}
 use Rattle.bias_cli.proofs.output.write_piece.Given as goal
 
--- what was written so far stands behind what the sink held
+-- what was written so far stands after what the sink held
 abbrev pub invariant-loop-written : goal.invariant-loop-written
 invariant-loop-written g l =
     let sink = g.K.Sink in

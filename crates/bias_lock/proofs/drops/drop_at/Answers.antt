@@ -4,7 +4,7 @@ use Rattle.mark_word.specs.declared.mark.MarkForm.TheVariants.{Neutral}
 use Rattle.mark_word.specs.Mark.{mark_of}
 use Rattle.core_world.specs.declared.answer.BiasTry.TheVariants.{Valid}
 use Rattle.core_world.specs.Trees.BiasSteps.{bias_drop_at, unbias_swap_steps}
-use Rattle.core_world.specs.Trees.Todo.{done}
+use Rattle.core_world.specs.Trees.StepTree.{done}
 use Rattle.heap_table.specs.Parts.{IsDueOn}
 use Rattle.heap_table.proofs.Arms.{due_else}
 use Rattle.heap_table.proofs.Ruled.{not_due}
@@ -16,7 +16,7 @@ make_neutral-requires-clause-due c =
     let a = c.args in
     let h = a.heap.now in
     let p = a.pass.now in
-    let e = a.why.now in
+    let e = a.call.now in
     let b = c.in-Biased in
     let due = subst (λ (f : MarkForm). IsDueOn h p e.task (bias_drop_at (Some f) a.epoch e a.object a.mark)) b.is c.requires.due in
     let stale = unbias_swap_steps e a.object a.mark (mark_of (Neutral 0 0)) in
@@ -27,7 +27,7 @@ make_neutral-requires-in-Anonymous-clause-due c =
     let a = c.args in
     let h = a.heap.now in
     let p = a.pass.now in
-    let e = a.why.now in
+    let e = a.call.now in
     subst (λ (f : MarkForm). IsDueOn h p e.task (bias_drop_at (Some f) a.epoch e a.object a.mark)) c.in-Anonymous.is c.requires.due
 
 pub unreachable-requires : goal.unreachable-requires
@@ -35,6 +35,6 @@ unreachable-requires c =
     let a = c.args in
     let h = a.heap.now in
     let p = a.pass.now in
-    let e = a.why.now in
+    let e = a.call.now in
     not_due h p e.task (bias_drop_at (Some a.form) a.epoch e a.object a.mark) c.requires.heap c.requires.due
     (never_dropped a.form a.epoch e a.object a.mark c.in_default.not-Biased c.in_default.not-Anonymous)

@@ -10,7 +10,7 @@ unbias-requires-clause-due c =
     let a = c.args in
     let h = a.heap.now in
     let p = a.pass.now in
-    let e = a.why.now in
+    let e = a.call.now in
     subst (λ (x : Option ℕ). IsDueOn h p e.task (bias_drop_by x e a.object a.mark a.prototype)) c.in-None.is c.requires.due
 
 pub unreachable-requires : goal.unreachable-requires
@@ -18,7 +18,7 @@ unreachable-requires c =
     let a = c.args in
     let h = a.heap.now in
     let p = a.pass.now in
-    let e = a.why.now in
+    let e = a.call.now in
     let epoch = c.in-Some.epoch in
     let due = subst (λ (x : Option ℕ). IsDueOn h p e.task (bias_drop_by x e a.object a.mark a.prototype)) c.in-Some.is c.requires.due in
     not_due h p e.task (bias_drop_by (Some epoch) e a.object a.mark a.prototype) c.requires.heap due

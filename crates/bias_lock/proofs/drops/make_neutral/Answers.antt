@@ -1,6 +1,6 @@
 use Rattle.std.proofs.Common.{sym, subst}
 use Rattle.core_world.specs.Trees.BiasSteps.{unbias_swap_steps}
-use Rattle.heap_table.specs.Parts.{IsDueOn, HasRun}
+use Rattle.heap_table.specs.Parts.{IsDueOn, HasMadeSteps}
 use Rattle.bias_lock.proofs.drops.make_neutral.Goals as goal
 
 pub unbias-requires-clause-due : goal.unbias-requires-clause-due
@@ -8,7 +8,7 @@ unbias-requires-clause-due c =
     let a = c.args in
     let h = a.heap.now in
     let p = a.pass.now in
-    let e = a.why.now in
+    let e = a.call.now in
     subst (λ w. IsDueOn h p e.task (unbias_swap_steps e a.object a.mark w)) (sym c.encode-neutral.ensures) c.requires.due
 
 pub returns : goal.returns
@@ -16,5 +16,5 @@ returns c =
     let a = c.args in
     let h = a.heap.now in
     let p = a.pass.now in
-    let e = a.why.now in
-    subst (λ w. HasRun h (unbias_swap_steps e a.object a.mark w) p c.unbias.new.pass c.unbias.result) c.encode-neutral.ensures c.unbias.ensures
+    let e = a.call.now in
+    subst (λ w. HasMadeSteps h (unbias_swap_steps e a.object a.mark w) p c.unbias.new.pass c.unbias.result) c.encode-neutral.ensures c.unbias.ensures

@@ -1,8 +1,8 @@
 use Rattle.std.proofs.Common.{◌==◌, Some, sym, subst, eq-eqb, ne_eqb}
 use Rattle.mark_word.specs.declared.mark.MarkForm.{MarkForm}
-use Rattle.core_world.specs.Threads.Known.{local_of}
+use Rattle.core_world.specs.Threads.ThreadView.{local_of}
 use Rattle.core_world.specs.Trees.BiasSteps.{bias_enter_at, bias_valid_steps, rebias_steps}
-use Rattle.heap_table.specs.Parts.{IsDueOn, HasRun}
+use Rattle.heap_table.specs.Parts.{IsDueOn, HasMadeSteps}
 use Rattle.heap_table.proofs.Arms.{due_then, due_else, run_then, run_else}
 use Rattle.heap_table.proofs.Ruled.{not_due}
 use Rattle.bias_lock.proofs.Never.{never_entered}
@@ -13,7 +13,7 @@ enter_valid-requires-clause-due c =
     let a = c.args in
     let h = a.heap.now in
     let p = a.pass.now in
-    let e = a.why.now in
+    let e = a.call.now in
     let l = local_of p.known in
     let b = c.in-Biased in
     let due = subst (λ (f : MarkForm). IsDueOn h p e.task (bias_enter_at (Some f) a.epoch e l a.object a.mark)) b.is c.requires.due in
@@ -26,7 +26,7 @@ rebias-requires-clause-due c =
     let a = c.args in
     let h = a.heap.now in
     let p = a.pass.now in
-    let e = a.why.now in
+    let e = a.call.now in
     let l = local_of p.known in
     let b = c.in-Biased in
     let due = subst (λ (f : MarkForm). IsDueOn h p e.task (bias_enter_at (Some f) a.epoch e l a.object a.mark)) b.is c.requires.due in
@@ -39,7 +39,7 @@ rebias-requires-in-Anonymous-clause-due c =
     let a = c.args in
     let h = a.heap.now in
     let p = a.pass.now in
-    let e = a.why.now in
+    let e = a.call.now in
     let l = local_of p.known in
     subst (λ (f : MarkForm). IsDueOn h p e.task (bias_enter_at (Some f) a.epoch e l a.object a.mark)) c.in-Anonymous.is c.requires.due
 
@@ -48,7 +48,7 @@ unreachable-requires c =
     let a = c.args in
     let h = a.heap.now in
     let p = a.pass.now in
-    let e = a.why.now in
+    let e = a.call.now in
     let l = local_of p.known in
     not_due h p e.task (bias_enter_at (Some a.form) a.epoch e l a.object a.mark) c.requires.heap c.requires.due
     (never_entered a.form a.epoch e l a.object a.mark c.in_default.not-Biased c.in_default.not-Anonymous)
@@ -58,14 +58,14 @@ returns-then-old-epoch c =
     let a = c.args in
     let h = a.heap.now in
     let p = a.pass.now in
-    let e = a.why.now in
+    let e = a.call.now in
     let l = local_of p.known in
     let b = c.in-Biased in
     let valid = bias_valid_steps e l a.object a.mark b.thread in
     let stale = rebias_steps e l a.object a.mark a.epoch in
     let r = c.enter_valid.new.pass in
     let out = c.enter_valid.result in
-    subst (λ (f : MarkForm). HasRun h (bias_enter_at (Some f) a.epoch e l a.object a.mark) p r out) (sym b.is)
+    subst (λ (f : MarkForm). HasMadeSteps h (bias_enter_at (Some f) a.epoch e l a.object a.mark) p r out) (sym b.is)
     (run_then h p (b.old == a.epoch) valid stale r out (eq-eqb _ _ c.if-old-epoch.true) c.enter_valid.ensures)
 
 pub returns-else-old-epoch : goal.returns-else-old-epoch
@@ -73,12 +73,12 @@ returns-else-old-epoch c =
     let a = c.args in
     let h = a.heap.now in
     let p = a.pass.now in
-    let e = a.why.now in
+    let e = a.call.now in
     let l = local_of p.known in
     let b = c.in-Biased in
     let valid = bias_valid_steps e l a.object a.mark b.thread in
     let stale = rebias_steps e l a.object a.mark a.epoch in
     let r = c.rebias.new.pass in
     let out = c.rebias.result in
-    subst (λ (f : MarkForm). HasRun h (bias_enter_at (Some f) a.epoch e l a.object a.mark) p r out) (sym b.is)
+    subst (λ (f : MarkForm). HasMadeSteps h (bias_enter_at (Some f) a.epoch e l a.object a.mark) p r out) (sym b.is)
     (run_else h p (b.old == a.epoch) valid stale r out (ne_eqb _ _ c.if-old-epoch.false) c.rebias.ensures)

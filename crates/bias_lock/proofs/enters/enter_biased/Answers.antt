@@ -1,25 +1,25 @@
 use Rattle.std.proofs.Common.{◌≡◌, Option, Some, refl, sym, ap, ◌∙◌, subst}
 use Rattle.mark_word.specs.declared.mark.MarkForm.{MarkForm}
 use Rattle.mark_word.specs.Mark.{read_mark}
-use Rattle.core_world.specs.declared.name.Name.TheVariants.{Prototype}
-use Rattle.core_world.specs.Threads.Known.{Local, local_of}
+use Rattle.core_world.specs.declared.word_id.WordId.TheVariants.{Prototype}
+use Rattle.core_world.specs.Threads.ThreadView.{Local, local_of}
 use Rattle.core_world.specs.Trees.BiasSteps.{bias_enter_by}
 use Rattle.core_world.specs.Trees.Plans.{load}
-use Rattle.heap_table.specs.Parts.{IsDueOn, HasRun}
+use Rattle.heap_table.specs.Parts.{IsDueOn, HasMadeSteps}
 use Rattle.heap_table.proofs.Parts.{can, rest_due, stepped}
 use Rattle.heap_table.proofs.Ruled.{not_due}
 use Rattle.bias_lock.proofs.enters.enter_biased.Goals as goal
 
 pub load-prototype-requires : goal.load-prototype-requires
 load-prototype-requires c =
-    let a = c.args in can a.heap.now a.pass.now a.why.now.task (load a.why.now (Prototype a.class)) _ c.requires.due refl c.requires.heap tt refl
+    let a = c.args in can a.heap.now a.pass.now a.call.now.task (load a.call.now (Prototype a.class)) _ c.requires.due refl c.requires.heap tt refl
 
-pub enter_by-requires-clause-due : goal.enter_by-requires-clause-due
-enter_by-requires-clause-due c =
+pub enter_by_prototype-requires-clause-due : goal.enter_by_prototype-requires-clause-due
+enter_by_prototype-requires-clause-due c =
     let a = c.args in
     let h = a.heap.now in
     let p = a.pass.now in
-    let e = a.why.now in
+    let e = a.call.now in
     let l = local_of p.known in
     let plan = load e (Prototype a.class) in
     let q = c.load-prototype.new.pass in
@@ -36,7 +36,7 @@ unreachable-requires c =
     let a = c.args in
     let h = a.heap.now in
     let p = a.pass.now in
-    let e = a.why.now in
+    let e = a.call.now in
     let l = local_of p.known in
     let plan = load e (Prototype a.class) in
     let q = c.load-prototype.new.pass in
@@ -51,7 +51,7 @@ returns c =
     let a = c.args in
     let h = a.heap.now in
     let p = a.pass.now in
-    let e = a.why.now in
+    let e = a.call.now in
     let l = local_of p.known in
     let plan = load e (Prototype a.class) in
     let q = c.load-prototype.new.pass in
@@ -59,8 +59,9 @@ returns c =
     let s = c.load-prototype.ensures in
     let form = sym c.mark_of_word.ensures ∙ c.in-Some.is in
     let local : local_of q.known ≡ l = ap local_of s.known in
-    let r = c.enter_by.new.pass in
-    let out = c.enter_by.result in
-    let run = subst (λ (x : Local). HasRun h (bias_enter_by (Some c.in-Some.form) e x a.object a.mark prototype) q r out) local c.enter_by.ensures in
+    let r = c.enter_by_prototype.new.pass in
+    let out = c.enter_by_prototype.result in
+    let run = subst (λ (x : Local). HasMadeSteps h (bias_enter_by (Some c.in-Some.form) e x a.object a.mark prototype) q r out)
+    local c.enter_by_prototype.ensures in
     stepped h p q r plan _ prototype out s refl
-    (subst (λ (f : Option MarkForm). HasRun h (bias_enter_by f e l a.object a.mark prototype) q r out) (sym form) run)
+    (subst (λ (f : Option MarkForm). HasMadeSteps h (bias_enter_by f e l a.object a.mark prototype) q r out) (sym form) run)

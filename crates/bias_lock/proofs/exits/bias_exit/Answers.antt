@@ -1,11 +1,11 @@
 use Rattle.std.proofs.Common.{◌==◌, refl, sym, ap, ◌∙◌, subst, arith}
 use Rattle.core_world.specs.Locks.{hold_count}
-use Rattle.core_world.specs.Threads.Known.{Local, local_of}
+use Rattle.core_world.specs.Threads.ThreadView.{Local, local_of}
 use Rattle.core_world.specs.Trees.LockSteps.{raise_stamp_plan, raise_steps}
 use Rattle.core_world.specs.Trees.Plans.{next_stamp, top_place}
-use Rattle.core_world.specs.Trees.Todo.{done}
+use Rattle.core_world.specs.Trees.StepTree.{done}
 use Rattle.core_world.proofs.CallRests.{part_due}
-use Rattle.heap_table.specs.Parts.{IsDueOn, HasRun}
+use Rattle.heap_table.specs.Parts.{IsDueOn, HasMadeSteps}
 use Rattle.heap_table.proofs.Parts.{in_turn}
 use Rattle.heap_table.proofs.Arms.{after_choice}
 use Rattle.heap_table.proofs.Ruled.{few_objects}
@@ -20,7 +20,7 @@ pub raise-requires-clause-due : goal.raise-requires-clause-due
 raise-requires-clause-due c =
     let a = c.args in
     let h = a.heap.now in
-    let e = a.why.now in
+    let e = a.call.now in
     let k = a.pass.now.known in
     part_due h.heap.shape h.heap.start h.heap.biasing k e.task (raise_steps e (local_of k) a.object) (λ _. marked_exit e (local_of k) a.object)
     c.requires.due
@@ -29,7 +29,7 @@ pub leave_marked-requires-clause-due : goal.leave_marked-requires-clause-due
 leave_marked-requires-clause-due c =
     let a = c.args in
     let h = a.heap.now in
-    let e = a.why.now in
+    let e = a.call.now in
     let k = a.pass.now.known in
     let q = c.raise.new.pass in
     let plan = raise_stamp_plan e a.object (next_stamp (local_of k)) in
@@ -46,12 +46,12 @@ pub returns-clause-run : goal.returns-clause-run
 returns-clause-run c =
     let a = c.args in
     let h = a.heap.now in
-    let e = a.why.now in
+    let e = a.call.now in
     let k = a.pass.now.known in
     let q = c.raise.new.pass in
     let r = c.leave_marked.new.pass in
     let out = c.leave_marked.result in
-    let run = subst (λ (l : Local). HasRun h (marked_exit e l a.object) q r out) c.raise.ensures.kept c.leave_marked.ensures.run in
+    let run = subst (λ (l : Local). HasMadeSteps h (marked_exit e l a.object) q r out) c.raise.ensures.kept c.leave_marked.ensures.run in
     in_turn h a.pass.now q r (raise_steps e (local_of k) a.object) (λ _. marked_exit e (local_of k) a.object) tt out c.raise.ensures.run run
 
 pub returns-clause-kept : goal.returns-clause-kept

@@ -1,4 +1,4 @@
-use Rattle.core_calls.proofs.ShortCalls.{free_enter, unbiased_enter, own_enter}
+use Rattle.core_calls.proofs.enter_exit.ShortCalls.{free_enter, unbiased_enter, own_enter}
 use Rattle.core_calls.proofs.bounding.common_enters_are_short.Goals as goal
 
 pub returns-clause-free : goal.returns-clause-free

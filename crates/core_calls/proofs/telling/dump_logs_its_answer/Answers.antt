@@ -1,6 +1,6 @@
 use Rattle.core_calls.proofs.Runs.{tells}
 use Rattle.core_calls.proofs.OtherCallsSay.{dump_says}
-use Rattle.core_calls.proofs.ShotsKept.{dump_shoots, dump_pends}
+use Rattle.core_calls.proofs.shot.ShotsKept.{dump_shoots, dump_pends}
 use Rattle.core_calls.proofs.telling.dump_logs_its_answer.Goals as goal
 
 pub returns-clause-steps : goal.returns-clause-steps

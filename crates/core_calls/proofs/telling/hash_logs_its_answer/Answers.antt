@@ -1,5 +1,5 @@
 use Rattle.core_calls.proofs.Runs.{tells}
-use Rattle.core_calls.proofs.WaitCallsSay.{hash_says}
+use Rattle.core_calls.proofs.wait.WaitCallsSay.{hash_says}
 use Rattle.core_calls.proofs.telling.hash_logs_its_answer.Goals as goal
 
 pub returns-clause-steps : goal.returns-clause-steps

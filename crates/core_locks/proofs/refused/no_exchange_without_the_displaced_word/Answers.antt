@@ -1,4 +1,4 @@
-use Rattle.core_locks.proofs.RefutedExchanges.{exchange_refused}
+use Rattle.core_locks.proofs.enter_exit.RefutedExchanges.{exchange_refused}
 use Rattle.core_locks.proofs.refused.no_exchange_without_the_displaced_word.Goals as goal
 
 pub returns : goal.returns

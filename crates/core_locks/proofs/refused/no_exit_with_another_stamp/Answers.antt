@@ -1,10 +1,13 @@
-use Rattle.core_locks.proofs.Prelude.{◌≡◌, ◌≢◌, ◌⊎◌, ℕ, true, List, [], ◌∷◌, ◌++◌, None, sym, ap, ◌∙◌, inl, inr, mark_of, Locked, PlainObject, Logged, Exit, HasLetGo, Mark, Stamp, is_neutral, local_of, World, monitor_of, Purpose, next_stamp, Fits, each_with_known}
-use Rattle.core_locks.proofs.RefutedExits.{leave, left_unowned}
+use Rattle.core_locks.proofs.Prelude.{◌≡◌, ◌≢◌, ◌⊎◌, ℕ, true, List, [], ◌∷◌, ◌++◌, None, sym, ap, ◌∙◌, inl, inr}
+use Rattle.core_locks.proofs.Prelude.{mark_of, Locked, PlainObject, Logged, Exit, HasLetGo, Mark, Stamp, is_neutral}
+use Rattle.core_locks.proofs.Prelude.{local_of, World, monitor_of, CallContext, next_stamp, Fits, each_with_known}
+use Rattle.core_locks.proofs.enter_exit.RefutedExits.{leave, left_unowned}
 use Rattle.core_locks.proofs.RefutedSteps.{knows, hit, swap_hits, hit_fits}
 use Rattle.core_locks.proofs.refused.no_exit_with_another_stamp.Goals as goal
 
 -- an entry of a log with one entry more is that one, or stood there before
-is_last_or_before : (log before later : List Logged) (y x : Logged) → (log ++ y ∷ []) ≡ (before ++ x ∷ later) → (y ≡ x) ⊎ ((rest : List Logged) × (log ≡ (before ++ x ∷ rest)))
+is_last_or_before : (log before later : List Logged) (y x : Logged)
+    → (log ++ y ∷ []) ≡ (before ++ x ∷ later) → (y ≡ x) ⊎ ((rest : List Logged) × (log ≡ (before ++ x ∷ rest)))
 is_last_or_before [] [] later y x h = inl (cc h)
 is_last_or_before [] (b ∷ []) later y x h = absurd (cc h)
 is_last_or_before [] (b ∷ c ∷ before) later y x h = absurd (cc h)
@@ -25,7 +28,7 @@ let_go_was log y o stamp other h = elim (is_last_or_before log h.before h.later 
 ]
 
 -- the object has no owner afterwards, so that its stamp word is 0 or that of an entry that let go of it
-no_exit : (w : World) (Q : List PlainObject) (o t p header : ℕ) (e : Purpose) → w.words (Mark o) ≡ mark_of (Locked t p) → is_neutral header ≡ true
+no_exit : (w : World) (Q : List PlainObject) (o t p header : ℕ) (e : CallContext) → w.words (Mark o) ≡ mark_of (Locked t p) → is_neutral header ≡ true
     → w.words (Stamp o) ≢ 0 → w.words (Stamp o) ≢ next_stamp (local_of (w.known t)) → ((u : ℕ) → HasLetGo (w.known u).log o (w.words (Stamp o)) → ⊥)
     → Fits (hit (leave o t p header e) t w) Q → ⊥
 no_exit w Q o t p header e mark neutral some other unlogged fits =

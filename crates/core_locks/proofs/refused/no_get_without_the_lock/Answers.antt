@@ -1,4 +1,4 @@
-use Rattle.core_locks.proofs.RefutedOwning.{no_get_found}
+use Rattle.core_locks.proofs.enter_exit.RefutedOwning.{no_get_found}
 use Rattle.core_locks.proofs.refused.no_get_without_the_lock.Goals as goal
 
 pub returns : goal.returns

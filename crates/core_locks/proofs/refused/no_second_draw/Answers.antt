@@ -1,4 +1,4 @@
-use Rattle.core_locks.proofs.RefutedDraws.{no_second_draw}
+use Rattle.core_locks.proofs.hash.RefutedDraws.{no_second_draw}
 use Rattle.core_locks.proofs.refused.no_second_draw.Goals as goal
 
 pub returns : goal.returns

@@ -1,4 +1,4 @@
-use Rattle.core_locks.proofs.SafeEnds.{reached_finds, halting_valid}
+use Rattle.core_locks.proofs.safepoint.SafeEnds.{reached_finds, halting_valid}
 use Rattle.core_locks.proofs.safepoint.halting_keeps_the_world_valid.Goals as goal
 
 pub returns-clause-finds : goal.returns-clause-finds

@@ -1,4 +1,4 @@
-use Rattle.core_locks.proofs.SafeEnds.{reached_finds, releasing_valid, releasing_taking}
+use Rattle.core_locks.proofs.safepoint.SafeEnds.{reached_finds, releasing_valid, releasing_taking}
 use Rattle.core_locks.proofs.safepoint.releasing_keeps_the_world_valid.Goals as goal
 
 pub returns-clause-finds : goal.returns-clause-finds

@@ -1,4 +1,4 @@
-use Rattle.core_locks.proofs.SafeStops.{resuming_valid}
+use Rattle.core_locks.proofs.safepoint.SafeStops.{resuming_valid}
 use Rattle.core_locks.proofs.safepoint.resuming_keeps_the_world_valid.Goals as goal
 
 pub returns : goal.returns

@@ -1,5 +1,5 @@
 use Rattle.std.specs.Prelude.{false}
-use Rattle.core_steps.proofs.AllDeflations.{deflation_leaves}
+use Rattle.core_steps.proofs.deflation.AllDeflations.{deflation_leaves}
 use Rattle.core_steps.proofs.Trees.{follows}
 use Rattle.core_steps.proofs.stepping.a_deflation_does_its_steps.Goals as goal
 

@@ -1,4 +1,4 @@
-use Rattle.core_steps.proofs.FirstDraws.{next_step_keeps_first, opening_first, reached_worlds_drawn, reached_worlds_first}
+use Rattle.core_steps.proofs.hash.FirstDraws.{next_step_keeps_first, opening_first, reached_worlds_drawn, reached_worlds_first}
 use Rattle.core_steps.proofs.stepping.draws_of_reached_worlds_come_first.Goals as goal
 
 pub returns-clause-kept : goal.returns-clause-kept

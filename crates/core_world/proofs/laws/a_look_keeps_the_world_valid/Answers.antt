@@ -1,4 +1,4 @@
-use Rattle.core_world.proofs.LookWhileRevoking.{look_valid, miss_valid}
+use Rattle.core_world.proofs.bias.LookWhileRevoking.{look_valid, miss_valid}
 use Rattle.core_world.proofs.laws.a_look_keeps_the_world_valid.Goals as goal
 
 pub returns-clause-load : goal.returns-clause-load

@@ -3,12 +3,12 @@ use Rattle.mark_word.specs.declared.mark.MarkForm.TheVariants.{Locked}
 use Rattle.mark_word.specs.Mark.{mark_of, read_mark}
 use Rattle.mark_word.proofs.ReadingMarks.{read_mark-mark_of}
 use Rattle.plain_monitor.specs.Objects.{PlainObject}
-use Rattle.core_world.specs.declared.name.Name.TheVariants.{Mark, Displaced}
+use Rattle.core_world.specs.declared.word_id.WordId.TheVariants.{Mark, Displaced}
 use Rattle.core_world.specs.Words.Forms.{is_neutral}
 use Rattle.core_world.specs.World.{World}
 use Rattle.core_world.specs.Locks.{OnRecord, lock}
 use Rattle.core_world.specs.Valid.{Fits}
-use Rattle.core_world.proofs.OwnersShown.{running_fits, lock_by_form}
+use Rattle.core_world.proofs.enter_exit.OwnersShown.{running_fits, lock_by_form}
 use Rattle.core_world.proofs.refused.no_displaced_header_lost.Goals as goal
 
 -- the word 0 is no header

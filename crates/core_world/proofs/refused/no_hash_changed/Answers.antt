@@ -2,13 +2,13 @@ use Rattle.std.proofs.Common.{◌≡◌, ◌≢◌, ◌<◌, ◌^◌, ℕ, List,
 use Rattle.mark_word.specs.declared.mark.MarkForm.TheVariants.{Neutral}
 use Rattle.mark_word.specs.Mark.{mark_of}
 use Rattle.plain_monitor.specs.Objects.{PlainObject}
-use Rattle.core_world.specs.declared.name.Name.TheVariants.{Mark}
+use Rattle.core_world.specs.declared.word_id.WordId.TheVariants.{Mark}
 use Rattle.core_world.specs.Words.Names.{with_word}
 use Rattle.core_world.specs.Words.Forms.{hash_form, hash_in}
 use Rattle.core_world.specs.World.{World}
 use Rattle.core_world.specs.Locks.{header, header_form, marks, displaced_words, headers, inflations, hash_at}
 use Rattle.core_world.specs.Valid.{Fits}
-use Rattle.core_world.proofs.OwnersShown.{running_fits, with_word_mark}
+use Rattle.core_world.proofs.enter_exit.OwnersShown.{running_fits, with_word_mark}
 use Rattle.core_world.proofs.refused.no_hash_changed.Goals as goal
 
 -- the world in which the mark is neutral and has this hash

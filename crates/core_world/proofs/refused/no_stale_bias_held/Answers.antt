@@ -3,13 +3,13 @@ use Rattle.mark_word.specs.declared.mark.MarkForm.TheVariants.{Biased}
 use Rattle.mark_word.specs.Mark.{mark_of, read_mark}
 use Rattle.mark_word.proofs.ReadingMarks.{read_mark-mark_of}
 use Rattle.plain_monitor.specs.Objects.{PlainObject}
-use Rattle.core_world.specs.declared.name.Name.TheVariants.{Mark, Hold}
+use Rattle.core_world.specs.declared.word_id.WordId.TheVariants.{Mark, Hold}
 use Rattle.core_world.specs.Words.Forms.{names, epoch_in, is_biased, is_biased_form}
 use Rattle.core_world.specs.World.{World}
 use Rattle.core_world.specs.Locks.{Open, BiasedTo, has_epoch, prototype_of, lock}
 use Rattle.core_world.specs.Valid.{Fits}
-use Rattle.core_world.proofs.ObjectHolds.{word_is_hold}
-use Rattle.core_world.proofs.OwnersShown.{running_fits, lock_by_form}
+use Rattle.core_world.proofs.enter_exit.ObjectHolds.{word_is_hold}
+use Rattle.core_world.proofs.enter_exit.OwnersShown.{running_fits, lock_by_form}
 use Rattle.core_world.proofs.refused.no_stale_bias_held.Goals as goal
 
 no_stale_bias_held : (w : World) (objects : List PlainObject) (o t e p : ℕ) → t < 32 → e < 4 → w.words (Mark o) ≡ mark_of (Biased t e 0)

@@ -1,4 +1,4 @@
-use Rattle.core_world.proofs.OwnersShown.{at_rest_shown, at_safepoint_shown, taken_shown, taken_alone, leaving_shown, safepoint_shown}
+use Rattle.core_world.proofs.enter_exit.OwnersShown.{at_rest_shown, at_safepoint_shown, taken_shown, taken_alone, leaving_shown, safepoint_shown}
 use Rattle.core_world.proofs.shown.shown_is_plain.Goals as goal
 
 pub returns-clause-at_rest : goal.returns-clause-at_rest

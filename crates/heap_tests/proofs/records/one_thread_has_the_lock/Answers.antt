@@ -7,5 +7,5 @@ resume-runs-requires-clause-next g c = first_next
 pub resume-runs-requires-2-clause-next : goal.resume-runs-requires-2-clause-next
 resume-runs-requires-2-clause-next g c = second_next
 
-pub enter-turn-requires : goal.enter-turn-requires
-enter-turn-requires g c = c.enter_first-turn.ensures c.in-Done.path c.in-Done.is
+pub enter-progress-requires : goal.enter-progress-requires
+enter-progress-requires g c = c.enter_first-progress.ensures c.in-Done.path c.in-Done.is

@@ -9,4 +9,5 @@ pub exchange-left-requires : goal.exchange-left-requires
 exchange-left-requires c = can _ _ _ _ (goes _ _ _ _ _ _ _ c.requires.knows c.look-found.ensures.stepped refl c.if-found-from.false) c.requires.next tt refl
 
 pub returns : goal.returns
-returns c = λ e. goes _ _ _ _ _ _ _ (goes _ _ _ _ _ _ _ c.requires.knows c.look-found.ensures.stepped refl c.if-found-from.false) c.exchange-left.ensures refl c.if-left-from.false
+returns c = λ e. goes _ _ _ _ _ _ _
+    (goes _ _ _ _ _ _ _ c.requires.knows c.look-found.ensures.stepped refl c.if-found-from.false) c.exchange-left.ensures refl c.if-left-from.false

@@ -8,11 +8,11 @@ pub poll-requires-clause-due : goal.poll-requires-clause-due
 unfolding steps_of
 poll-requires-clause-due c =
     let may = sym c.running.ensures ∙ c.if-running.true in
-    due_as _ _ c.requires _ _ poll_steps c.aside-why.ensures may refl
+    due_as _ _ c.requires _ _ poll_steps c.aside-call.ensures may refl
 
 pub returns-then-running : goal.returns-then-running
 unfolding steps_of
 returns-then-running c =
     let may = sym c.running.ensures ∙ c.if-running.true in
-    rests_as _ _ c.requires _ _ poll_steps c.aside-why.ensures may refl
+    rests_as _ _ c.requires _ _ poll_steps c.aside-call.ensures may refl
     refl _ _ c.poll.ensures

@@ -1,6 +1,6 @@
 use Rattle.std.proofs.Common.{◌&&◌, not, refl, sym, ◌∙◌}
-use Rattle.core_world.specs.Threads.Known.{local_of}
-use Rattle.core_world.specs.Trees.Plans.{Purpose}
+use Rattle.core_world.specs.Threads.ThreadView.{local_of}
+use Rattle.core_world.specs.Trees.Plans.{CallContext}
 use Rattle.core_world.specs.Trees.SafepointSteps.{resume_steps}
 use Rattle.core_world.specs.Trees.Calls.{steps_of}
 use Rattle.heap_table.proofs.Resting.{due_as, rests_as}
@@ -12,7 +12,7 @@ resume-requires-clause-due c =
     let k = c.args.pass.now.known in
     let stopped = sym c.running.ensures ∙ c.if-running.false in
     let unasking = sym c.requesting.ensures ∙ c.if-requesting.false in
-    due_as _ _ c.requires _ _ (λ (x : Purpose). resume_steps x (local_of k)) c.aside-why.ensures
+    due_as _ _ c.requires _ _ (λ (x : CallContext). resume_steps x (local_of k)) c.aside-call.ensures
     (λ i. not (stopped i) && not (unasking i)) refl
 
 pub returns : goal.returns
@@ -21,6 +21,6 @@ returns c =
     let k = c.args.pass.now.known in
     let stopped = sym c.running.ensures ∙ c.if-running.false in
     let unasking = sym c.requesting.ensures ∙ c.if-requesting.false in
-    rests_as _ _ c.requires _ _ (λ (x : Purpose). resume_steps x (local_of k)) c.aside-why.ensures
+    rests_as _ _ c.requires _ _ (λ (x : CallContext). resume_steps x (local_of k)) c.aside-call.ensures
     (λ i. not (stopped i) && not (unasking i)) refl
     refl _ _ c.resume.ensures

@@ -12,9 +12,11 @@ close-requires-clause-passes c =
 pub close-requires-clause-stopped : goal.close-requires-clause-stopped
 close-requires-clause-stopped c =
     let two : c.of.result ≡ c.args.first ∷ c.args.second ∷ [] = search rules in
-    subst (All (λ p. p.known.running ≡ false)) (sym two) (both (λ p. p.known.running ≡ false) c.args.first c.args.second c.requires.passes.0.stopped c.requires.passes.1.stopped)
+    subst (All (λ p. p.known.running ≡ false)) (sym two)
+    (both (λ p. p.known.running ≡ false) c.args.first c.args.second c.requires.passes.0.stopped c.requires.passes.1.stopped)
 
 pub close-requires-clause-quiet : goal.close-requires-clause-quiet
 close-requires-clause-quiet c =
     let two : c.of.result ≡ c.args.first ∷ c.args.second ∷ [] = search rules in
-    inl (subst (All (λ p. p.known.requesting ≡ false)) (sym two) (both (λ p. p.known.requesting ≡ false) c.args.first c.args.second c.requires.passes.0.quiet c.requires.passes.1.quiet))
+    inl (subst (All (λ p. p.known.requesting ≡ false)) (sym two)
+    (both (λ p. p.known.requesting ≡ false) c.args.first c.args.second c.requires.passes.0.quiet c.requires.passes.1.quiet))

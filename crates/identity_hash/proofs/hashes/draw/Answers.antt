@@ -1,6 +1,6 @@
 use Rattle.std.proofs.Common.{◌≡◌, ◌==◌, true, false, refl, sym, subst, eq-eqb, ne_eqb}
-use Rattle.core_world.specs.declared.answer.Turn.TheVariants.{Done, Pending}
-use Rattle.core_world.specs.declared.answer.Why.TheVariants as why
+use Rattle.core_world.specs.declared.answer.Progress.TheVariants.{Done, Pending}
+use Rattle.core_world.specs.declared.answer.PendingCause.TheVariants as why
 use Rattle.core_world.specs.declared.plan.StepPlan.{StepPlan}
 use Rattle.core_world.specs.Trees.HashSteps.{NextDraw, draw_plan}
 use Rattle.core_world.specs.Trees.Plans.{done_with, pending_for}
@@ -14,7 +14,7 @@ pub log_exchange-found-requires : goal.log_exchange-found-requires
 log_exchange-found-requires c =
     let a = c.args in
     let h = a.heap.now in
-    let e = a.why.now in
+    let e = a.call.now in
     let d : NextDraw = record { number = a.number; value = a.value } in
     let same = draws e d a.at a.object a.header c.marked_with-word.result c.marked_with-word.ensures in
     subst (CanStep h a.pass.now) (sym same)
@@ -24,7 +24,7 @@ pub returns-then-found-header : goal.returns-then-found-header
 returns-then-found-header c =
     let a = c.args in
     let h = a.heap.now in
-    let e = a.why.now in
+    let e = a.call.now in
     let d : NextDraw = record { number = a.number; value = a.value } in
     let q = c.log_exchange-found.new.pass in
     let found = c.log_exchange-found.result in
@@ -39,7 +39,7 @@ pub returns : goal.returns
 returns c =
     let a = c.args in
     let h = a.heap.now in
-    let e = a.why.now in
+    let e = a.call.now in
     let d : NextDraw = record { number = a.number; value = a.value } in
     let q = c.log_exchange-found.new.pass in
     let found = c.log_exchange-found.result in

@@ -1,12 +1,12 @@
 use Rattle.std.proofs.Common.{◌≡◌, ◌==◌, true, false, if◌then◌else◌, Some, None, refl, sym, ap, ◌∙◌, subst, eq-eqb, ne_eqb, arith}
-use Rattle.core_world.specs.declared.name.Name.TheVariants.{Displaced}
+use Rattle.core_world.specs.declared.word_id.WordId.TheVariants.{Displaced}
 use Rattle.core_world.specs.declared.plan.StepPlan.{StepPlan}
 use Rattle.core_world.specs.RevocationRules.{first_place}
-use Rattle.core_world.specs.Threads.Known.{local_of}
+use Rattle.core_world.specs.Threads.ThreadView.{local_of}
 use Rattle.core_world.specs.Trees.HashSteps.{find_hash_plan, hash_displaced_steps}
-use Rattle.core_world.specs.Trees.Todo.{done}
+use Rattle.core_world.specs.Trees.StepTree.{done}
 use Rattle.core_world.specs.Words.Forms.{hash_in}
-use Rattle.heap_table.specs.Parts.{HasRun}
+use Rattle.heap_table.specs.Parts.{HasMadeSteps}
 use Rattle.heap_table.specs.Stepping.{CanStep, HasStepped}
 use Rattle.heap_table.proofs.Parts.{can, last_step}
 use Rattle.heap_table.proofs.Ruled.{few_objects}
@@ -19,7 +19,7 @@ first_place-place-requires c = omega (arith, c.requires.object, few_objects c.ar
 pub find_hash-header-requires : goal.find_hash-header-requires
 find_hash-header-requires c =
     let a = c.args in
-    let e = a.why.now in
+    let e = a.call.now in
     let k = a.pass.now.known in
     let plan = find_hash_plan e (Displaced k.thread (first_place a.object k.holds)) a.object in
     let same = of_record e a.object _ k.thread _ (first_place a.object k.holds) c.thread-thread.ensures.same c.first_place-place.ensures in
@@ -29,7 +29,7 @@ pub returns-then-hash-ne0 : goal.returns-then-hash-ne0
 returns-then-hash-ne0 c =
     let a = c.args in
     let h = a.heap.now in
-    let e = a.why.now in
+    let e = a.call.now in
     let k = a.pass.now.known in
     let plan = find_hash_plan e (Displaced k.thread (first_place a.object k.holds)) a.object in
     let same = of_record e a.object _ k.thread _ (first_place a.object k.holds) c.thread-thread.ensures.same c.first_place-place.ensures in
@@ -37,14 +37,14 @@ returns-then-hash-ne0 c =
     let header = c.find_hash-header.result in
     let s = subst (λ (x : StepPlan). HasStepped h a.pass.now q x header) same c.find_hash-header.ensures in
     let has : (hash_in header == 0) ≡ false = ap (λ n. n == 0) (sym c.hash_of_word-hash.ensures) ∙ ne_eqb _ _ c.if-hash-ne0.true in
-    subst (λ n. HasRun h (hash_displaced_steps e (local_of k) a.object) a.pass.now q (Some n)) (sym c.hash_of_word-hash.ensures)
+    subst (λ n. HasMadeSteps h (hash_displaced_steps e (local_of k) a.object) a.pass.now q (Some n)) (sym c.hash_of_word-hash.ensures)
     (last_step h a.pass.now q plan _ header (Some (hash_in header)) s refl (ap (λ b. done (if b then None else Some (hash_in header))) has))
 
 pub returns : goal.returns
 returns c =
     let a = c.args in
     let h = a.heap.now in
-    let e = a.why.now in
+    let e = a.call.now in
     let k = a.pass.now.known in
     let plan = find_hash_plan e (Displaced k.thread (first_place a.object k.holds)) a.object in
     let same = of_record e a.object _ k.thread _ (first_place a.object k.holds) c.thread-thread.ensures.same c.first_place-place.ensures in

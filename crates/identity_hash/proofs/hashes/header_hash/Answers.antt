@@ -2,15 +2,15 @@ use Rattle.std.proofs.Common.{◌≡◌, ℕ, ◌==◌, true, false, Option, Som
 use Rattle.mark_word.specs.declared.mark.MarkForm.{MarkForm}
 use Rattle.mark_word.specs.declared.mark.MarkForm.TheVariants.{Inflating, Neutral, Locked, Inflated}
 use Rattle.mark_word.specs.Mark.{read_mark}
-use Rattle.core_world.specs.declared.answer.Turn.TheVariants.{Done, Pending}
-use Rattle.core_world.specs.declared.answer.Why.TheVariants as why
-use Rattle.core_world.specs.declared.name.Name.TheVariants.{Mark}
-use Rattle.core_world.specs.Threads.Known.{Local, local_of}
+use Rattle.core_world.specs.declared.answer.Progress.TheVariants.{Done, Pending}
+use Rattle.core_world.specs.declared.answer.PendingCause.TheVariants as why
+use Rattle.core_world.specs.declared.word_id.WordId.TheVariants.{Mark}
+use Rattle.core_world.specs.Threads.ThreadView.{Local, local_of}
 use Rattle.core_world.specs.Trees.HashSteps.{NextDraw, find_hash_plan, hash_neutral_steps, hash_inflate_steps, hash_mark_steps}
 use Rattle.core_world.specs.Trees.Plans.{done_with}
 use Rattle.core_world.specs.Words.Forms.{hash_in, hash_form}
 use Rattle.identity_hash.specs.inner.Parts.{hash_owned_steps}
-use Rattle.heap_table.specs.Parts.{IsDueOn, HasRun}
+use Rattle.heap_table.specs.Parts.{IsDueOn, HasMadeSteps}
 use Rattle.heap_table.proofs.Parts.{can, rest_due, never_left, stepped, ends}
 use Rattle.heap_table.proofs.Arms.{due_then, due_else, run_then, run_else}
 use Rattle.identity_hash.proofs.Finding.{room_left, same_local, same_kept}
@@ -20,13 +20,13 @@ use Rattle.identity_hash.proofs.hashes.header_hash.Goals as goal
 pub find_hash-mark-requires : goal.find_hash-mark-requires
 find_hash-mark-requires c =
     let a = c.args in
-    can a.heap.now a.pass.now a.why.now.task (find_hash_plan a.why.now (Mark a.object) a.object) _ c.requires.due refl c.requires.heap c.requires.room refl
+    can a.heap.now a.pass.now a.call.now.task (find_hash_plan a.call.now (Mark a.object) a.object) _ c.requires.due refl c.requires.heap c.requires.room refl
 
 pub returns-in-Inflating : goal.returns-in-Inflating
 returns-in-Inflating c =
     let a = c.args in
     let h = a.heap.now in
-    let e = a.why.now in
+    let e = a.call.now in
     let k = a.pass.now.known in
     let d : NextDraw = record { number = a.number; value = a.value } in
     let q = c.find_hash-mark.new.pass in
@@ -35,14 +35,14 @@ returns-in-Inflating c =
     let form : read_mark mark ≡ Some Inflating = sym c.mark_of_word.ensures ∙ c.in-Some.is ∙ ap Some c.in-Inflating.is in
     let out = Pending why.Inflating in
     stepped h a.pass.now q q (find_hash_plan e (Mark a.object) a.object) _ mark out s refl
-    (subst (λ (f : Option MarkForm). HasRun h (hash_mark_steps f h.heap.shape e (local_of k) k.kept d a.object mark) q q out) (sym form)
+    (subst (λ (f : Option MarkForm). HasMadeSteps h (hash_mark_steps f h.heap.shape e (local_of k) k.kept d a.object mark) q q out) (sym form)
     (ends h q out s.heap))
 
 pub returns-then-hash-ne0 : goal.returns-then-hash-ne0
 returns-then-hash-ne0 c =
     let a = c.args in
     let h = a.heap.now in
-    let e = a.why.now in
+    let e = a.call.now in
     let k = a.pass.now.known in
     let d : NextDraw = record { number = a.number; value = a.value } in
     let q = c.find_hash-mark.new.pass in
@@ -52,14 +52,14 @@ returns-then-hash-ne0 c =
     let has : (c.in-Neutral.hash == 0) ≡ false = ne_eqb _ _ c.if-hash-ne0.true in
     let out = Done c.in-Neutral.hash in
     stepped h a.pass.now q q (find_hash_plan e (Mark a.object) a.object) _ mark out s refl
-    (subst (λ (f : Option MarkForm). HasRun h (hash_mark_steps f h.heap.shape e (local_of k) k.kept d a.object mark) q q out) (sym form)
+    (subst (λ (f : Option MarkForm). HasMadeSteps h (hash_mark_steps f h.heap.shape e (local_of k) k.kept d a.object mark) q q out) (sym form)
     (run_else h q (c.in-Neutral.hash == 0) (hash_neutral_steps e d a.object mark) (done_with c.in-Neutral.hash) q out has (ends h q out s.heap)))
 
 pub draw-requires-clause-due : goal.draw-requires-clause-due
 draw-requires-clause-due c =
     let a = c.args in
     let h = a.heap.now in
-    let e = a.why.now in
+    let e = a.call.now in
     let k = a.pass.now.known in
     let d : NextDraw = record { number = a.number; value = a.value } in
     let q = c.find_hash-mark.new.pass in
@@ -75,7 +75,7 @@ pub draw-requires-clause-room : goal.draw-requires-clause-room
 draw-requires-clause-room c =
     let a = c.args in
     let h = a.heap.now in
-    let e = a.why.now in
+    let e = a.call.now in
     let k = a.pass.now.known in
     let d : NextDraw = record { number = a.number; value = a.value } in
     let q = c.find_hash-mark.new.pass in
@@ -89,7 +89,7 @@ pub returns-else-hash-ne0 : goal.returns-else-hash-ne0
 returns-else-hash-ne0 c =
     let a = c.args in
     let h = a.heap.now in
-    let e = a.why.now in
+    let e = a.call.now in
     let k = a.pass.now.known in
     let d : NextDraw = record { number = a.number; value = a.value } in
     let q = c.find_hash-mark.new.pass in
@@ -98,14 +98,16 @@ returns-else-hash-ne0 c =
     let form : read_mark mark ≡ Some (Neutral c.in-Neutral.hash c.in-Neutral.age) = sym c.mark_of_word.ensures ∙ c.in-Some.is ∙ ap Some c.in-Neutral.is in
     let zero : (c.in-Neutral.hash == 0) ≡ true = eq-eqb _ _ c.if-hash-ne0.false in
     stepped h a.pass.now q c.draw.new.pass (find_hash_plan e (Mark a.object) a.object) _ mark c.draw.result s refl
-    (subst (λ (f : Option MarkForm). HasRun h (hash_mark_steps f h.heap.shape e (local_of k) k.kept d a.object mark) q c.draw.new.pass c.draw.result) (sym form)
-    (run_then h q (c.in-Neutral.hash == 0) (hash_neutral_steps e d a.object mark) (done_with c.in-Neutral.hash) c.draw.new.pass c.draw.result zero c.draw.ensures))
+    (subst (λ (f : Option MarkForm). HasMadeSteps h
+    (hash_mark_steps f h.heap.shape e (local_of k) k.kept d a.object mark) q c.draw.new.pass c.draw.result) (sym form)
+    (run_then h q (c.in-Neutral.hash == 0) (hash_neutral_steps e d a.object mark)
+    (done_with c.in-Neutral.hash) c.draw.new.pass c.draw.result zero c.draw.ensures))
 
 pub hash_inflate-requires-clause-due : goal.hash_inflate-requires-clause-due
 hash_inflate-requires-clause-due c =
     let a = c.args in
     let h = a.heap.now in
-    let e = a.why.now in
+    let e = a.call.now in
     let k = a.pass.now.known in
     let d : NextDraw = record { number = a.number; value = a.value } in
     let q = c.find_hash-mark.new.pass in
@@ -120,13 +122,14 @@ hash_inflate-requires-clause-due c =
     let rest = rest_due h a.pass.now e.task (find_hash_plan e (Mark a.object) a.object) _ c.requires.due refl q mark s in
     let due = subst (λ (f : Option MarkForm). IsDueOn h q e.task (hash_mark_steps f h.heap.shape e (local_of k) k.kept d a.object mark)) form rest in
     subst (λ (x : Option ℕ). IsDueOn h q e.task (hash_inflate_steps h.heap.shape e x d a.object)) (sym kept)
-    (due_else h q (c.in-Locked.thread == k.thread) (hash_owned_steps h.heap.shape e (local_of k) k.kept d a.object) (hash_inflate_steps h.heap.shape e k.kept d a.object) e.task due other)
+    (due_else h q (c.in-Locked.thread == k.thread) (hash_owned_steps h.heap.shape e (local_of k) k.kept d a.object)
+    (hash_inflate_steps h.heap.shape e k.kept d a.object) e.task due other)
 
 pub hash_inflate-requires-clause-room : goal.hash_inflate-requires-clause-room
 hash_inflate-requires-clause-room c =
     let a = c.args in
     let h = a.heap.now in
-    let e = a.why.now in
+    let e = a.call.now in
     let k = a.pass.now.known in
     let d : NextDraw = record { number = a.number; value = a.value } in
     let q = c.find_hash-mark.new.pass in
@@ -139,7 +142,7 @@ pub returns-then-thread : goal.returns-then-thread
 returns-then-thread c =
     let a = c.args in
     let h = a.heap.now in
-    let e = a.why.now in
+    let e = a.call.now in
     let k = a.pass.now.known in
     let d : NextDraw = record { number = a.number; value = a.value } in
     let q = c.find_hash-mark.new.pass in
@@ -153,16 +156,17 @@ returns-then-thread c =
     let other : (c.in-Locked.thread == k.thread) ≡ false = ap (λ n. c.in-Locked.thread == n) (sym thread) ∙ ne_eqb _ _ c.if-thread.true in
     let r = c.hash_inflate.new.pass in
     let out = c.hash_inflate.result in
-    let run = subst (λ (x : Option ℕ). HasRun h (hash_inflate_steps h.heap.shape e x d a.object) q r out) kept c.hash_inflate.ensures in
+    let run = subst (λ (x : Option ℕ). HasMadeSteps h (hash_inflate_steps h.heap.shape e x d a.object) q r out) kept c.hash_inflate.ensures in
     stepped h a.pass.now q r (find_hash_plan e (Mark a.object) a.object) _ mark out s refl
-    (subst (λ (f : Option MarkForm). HasRun h (hash_mark_steps f h.heap.shape e (local_of k) k.kept d a.object mark) q r out) (sym form)
-    (run_else h q (c.in-Locked.thread == k.thread) (hash_owned_steps h.heap.shape e (local_of k) k.kept d a.object) (hash_inflate_steps h.heap.shape e k.kept d a.object) r out other run))
+    (subst (λ (f : Option MarkForm). HasMadeSteps h (hash_mark_steps f h.heap.shape e (local_of k) k.kept d a.object mark) q r out) (sym form)
+    (run_else h q (c.in-Locked.thread == k.thread) (hash_owned_steps h.heap.shape e (local_of k) k.kept d a.object)
+    (hash_inflate_steps h.heap.shape e k.kept d a.object) r out other run))
 
 pub hash_owned-requires-clause-due : goal.hash_owned-requires-clause-due
 hash_owned-requires-clause-due c =
     let a = c.args in
     let h = a.heap.now in
-    let e = a.why.now in
+    let e = a.call.now in
     let k = a.pass.now.known in
     let d : NextDraw = record { number = a.number; value = a.value } in
     let q = c.find_hash-mark.new.pass in
@@ -185,7 +189,7 @@ pub hash_owned-requires-clause-room : goal.hash_owned-requires-clause-room
 hash_owned-requires-clause-room c =
     let a = c.args in
     let h = a.heap.now in
-    let e = a.why.now in
+    let e = a.call.now in
     let k = a.pass.now.known in
     let d : NextDraw = record { number = a.number; value = a.value } in
     let q = c.find_hash-mark.new.pass in
@@ -198,7 +202,7 @@ pub returns-else-thread : goal.returns-else-thread
 returns-else-thread c =
     let a = c.args in
     let h = a.heap.now in
-    let e = a.why.now in
+    let e = a.call.now in
     let k = a.pass.now.known in
     let d : NextDraw = record { number = a.number; value = a.value } in
     let q = c.find_hash-mark.new.pass in
@@ -212,16 +216,18 @@ returns-else-thread c =
     let own : (c.in-Locked.thread == k.thread) ≡ true = ap (λ n. c.in-Locked.thread == n) (sym thread) ∙ eq-eqb _ _ c.if-thread.false in
     let r = c.hash_owned.new.pass in
     let out = c.hash_owned.result in
-    let run = subst (λ (x : Local × Option ℕ). HasRun h (hash_owned_steps h.heap.shape e x.0 x.1 d a.object) q r out) (λ i. (local i, kept i)) c.hash_owned.ensures in
+    let run = subst (λ (x : Local × Option ℕ). HasMadeSteps h (hash_owned_steps h.heap.shape e x.0 x.1 d a.object) q r out)
+    (λ i. (local i, kept i)) c.hash_owned.ensures in
     stepped h a.pass.now q r (find_hash_plan e (Mark a.object) a.object) _ mark out s refl
-    (subst (λ (f : Option MarkForm). HasRun h (hash_mark_steps f h.heap.shape e (local_of k) k.kept d a.object mark) q r out) (sym form)
-    (run_then h q (c.in-Locked.thread == k.thread) (hash_owned_steps h.heap.shape e (local_of k) k.kept d a.object) (hash_inflate_steps h.heap.shape e k.kept d a.object) r out own run))
+    (subst (λ (f : Option MarkForm). HasMadeSteps h (hash_mark_steps f h.heap.shape e (local_of k) k.kept d a.object mark) q r out) (sym form)
+    (run_then h q (c.in-Locked.thread == k.thread) (hash_owned_steps h.heap.shape e (local_of k) k.kept d a.object)
+    (hash_inflate_steps h.heap.shape e k.kept d a.object) r out own run))
 
 pub hash_monitor-requires-clause-due : goal.hash_monitor-requires-clause-due
 hash_monitor-requires-clause-due c =
     let a = c.args in
     let h = a.heap.now in
-    let e = a.why.now in
+    let e = a.call.now in
     let k = a.pass.now.known in
     let d : NextDraw = record { number = a.number; value = a.value } in
     let q = c.find_hash-mark.new.pass in
@@ -235,7 +241,7 @@ pub hash_monitor-requires-clause-room : goal.hash_monitor-requires-clause-room
 hash_monitor-requires-clause-room c =
     let a = c.args in
     let h = a.heap.now in
-    let e = a.why.now in
+    let e = a.call.now in
     let k = a.pass.now.known in
     let d : NextDraw = record { number = a.number; value = a.value } in
     let q = c.find_hash-mark.new.pass in
@@ -248,7 +254,7 @@ pub returns-in-Inflated : goal.returns-in-Inflated
 returns-in-Inflated c =
     let a = c.args in
     let h = a.heap.now in
-    let e = a.why.now in
+    let e = a.call.now in
     let k = a.pass.now.known in
     let d : NextDraw = record { number = a.number; value = a.value } in
     let q = c.find_hash-mark.new.pass in
@@ -256,14 +262,15 @@ returns-in-Inflated c =
     let s = c.find_hash-mark.ensures in
     let form : read_mark mark ≡ Some (Inflated c.in-Inflated.monitor) = sym c.mark_of_word.ensures ∙ c.in-Some.is ∙ ap Some c.in-Inflated.is in
     stepped h a.pass.now q c.hash_monitor.new.pass (find_hash_plan e (Mark a.object) a.object) _ mark c.hash_monitor.result s refl
-    (subst (λ (f : Option MarkForm). HasRun h (hash_mark_steps f h.heap.shape e (local_of k) k.kept d a.object mark) q c.hash_monitor.new.pass c.hash_monitor.result) (sym form)
+    (subst (λ (f : Option MarkForm). HasMadeSteps h
+    (hash_mark_steps f h.heap.shape e (local_of k) k.kept d a.object mark) q c.hash_monitor.new.pass c.hash_monitor.result) (sym form)
     c.hash_monitor.ensures)
 
 pub unreachable-requires : goal.unreachable-requires
 unreachable-requires c =
     let a = c.args in
     let h = a.heap.now in
-    let e = a.why.now in
+    let e = a.call.now in
     let k = a.pass.now.known in
     let d : NextDraw = record { number = a.number; value = a.value } in
     let q = c.find_hash-mark.new.pass in
@@ -278,7 +285,7 @@ pub unreachable-requires-in-None : goal.unreachable-requires-in-None
 unreachable-requires-in-None c =
     let a = c.args in
     let h = a.heap.now in
-    let e = a.why.now in
+    let e = a.call.now in
     let k = a.pass.now.known in
     let d : NextDraw = record { number = a.number; value = a.value } in
     let q = c.find_hash-mark.new.pass in

@@ -9,6 +9,7 @@ abbrev pub invariant-loop-log : goal.invariant-loop-log
 invariant-loop-log l =
     record {
       six : length l.counts ≡ 6;
-      counted : (path : Path) → count_at l.counts path + enters_in_all l.machine l.c path (drop l.log-index (take most_threads l.run.logs)) ≡ enters_in_all l.machine l.c path (take most_threads l.run.logs);
+      counted : (path : Path) → count_at l.counts path + enters_in_all l.machine l.c path (drop l.log-index (take most_threads l.run.logs))
+          ≡ enters_in_all l.machine l.c path (take most_threads l.run.logs);
       few : (path : Path) → count_at l.counts path ≤ 2 ^ 64 * l.log-index;
     }

@@ -12,4 +12,5 @@ returns-in-Some c =
     let h = c.in-Some.ensures.lookup in
     let read : c.in-Some.log.now ≡ log_of c.items.result.now t = get_or_read_under _ _ _ _ [] h.1 h.3.0 refl in
     let log : c.items-in-Some.result.now ≡ log_of run.logs t = c.items-in-Some.ensures ∙ read ∙ ap (λ ls. log_of ls t) c.items.ensures in
-    rw c.set_place.ensures (prints_left-kept run places _ (skipped_kept run.logs places t c.next_printing-place.result (rw (log, c.place.ensures) at c.next_printing-place.ensures)))
+    rw c.set_place.ensures (prints_left-kept run places _
+    (skipped_kept run.logs places t c.next_printing-place.result (rw (log, c.place.ensures) at c.next_printing-place.ensures)))

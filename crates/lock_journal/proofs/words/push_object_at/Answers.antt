@@ -9,5 +9,6 @@ pub returns-then-place-declared-clause-text : goal.returns-then-place-declared-c
 returns-then-place-declared-clause-text c =
     let total = c.declared_total-declared.ensures in
     c.push_made.ensures.text
-    ∙ ap (λ (n : ℕ). c.args.out.now ++ (thread_text c.args.program.now ((c.args.place - n) / most_made) ++ codes "." ++ decimal ((c.args.place - n) % most_made))) total
+    ∙ ap (λ (n : ℕ). c.args.out.now
+    ++ (thread_text c.args.program.now ((c.args.place - n) / most_made) ++ codes "." ++ decimal ((c.args.place - n) % most_made))) total
     ∙ ap (λ (text : List ℕ). c.args.out.now ++ text) (sym (made_is c.args.program.now c.args.place (omega (arith, total, c.if-place-declared.true))))

@@ -1,10 +1,10 @@
 use Rattle.std.proofs.Common.{◌≡◌, ◌+◌, ◌==◌, Bool, false, List, length, Ok, refl, sym, ap, ◌∙◌, subst, ne_eqb, arith}
-use Rattle.core_world.specs.declared.task.Op.TheVariants as op
-use Rattle.core_world.specs.declared.task.Task.TheVariants.{Dump}
-use Rattle.core_world.specs.Threads.Known.{DumpShot, local_of}
+use Rattle.core_world.specs.declared.heap_call.Operation.TheVariants as op
+use Rattle.core_world.specs.declared.heap_call.HeapCall.TheVariants.{Dump}
+use Rattle.core_world.specs.Threads.ThreadView.{DumpShot, local_of}
 use Rattle.core_world.specs.Trees.Calls.{steps_of}
 use Rattle.core_world.specs.Trees.Operations.{dump_steps}
-use Rattle.core_world.specs.Trees.Plans.{Purpose, purpose}
+use Rattle.core_world.specs.Trees.Plans.{CallContext, call_context}
 use Rattle.core_calls.proofs.OtherCallsSay.{dump_says}
 use Rattle.core_calls.proofs.Runs.{tells}
 use Rattle.heap_table.specs.Parts.{IsDueOn}
@@ -12,7 +12,7 @@ use Rattle.heap_table.specs.Resting.{start_now}
 use Rattle.heap_table.proofs.Resting.{whole_due}
 use Rattle.lock_runtime.specs.LookParts.{HasDumped}
 use Rattle.lock_runtime.specs.inner.LookParts.{numbered_dump}
-use Rattle.lock_runtime.proofs.Behind.{going_due, going_run, going_first}
+use Rattle.lock_runtime.proofs.After.{going_due, going_run, going_first}
 use Rattle.lock_runtime.proofs.Dumped.{dump_has_shots, bare, run_of, dumped_of, dumped_rests, first_dump}
 use Rattle.lock_runtime.proofs.FewShots.{few_shots}
 use Rattle.lock_runtime.proofs.StandsCalls.{dump_leaves}
@@ -38,15 +38,17 @@ dump_asking-requires-clause-due c =
     let p = a.pass.now in
     let s = h.heap.shape in
     let l = local_of p.known in
-    let e = purpose Dump op.Dump 0 in
+    let e = call_context Dump op.Dump 0 in
     let full = length p.known.shots == 4 in
     let no : full ≡ false = ap (λ (x : List DumpShot). length x == 4) (sym c.shots-taken.ensures) ∙ ne_eqb _ _ c.if-taken-eq4.false in
     let due = whole_due h p Dump c.requires.call (dump_steps s (start_now h p)) refl in
     let going = going_due h p full (record {}) (numbered_dump s p.known.requesting e l (length p.known.shots + 1)) no Dump due in
-    let why = c.unfinished-why.result in
-    subst (λ (x : List DumpShot). IsDueOn h p why.task (numbered_dump s c.requesting-requesting.result why l (length x + 1))) (sym c.shots-taken.ensures)
-    (subst (λ (b : Bool). IsDueOn h p why.task (numbered_dump s b why l (length p.known.shots + 1))) (sym c.requesting-requesting.ensures)
-    (subst (λ (x : Purpose). IsDueOn h p x.task (numbered_dump s p.known.requesting x l (length p.known.shots + 1))) (sym c.unfinished-why.ensures) going))
+    let context = c.unfinished-context.result in
+    subst (λ (x : List DumpShot). IsDueOn h p context.task
+    (numbered_dump s c.requesting-requesting.result context l (length x + 1))) (sym c.shots-taken.ensures)
+    (subst (λ (b : Bool). IsDueOn h p context.task (numbered_dump s b context l (length p.known.shots + 1))) (sym c.requesting-requesting.ensures)
+    (subst (λ (x : CallContext). IsDueOn h p x.task (numbered_dump s p.known.requesting x l (length p.known.shots + 1)))
+    (sym c.unfinished-context.ensures) going))
 
 pub returns-clause-run : goal.returns-clause-run
 returns-clause-run c =
@@ -56,15 +58,17 @@ returns-clause-run c =
     let q = c.dump_asking.new.pass in
     let s = h.heap.shape in
     let l = local_of p.known in
-    let e = purpose Dump op.Dump 0 in
+    let e = call_context Dump op.Dump 0 in
     let out = c.dump_asking.result in
     let full = length p.known.shots == 4 in
     let no : full ≡ false = ap (λ (x : List DumpShot). length x == 4) (sym c.shots-taken.ensures) ∙ ne_eqb _ _ c.if-taken-eq4.false in
-    let why = c.unfinished-why.result in
+    let context = c.unfinished-context.result in
     let d = numbered_dump s p.known.requesting e l (length p.known.shots + 1) in
-    let run : HasDumped h d p q out = subst (λ (x : Purpose). HasDumped h (numbered_dump s p.known.requesting x l (length p.known.shots + 1)) p q out) c.unfinished-why.ensures
-    (subst (λ (b : Bool). HasDumped h (numbered_dump s b why l (length p.known.shots + 1)) p q out) c.requesting-requesting.ensures
-    (subst (λ (x : List DumpShot). HasDumped h (numbered_dump s c.requesting-requesting.result why l (length x + 1)) p q out) c.shots-taken.ensures c.dump_asking.ensures)) in
+    let run : HasDumped h d p q out = subst (λ (x : CallContext). HasDumped h
+    (numbered_dump s p.known.requesting x l (length p.known.shots + 1)) p q out) c.unfinished-context.ensures
+    (subst (λ (b : Bool). HasDumped h (numbered_dump s b context l (length p.known.shots + 1)) p q out) c.requesting-requesting.ensures
+    (subst (λ (x : List DumpShot). HasDumped h (numbered_dump s c.requesting-requesting.result context l (length x + 1)) p q out)
+    c.shots-taken.ensures c.dump_asking.ensures)) in
     dumped_of h (dump_steps s (start_now h p)) p q (Ok out) (going_run h (bare p) full (record {}) d no (bare q) out (run_of h d p q out run))
 
 pub returns-clause-rests : goal.returns-clause-rests
@@ -75,7 +79,7 @@ returns-clause-rests c =
     let p = a.pass.now in
     let s = h.heap.shape in
     let l = local_of p.known in
-    let e = purpose Dump op.Dump 0 in
+    let e = call_context Dump op.Dump 0 in
     let full = length p.known.shots == 4 in
     let d = numbered_dump s p.known.requesting e l (length p.known.shots + 1) in
     dumped_rests h p c.dump_asking.new.pass Dump c.requires.call (dump_steps s (start_now h p)) (Ok c.dump_asking.result) refl

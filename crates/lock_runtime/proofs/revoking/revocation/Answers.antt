@@ -1,17 +1,17 @@
 use Rattle.std.proofs.Common.{◌≡◌, Bool, sym, ap, subst}
-use Rattle.core_world.specs.declared.answer.Turn.{Turn}
-use Rattle.core_world.specs.declared.answer.Turn.TheVariants.{Done, Pending}
-use Rattle.core_world.specs.Threads.Known.{Local}
+use Rattle.core_world.specs.declared.answer.Progress.{Progress}
+use Rattle.core_world.specs.declared.answer.Progress.TheVariants.{Done, Pending}
+use Rattle.core_world.specs.Threads.ThreadView.{Local}
 use Rattle.core_world.specs.Trees.Operations.{and_then}
 use Rattle.core_world.specs.Trees.SafepointSteps.{safepoint_steps}
-use Rattle.core_world.specs.Trees.Todo.{Todo}
+use Rattle.core_world.specs.Trees.StepTree.{StepTree}
 use Rattle.core_world.proofs.CallRests.{part_due}
-use Rattle.heap_table.specs.Parts.{IsDueOn, HasRun}
+use Rattle.heap_table.specs.Parts.{IsDueOn, HasMadeSteps}
 use Rattle.heap_table.proofs.Aside.{aside}
 use Rattle.heap_table.proofs.Parts.{in_turn, ends}
 use Rattle.lock_runtime.specs.inner.Parts.{reached_revocation}
 use Rattle.lock_runtime.proofs.Asides.{safepoint_aside}
-use Rattle.lock_runtime.proofs.Behind.{next_part}
+use Rattle.lock_runtime.proofs.After.{next_part}
 use Rattle.lock_runtime.proofs.Revoked.{first_safepoint}
 use Rattle.lock_runtime.proofs.revoking.revocation.Goals as goal
 
@@ -19,22 +19,22 @@ pub safepoint-requires-clause-due : goal.safepoint-requires-clause-due
 safepoint-requires-clause-due c =
     let a = c.args in
     let h = a.heap.now in
-    let e = a.why.now in
+    let e = a.context.now in
     let t = a.pass.now.known.thread in
-    let next : Turn (Unit {0}) → Todo (Turn Bool) = λ turn. and_then turn (λ _. reached_revocation h.heap.shape t e a.revocation.now) in
+    let next : Progress (Unit {0}) → StepTree (Progress Bool) = λ progress. and_then progress (λ _. reached_revocation h.heap.shape t e a.revocation.now) in
     part_due h.heap.shape h.heap.start h.heap.biasing a.pass.now.known e.task (safepoint_steps e t a.requesting) next c.requires.due
 
 pub revoke_reached-requires-clause-due : goal.revoke_reached-requires-clause-due
 revoke_reached-requires-clause-due c =
     let a = c.args in
     let h = a.heap.now in
-    let e = a.why.now in
+    let e = a.context.now in
     let p = a.pass.now in
     let t = p.known.thread in
     let q = c.safepoint.new.pass in
     let d = safepoint_steps e t a.requesting in
-    let next : Turn (Unit {0}) → Todo (Turn Bool) = λ turn. and_then turn (λ _. reached_revocation h.heap.shape t e a.revocation.now) in
-    let ran = subst (λ (x : Turn (Unit {0})). HasRun h d p q x) c.in-Done.is c.safepoint.ensures in
+    let next : Progress (Unit {0}) → StepTree (Progress Bool) = λ progress. and_then progress (λ _. reached_revocation h.heap.shape t e a.revocation.now) in
+    let ran = subst (λ (x : Progress (Unit {0})). HasMadeSteps h d p q x) c.in-Done.is c.safepoint.ensures in
     let thread : q.known.thread ≡ t = ap (λ (x : Local). x.thread) (aside h d p q (Done tt) (safepoint_aside e t a.requesting) ran).local in
     subst (λ u. IsDueOn h q e.task (reached_revocation h.heap.shape u e a.revocation.now)) (sym thread)
     (next_part h p q e.task d next (Done tt) c.requires.due (first_safepoint e t a.requesting) ran)
@@ -43,28 +43,28 @@ pub returns-in-Done : goal.returns-in-Done
 returns-in-Done c =
     let a = c.args in
     let h = a.heap.now in
-    let e = a.why.now in
+    let e = a.context.now in
     let p = a.pass.now in
     let t = p.known.thread in
     let q = c.safepoint.new.pass in
     let r = c.revoke_reached.new.pass in
     let d = safepoint_steps e t a.requesting in
-    let next : Turn (Unit {0}) → Todo (Turn Bool) = λ turn. and_then turn (λ _. reached_revocation h.heap.shape t e a.revocation.now) in
-    let ran = subst (λ (x : Turn (Unit {0})). HasRun h d p q x) c.in-Done.is c.safepoint.ensures in
+    let next : Progress (Unit {0}) → StepTree (Progress Bool) = λ progress. and_then progress (λ _. reached_revocation h.heap.shape t e a.revocation.now) in
+    let ran = subst (λ (x : Progress (Unit {0})). HasMadeSteps h d p q x) c.in-Done.is c.safepoint.ensures in
     let thread : q.known.thread ≡ t = ap (λ (x : Local). x.thread) (aside h d p q (Done tt) (safepoint_aside e t a.requesting) ran).local in
-    let rest = subst (λ u. HasRun h (reached_revocation h.heap.shape u e a.revocation.now) q r c.revoke_reached.result) thread c.revoke_reached.ensures in
+    let rest = subst (λ u. HasMadeSteps h (reached_revocation h.heap.shape u e a.revocation.now) q r c.revoke_reached.result) thread c.revoke_reached.ensures in
     in_turn h p q r d next (Done tt) c.revoke_reached.result ran rest
 
 pub returns-in-Pending : goal.returns-in-Pending
 returns-in-Pending c =
     let a = c.args in
     let h = a.heap.now in
-    let e = a.why.now in
+    let e = a.context.now in
     let p = a.pass.now in
     let t = p.known.thread in
     let q = c.safepoint.new.pass in
     let d = safepoint_steps e t a.requesting in
-    let out : Turn Bool = Pending c.in-Pending.cause in
-    let next : Turn (Unit {0}) → Todo (Turn Bool) = λ turn. and_then turn (λ _. reached_revocation h.heap.shape t e a.revocation.now) in
-    let ran = subst (λ (x : Turn (Unit {0})). HasRun h d p q x) c.in-Pending.is c.safepoint.ensures in
+    let out : Progress Bool = Pending c.in-Pending.cause in
+    let next : Progress (Unit {0}) → StepTree (Progress Bool) = λ progress. and_then progress (λ _. reached_revocation h.heap.shape t e a.revocation.now) in
+    let ran = subst (λ (x : Progress (Unit {0})). HasMadeSteps h d p q x) c.in-Pending.is c.safepoint.ensures in
     in_turn h p q q d next (Pending c.in-Pending.cause) out ran (ends h q out ran.heap)

@@ -1,15 +1,15 @@
 use Rattle.std.proofs.Common.{refl, subst}
 use Rattle.plain_monitor.specs.declared.entry.Entry.TheVariants as entry
-use Rattle.core_world.specs.declared.task.Task.TheVariants.{Print}
-use Rattle.core_world.specs.Threads.Known.{local_of}
+use Rattle.core_world.specs.declared.heap_call.HeapCall.TheVariants.{Print}
+use Rattle.core_world.specs.Threads.ThreadView.{local_of}
 use Rattle.core_world.specs.Threads.References.{has_value}
 use Rattle.core_world.specs.Trees.Calls.{steps_of, may_act}
-use Rattle.core_world.specs.Trees.Operations.{lone_purpose}
-use Rattle.core_world.specs.Trees.Plans.{Purpose}
+use Rattle.core_world.specs.Trees.Operations.{lone_context}
+use Rattle.core_world.specs.Trees.Plans.{CallContext}
 use Rattle.core_world.specs.Trees.WaitSteps.{publish_steps}
 use Rattle.core_calls.proofs.OtherCallsSay.{print_says}
 use Rattle.core_calls.proofs.Runs.{tells}
-use Rattle.heap_table.specs.Parts.{HasRun}
+use Rattle.heap_table.specs.Parts.{HasMadeSteps}
 use Rattle.heap_table.specs.Resting.{start_now}
 use Rattle.heap_table.proofs.Resting.{due_as, rests_as}
 use Rattle.lock_runtime.proofs.Begins.{second_of}
@@ -22,8 +22,9 @@ publish-requires-clause-due c =
     let a = c.args in
     let h = a.heap.now in
     let p = a.pass.now in
-    let e = lone_purpose (Print a.value) in
-    due_as h p c.requires.call.rests _ e (λ (x : Purpose). publish_steps (entry.Print a.value) x (local_of p.known)) c.alone-why.ensures c.requires.call.may refl
+    let e = lone_context (Print a.value) in
+    due_as h p c.requires.call.rests _ e
+    (λ (x : CallContext). publish_steps (entry.Print a.value) x (local_of p.known)) c.alone-context.ensures c.requires.call.may refl
 
 pub returns-clause-rests : goal.returns-clause-rests
 unfolding steps_of
@@ -31,15 +32,17 @@ returns-clause-rests c =
     let a = c.args in
     let h = a.heap.now in
     let p = a.pass.now in
-    let e = lone_purpose (Print a.value) in
-    rests_as h p c.requires.call.rests _ e (λ (x : Purpose). publish_steps (entry.Print a.value) x (local_of p.known)) c.alone-why.ensures c.requires.call.may refl refl _ _ c.publish.ensures
+    let e = lone_context (Print a.value) in
+    rests_as h p c.requires.call.rests _ e (λ (x : CallContext). publish_steps (entry.Print a.value) x (local_of p.known))
+    c.alone-context.ensures c.requires.call.may refl refl _ _ c.publish.ensures
 
 pub returns-clause-says : goal.returns-clause-says
 returns-clause-says c =
     let a = c.args in
     let h = a.heap.now in
     let p = a.pass.now in
-    let run = subst (λ (x : Purpose). HasRun h (publish_steps (entry.Print a.value) x (local_of p.known)) p c.publish.new.pass c.publish.result) c.alone-why.ensures c.publish.ensures in
+    let run = subst (λ (x : CallContext). HasMadeSteps h
+    (publish_steps (entry.Print a.value) x (local_of p.known)) p c.publish.new.pass c.publish.result) c.alone-context.ensures c.publish.ensures in
     tells (print_says (start_now h p) a.value) run.ran
 
 pub returns-clause-stands : goal.returns-clause-stands
@@ -47,6 +50,7 @@ returns-clause-stands c =
     let a = c.args in
     let h = a.heap.now in
     let p = a.pass.now in
-    let run = subst (λ (x : Purpose). HasRun h (publish_steps (entry.Print a.value) x (local_of p.known)) p c.publish.new.pass c.publish.result) c.alone-why.ensures c.publish.ensures in
+    let run = subst (λ (x : CallContext). HasMadeSteps h
+    (publish_steps (entry.Print a.value) x (local_of p.known)) p c.publish.new.pass c.publish.result) c.alone-context.ensures c.publish.ensures in
     let may = second_of (has_value h.heap.shape p.known a.value) (may_act p.known) c.requires.call.may in
     print_leaves h p c.publish.new.pass run.heap c.requires.call.rests may a.value run.ran

@@ -2,28 +2,28 @@ use Rattle.std.proofs.Common.{◌≡◌, ◌==◌, ◌&&◌, nat_lt, false, Resu
 use Rattle.plain_monitor.specs.declared.entry.Entry.TheVariants as entry
 use Rattle.plain_monitor.proofs.ValuesRead.{word_of-only}
 use Rattle.core_world.specs.declared.answer.Unguarded.{Unguarded}
-use Rattle.core_world.specs.declared.name.Name.TheVariants.{Slot}
+use Rattle.core_world.specs.declared.word_id.WordId.TheVariants.{Slot}
 use Rattle.core_world.specs.declared.plan.StepPlan.{StepPlan}
-use Rattle.core_world.specs.declared.stage.Stage.TheVariants.{Calm}
-use Rattle.core_world.specs.declared.task.Task.TheVariants.{Put}
+use Rattle.core_world.specs.declared.stage.Stage.TheVariants.{Settled}
+use Rattle.core_world.specs.declared.heap_call.HeapCall.TheVariants.{Put}
 use Rattle.core_world.specs.Locks.{hold_count}
 use Rattle.core_world.specs.Threads.References.{has_reference, has_value}
 use Rattle.core_world.specs.Trees.Calls.{steps_of, may_act}
-use Rattle.core_world.specs.Trees.Operations.{lone_purpose, put_plan, put_steps, answer}
-use Rattle.core_world.specs.Trees.Todo.{Todo, done, ◌>>=◌, ask}
+use Rattle.core_world.specs.Trees.Operations.{lone_context, put_plan, put_steps, answer}
+use Rattle.core_world.specs.Trees.StepTree.{StepTree, done, ◌>>=◌, ask}
 use Rattle.core_world.specs.Words.Shape.{slots_of}
 use Rattle.core_calls.proofs.OtherCallsSay.{put_says}
 use Rattle.core_calls.proofs.Runs.{tells}
-use Rattle.heap_table.specs.Parts.{HasRun}
+use Rattle.heap_table.specs.Parts.{HasMadeSteps}
 use Rattle.heap_table.specs.Resting.{start_now}
 use Rattle.heap_table.specs.StepPlans.{log_store_plan}
 use Rattle.heap_table.specs.Stepping.{CanStep, HasStepped}
 use Rattle.heap_table.proofs.Arms.{due_else, run_else}
 use Rattle.heap_table.proofs.Parts.{can, last_step}
-use Rattle.heap_table.proofs.Resting.{whole_due, behind}
+use Rattle.heap_table.proofs.Resting.{whole_due, rests_after}
 use Rattle.heap_table.proofs.Ruled.{few_objects}
 use Rattle.lock_runtime.proofs.Begins.{room_one, spellable, first_of, second_of}
-use Rattle.lock_runtime.proofs.Behind.{arm_first}
+use Rattle.lock_runtime.proofs.After.{arm_first}
 use Rattle.lock_runtime.proofs.StandsCalls.{put_leaves}
 use Rattle.lock_runtime.proofs.Refused.{goes_by_log}
 use Rattle.lock_runtime.proofs.values.put_held.Goals as goal
@@ -46,16 +46,16 @@ log_store-requires c =
     let h = a.heap.now in
     let p = a.pass.now in
     let t = Put a.object a.slot a.value in
-    let e = lone_purpose t in
+    let e = lone_context t in
     let plan = put_plan e a.object a.slot a.value in
     let none = hold_count a.object p.known.holds == 0 in
     let no : none ≡ false = goes_by_log h p c.requires.may.call.rests a.object c.requires.held in
-    let stores : Todo (Result (Unit {0}) Unguarded) = ask plan >>= (λ _. answer (tt {0})) in
+    let stores : StepTree (Result (Unit {0}) Unguarded) = ask plan >>= (λ _. answer (tt {0})) in
     let due = whole_due h p t c.requires.may.call (put_steps (start_now h p) a.object a.slot a.value) refl in
     let on = due_else h p none (done (Err (record {}))) stores t due no in
     let word = word_of-only a.value c.value_word.result c.value_word.ensures in
-    let same : log_store_plan c.alone-why.result Calm (Slot a.object a.slot) c.value_word.result (entry.Put a.object a.slot a.value) ≡ plan =
-    λ i. log_store_plan (c.alone-why.ensures i) Calm (Slot a.object a.slot) (word i) (entry.Put a.object a.slot a.value) in
+    let same : log_store_plan c.alone-context.result Settled (Slot a.object a.slot) c.value_word.result (entry.Put a.object a.slot a.value) ≡ plan =
+    λ i. log_store_plan (c.alone-context.ensures i) Settled (Slot a.object a.slot) (word i) (entry.Put a.object a.slot a.value) in
     subst (CanStep h p) (sym same) (can h p t plan _ on refl c.requires.may.call.rests.is_of (room_one h p t c.requires.may) refl)
 
 pub returns-clause-run : goal.returns-clause-run
@@ -65,13 +65,13 @@ returns-clause-run c =
     let p = a.pass.now in
     let q = c.log_store.new.pass in
     let t = Put a.object a.slot a.value in
-    let plan = put_plan (lone_purpose t) a.object a.slot a.value in
+    let plan = put_plan (lone_context t) a.object a.slot a.value in
     let none = hold_count a.object p.known.holds == 0 in
     let no : none ≡ false = goes_by_log h p c.requires.may.call.rests a.object c.requires.held in
-    let stores : Todo (Result (Unit {0}) Unguarded) = ask plan >>= (λ _. answer (tt {0})) in
+    let stores : StepTree (Result (Unit {0}) Unguarded) = ask plan >>= (λ _. answer (tt {0})) in
     let word = word_of-only a.value c.value_word.result c.value_word.ensures in
-    let same : log_store_plan c.alone-why.result Calm (Slot a.object a.slot) c.value_word.result (entry.Put a.object a.slot a.value) ≡ plan =
-    λ i. log_store_plan (c.alone-why.ensures i) Calm (Slot a.object a.slot) (word i) (entry.Put a.object a.slot a.value) in
+    let same : log_store_plan c.alone-context.result Settled (Slot a.object a.slot) c.value_word.result (entry.Put a.object a.slot a.value) ≡ plan =
+    λ i. log_store_plan (c.alone-context.ensures i) Settled (Slot a.object a.slot) (word i) (entry.Put a.object a.slot a.value) in
     let found = c.log_store.result in
     let made = subst (λ (x : StepPlan). HasStepped h p q x found) same c.log_store.ensures in
     run_else h p none (done (Err (record {}))) stores q (Ok (tt {0})) no (last_step h p q plan _ found (Ok (tt {0})) made refl refl)
@@ -83,16 +83,16 @@ returns-clause-rests c =
     let h = a.heap.now in
     let p = a.pass.now in
     let t = Put a.object a.slot a.value in
-    let plan = put_plan (lone_purpose t) a.object a.slot a.value in
-    let stores : Todo (Result (Unit {0}) Unguarded) = ask plan >>= (λ _. answer (tt {0})) in
-    behind h p t c.requires.may.call (put_steps (start_now h p) a.object a.slot a.value) refl
+    let plan = put_plan (lone_context t) a.object a.slot a.value in
+    let stores : StepTree (Result (Unit {0}) Unguarded) = ask plan >>= (λ _. answer (tt {0})) in
+    rests_after h p t c.requires.may.call (put_steps (start_now h p) a.object a.slot a.value) refl
     (arm_first t (hold_count a.object p.known.holds == 0) (done (Err (record {}))) stores tt refl) c.log_store.new.pass (Ok (tt {0}))
     (returns-clause-run c)
 
 pub returns-clause-says : goal.returns-clause-says
 returns-clause-says c =
     let a = c.args in
-    tells (put_says (start_now a.heap.now a.pass.now) a.object a.slot a.value) (HasRun.ran (returns-clause-run c))
+    tells (put_says (start_now a.heap.now a.pass.now) a.object a.slot a.value) (HasMadeSteps.ran (returns-clause-run c))
 
 pub returns-clause-stands : goal.returns-clause-stands
 returns-clause-stands c =

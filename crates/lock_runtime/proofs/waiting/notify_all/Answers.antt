@@ -1,17 +1,17 @@
 use Rattle.std.proofs.Common.{◌≡◌, ◌==◌, true, false, Ok, refl, sym, ap, ◌∙◌, subst, eq-eqb, ne_eqb}
-use Rattle.core_world.specs.declared.task.Op.TheVariants as op
-use Rattle.core_world.specs.declared.task.Task.TheVariants.{NotifyAll}
+use Rattle.core_world.specs.declared.heap_call.Operation.TheVariants as op
+use Rattle.core_world.specs.declared.heap_call.HeapCall.TheVariants.{NotifyAll}
 use Rattle.core_world.specs.Locks.{hold_count}
 use Rattle.core_world.specs.Trees.Calls.{steps_of}
 use Rattle.core_world.specs.Trees.Operations.{notify_all_going, notify_all_steps}
-use Rattle.core_world.specs.Trees.Plans.{Purpose, purpose}
+use Rattle.core_world.specs.Trees.Plans.{CallContext, call_context}
 use Rattle.core_calls.proofs.Runs.{tells}
-use Rattle.core_calls.proofs.WaitCallsSay.{notify_all_says}
+use Rattle.core_calls.proofs.wait.WaitCallsSay.{notify_all_says}
 use Rattle.core_calls.specs.Woken.{WakesEach}
-use Rattle.heap_table.specs.Parts.{IsDueOn, HasRun}
+use Rattle.heap_table.specs.Parts.{IsDueOn, HasMadeSteps}
 use Rattle.heap_table.specs.Resting.{start_now}
-use Rattle.heap_table.proofs.Resting.{whole_due, behind}
-use Rattle.lock_runtime.proofs.Behind.{going_due, going_run, going_first}
+use Rattle.heap_table.proofs.Resting.{whole_due, rests_after}
+use Rattle.lock_runtime.proofs.After.{going_due, going_run, going_first}
 use Rattle.lock_runtime.proofs.Waits.{first_to_notify_all, refused_run}
 use Rattle.lock_runtime.proofs.StandsCalls.{notify_all_leaves}
 use Rattle.lock_runtime.proofs.LockedPaths.{notify_all_paths}
@@ -27,10 +27,11 @@ returns-then-held-eq0-clause-wakes c =
     let p = a.pass.now in
     let s = h.heap.shape in
     let k = start_now h p in
-    let e = purpose (NotifyAll a.object a.now) op.NotifyAll a.object in
+    let e = call_context (NotifyAll a.object a.now) op.NotifyAll a.object in
     let none = hold_count a.object p.known.holds == 0 in
     let without : none ≡ true = eq-eqb _ _ (sym c.held.ensures.held ∙ c.if-held-eq0.true) in
-    tells (notify_all_paths s k a.object a.now) (refused_run h p none (record {}) (notify_all_going s e k a.object a.now) without c.requires.call.rests.is_of).ran
+    tells (notify_all_paths s k a.object a.now)
+    (refused_run h p none (record {}) (notify_all_going s e k a.object a.now) without c.requires.call.rests.is_of).ran
 
 pub notify_all_held-requires-clause-due : goal.notify_all_held-requires-clause-due
 unfolding steps_of
@@ -44,8 +45,8 @@ notify_all_held-requires-clause-due c =
     let none = hold_count a.object p.known.holds == 0 in
     let no : none ≡ false = ap (λ n. n == 0) (sym c.held.ensures.held) ∙ ne_eqb _ _ c.if-held-eq0.false in
     let due = whole_due h p t c.requires.call (notify_all_steps s k a.object a.now) refl in
-    subst (λ (x : Purpose). IsDueOn h p x.task (notify_all_going s x k a.object a.now)) (sym c.unfinished-why.ensures)
-    (going_due h p none (record {}) (notify_all_going s (purpose t op.NotifyAll a.object) k a.object a.now) no t due)
+    subst (λ (x : CallContext). IsDueOn h p x.task (notify_all_going s x k a.object a.now)) (sym c.unfinished-context.ensures)
+    (going_due h p none (record {}) (notify_all_going s (call_context t op.NotifyAll a.object) k a.object a.now) no t due)
 
 pub returns-clause-run : goal.returns-clause-run
 returns-clause-run c =
@@ -55,10 +56,11 @@ returns-clause-run c =
     let q = c.notify_all_held.new.pass in
     let s = h.heap.shape in
     let k = start_now h p in
-    let e = purpose (NotifyAll a.object a.now) op.NotifyAll a.object in
+    let e = call_context (NotifyAll a.object a.now) op.NotifyAll a.object in
     let none = hold_count a.object p.known.holds == 0 in
     let no : none ≡ false = ap (λ n. n == 0) (sym c.held.ensures.held) ∙ ne_eqb _ _ c.if-held-eq0.false in
-    let run = subst (λ (x : Purpose). HasRun h (notify_all_going s x k a.object a.now) p q c.notify_all_held.result) c.unfinished-why.ensures c.notify_all_held.ensures in
+    let run = subst (λ (x : CallContext). HasMadeSteps h (notify_all_going s x k a.object a.now) p q c.notify_all_held.result)
+    c.unfinished-context.ensures c.notify_all_held.ensures in
     going_run h p none (record {}) (notify_all_going s e k a.object a.now) no q c.notify_all_held.result run
 
 pub returns-clause-rests : goal.returns-clause-rests
@@ -70,28 +72,31 @@ returns-clause-rests c =
     let s = h.heap.shape in
     let k = start_now h p in
     let t = NotifyAll a.object a.now in
-    let e = purpose t op.NotifyAll a.object in
+    let e = call_context t op.NotifyAll a.object in
     let none = hold_count a.object p.known.holds == 0 in
-    behind h p t c.requires.call (notify_all_steps s k a.object a.now) refl
-    (going_first t none (record {}) (notify_all_going s e k a.object a.now) (first_to_notify_all s e k a.object a.now)) c.notify_all_held.new.pass (Ok c.notify_all_held.result)
+    rests_after h p t c.requires.call (notify_all_steps s k a.object a.now) refl
+    (going_first t none (record {}) (notify_all_going s e k a.object a.now)
+    (first_to_notify_all s e k a.object a.now)) c.notify_all_held.new.pass (Ok c.notify_all_held.result)
     (returns-clause-run c)
 
 pub returns-clause-says : goal.returns-clause-says
 returns-clause-says c =
     let a = c.args in
-    tells (notify_all_says a.heap.now.heap.shape (start_now a.heap.now a.pass.now) a.object a.now) (HasRun.ran (returns-clause-run c))
+    tells (notify_all_says a.heap.now.heap.shape (start_now a.heap.now a.pass.now) a.object a.now) (HasMadeSteps.ran (returns-clause-run c))
 
 pub returns-clause-stands : goal.returns-clause-stands
 returns-clause-stands c =
     let a = c.args in
     let run = returns-clause-run c in
-    (notify_all_leaves a.heap.now a.pass.now c.notify_all_held.new.pass run.heap c.requires.call.rests a.object a.now (Ok c.notify_all_held.result) c.requires.call.may run.ran).0
+    (notify_all_leaves a.heap.now a.pass.now c.notify_all_held.new.pass run.heap c.requires.call.rests a.object a.now
+    (Ok c.notify_all_held.result) c.requires.call.may run.ran).0
 
 pub returns-clause-others : goal.returns-clause-others
 returns-clause-others c =
     let a = c.args in
     let run = returns-clause-run c in
-    (notify_all_leaves a.heap.now a.pass.now c.notify_all_held.new.pass run.heap c.requires.call.rests a.object a.now (Ok c.notify_all_held.result) c.requires.call.may run.ran).1
+    (notify_all_leaves a.heap.now a.pass.now c.notify_all_held.new.pass run.heap c.requires.call.rests a.object a.now
+    (Ok c.notify_all_held.result) c.requires.call.may run.ran).1
 
 pub returns-then-held-eq0-clause-owner : goal.returns-then-held-eq0-clause-owner
 returns-then-held-eq0-clause-owner c =
@@ -113,6 +118,6 @@ returns-clause-wakes c =
     let run = returns-clause-run c in
     owner_tells h p c.notify_all_held.new.pass c.requires.call.rests.is_of run.heap
     (run_thread h (notify_all_steps s k a.object a.now) p c.notify_all_held.new.pass (Ok c.notify_all_held.result) run) a.object (returns-clause-owner c)
-    (purpose (NotifyAll a.object a.now) op.NotifyAll a.object) (notify_all_goes a.object) 0 (WakesEach s a.object)
+    (call_context (NotifyAll a.object a.now) op.NotifyAll a.object) (notify_all_goes a.object) 0 (WakesEach s a.object)
     c.notify_all_held.result (returns-clause-stands c)
     (tells (notify_all_paths s k a.object a.now) run.ran)

@@ -1,14 +1,14 @@
 use Rattle.std.proofs.Common.{ℕ, sym, subst}
-use Rattle.core_world.specs.declared.answer.Turn.{Turn}
-use Rattle.core_world.specs.declared.answer.Turn.TheVariants.{Done}
-use Rattle.core_world.specs.Threads.Known.{local_of}
+use Rattle.core_world.specs.declared.answer.Progress.{Progress}
+use Rattle.core_world.specs.declared.answer.Progress.TheVariants.{Done}
+use Rattle.core_world.specs.Threads.ThreadView.{local_of}
 use Rattle.core_world.specs.Trees.Operations.{unbias_steps, no_bias}
-use Rattle.core_world.specs.Trees.Todo.{Todo}
-use Rattle.heap_table.specs.Parts.{IsDueOn, HasRun}
+use Rattle.core_world.specs.Trees.StepTree.{StepTree}
+use Rattle.heap_table.specs.Parts.{IsDueOn, HasMadeSteps}
 use Rattle.heap_table.specs.Resting.{start_now}
 use Rattle.heap_table.proofs.Aside.{room_aside}
 use Rattle.lock_runtime.specs.inner.WaitParts.{marked_notify_all}
-use Rattle.lock_runtime.proofs.Unbiased.{unbias_due, behind_due, behind_run, pending_run, alike_behind}
+use Rattle.lock_runtime.proofs.Unbiased.{unbias_due, after_due, after_run, pending_run, alike_after}
 use Rattle.lock_runtime.proofs.waiting.notify_all_held.Goals as goal
 
 pub unbias-requires-clause-due : goal.unbias-requires-clause-due
@@ -16,51 +16,53 @@ unbias-requires-clause-due c =
     let a = c.args in
     let h = a.heap.now in
     let p = a.pass.now in
-    unbias_due h p a.why.now (no_bias a.object a.now) (marked_notify_all h.heap.shape a.why.now (local_of p.known) a.object) c.requires.due
+    unbias_due h p a.context.now (no_bias a.object a.now) (marked_notify_all h.heap.shape a.context.now (local_of p.known) a.object) c.requires.due
 
 pub notify_all_marked-requires-clause-due : goal.notify_all_marked-requires-clause-due
 notify_all_marked-requires-clause-due c =
     let a = c.args in
     let h = a.heap.now in
-    let e = a.why.now in
+    let e = a.context.now in
     let p = a.pass.now in
     let q = c.unbias.new.pass in
     let b = no_bias a.object a.now in
     let g = marked_notify_all h.heap.shape e (local_of p.known) a.object in
-    let ran = subst (λ (x : Turn (Unit {0})). HasRun h (unbias_steps h.heap.shape e (start_now h p) b) p q x) c.in-Done.is c.unbias.ensures in
-    let alike = alike_behind h p q e b (Done tt) ran in
-    subst (IsDueOn h q e.task) (λ i. marked_notify_all h.heap.shape e (sym alike.local i) a.object) (behind_due h p e b g q c.requires.due ran)
+    let ran = subst (λ (x : Progress (Unit {0})). HasMadeSteps h (unbias_steps h.heap.shape e (start_now h p) b) p q x) c.in-Done.is c.unbias.ensures in
+    let alike = alike_after h p q e b (Done tt) ran in
+    subst (IsDueOn h q e.task) (λ i. marked_notify_all h.heap.shape e (sym alike.local i) a.object) (after_due h p e b g q c.requires.due ran)
 
 pub notify_all_marked-requires-clause-room : goal.notify_all_marked-requires-clause-room
 notify_all_marked-requires-clause-room c =
     let a = c.args in
     let b = no_bias a.object a.now in
-    room_aside a.pass.now c.unbias.new.pass (alike_behind a.heap.now a.pass.now c.unbias.new.pass a.why.now b c.unbias.result c.unbias.ensures) c.unbias.ensures.limit c.requires.room
+    room_aside a.pass.now c.unbias.new.pass
+    (alike_after a.heap.now a.pass.now c.unbias.new.pass a.context.now b c.unbias.result c.unbias.ensures) c.unbias.ensures.limit c.requires.room
 
 pub returns-in-Done : goal.returns-in-Done
 returns-in-Done c =
     let a = c.args in
     let h = a.heap.now in
-    let e = a.why.now in
+    let e = a.context.now in
     let p = a.pass.now in
     let q = c.unbias.new.pass in
     let r = c.notify_all_marked.new.pass in
     let out = c.notify_all_marked.result in
     let b = no_bias a.object a.now in
     let g = marked_notify_all h.heap.shape e (local_of p.known) a.object in
-    let ran = subst (λ (x : Turn (Unit {0})). HasRun h (unbias_steps h.heap.shape e (start_now h p) b) p q x) c.in-Done.is c.unbias.ensures in
-    let alike = alike_behind h p q e b (Done tt) ran in
-    let rest = subst (λ (x : Todo (Turn ℕ)). HasRun h x q r out) (λ i. marked_notify_all h.heap.shape e (alike.local i) a.object) c.notify_all_marked.ensures in
-    behind_run h p e b g q r out ran rest
+    let ran = subst (λ (x : Progress (Unit {0})). HasMadeSteps h (unbias_steps h.heap.shape e (start_now h p) b) p q x) c.in-Done.is c.unbias.ensures in
+    let alike = alike_after h p q e b (Done tt) ran in
+    let rest = subst (λ (x : StepTree (Progress ℕ)). HasMadeSteps h x q r out)
+    (λ i. marked_notify_all h.heap.shape e (alike.local i) a.object) c.notify_all_marked.ensures in
+    after_run h p e b g q r out ran rest
 
 pub returns-in-Pending : goal.returns-in-Pending
 returns-in-Pending c =
     let a = c.args in
     let h = a.heap.now in
-    let e = a.why.now in
+    let e = a.context.now in
     let p = a.pass.now in
     let q = c.unbias.new.pass in
     let b = no_bias a.object a.now in
     let g = marked_notify_all h.heap.shape e (local_of p.known) a.object in
-    let ran = subst (λ (x : Turn (Unit {0})). HasRun h (unbias_steps h.heap.shape e (start_now h p) b) p q x) c.in-Pending.is c.unbias.ensures in
+    let ran = subst (λ (x : Progress (Unit {0})). HasMadeSteps h (unbias_steps h.heap.shape e (start_now h p) b) p q x) c.in-Pending.is c.unbias.ensures in
     pending_run h p e b g q c.in-Pending.cause ran

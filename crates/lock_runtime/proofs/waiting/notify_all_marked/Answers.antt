@@ -1,8 +1,8 @@
 use Rattle.std.proofs.Common.{◌≡◌, Option, Some, refl, sym, ap, ◌∙◌, subst}
 use Rattle.mark_word.specs.declared.mark.MarkForm.{MarkForm}
 use Rattle.mark_word.specs.Mark.{read_mark}
-use Rattle.core_world.specs.declared.name.Name.TheVariants.{Mark}
-use Rattle.core_world.specs.Threads.Known.{Local, local_of}
+use Rattle.core_world.specs.declared.word_id.WordId.TheVariants.{Mark}
+use Rattle.core_world.specs.Threads.ThreadView.{Local, local_of}
 use Rattle.core_world.specs.Trees.Operations.{notify_all_at}
 use Rattle.core_world.specs.Trees.Plans.{load}
 use Rattle.heap_table.specs.Parts.{IsDueOn}
@@ -12,13 +12,13 @@ use Rattle.lock_runtime.proofs.waiting.notify_all_marked.Goals as goal
 pub load-mark-requires : goal.load-mark-requires
 load-mark-requires c =
     let a = c.args in
-    can a.heap.now a.pass.now a.why.now.task (load a.why.now (Mark a.object)) _ c.requires.due refl c.requires.heap tt refl
+    can a.heap.now a.pass.now a.context.now.task (load a.context.now (Mark a.object)) _ c.requires.due refl c.requires.heap tt refl
 
 pub notify_all_by-requires-clause-due : goal.notify_all_by-requires-clause-due
 notify_all_by-requires-clause-due c =
     let a = c.args in
     let h = a.heap.now in
-    let e = a.why.now in
+    let e = a.context.now in
     let p = a.pass.now in
     let k = local_of p.known in
     let q = c.load-mark.new.pass in

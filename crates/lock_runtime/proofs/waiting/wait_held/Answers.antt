@@ -11,12 +11,13 @@ pub monitor_resume-requires-clause-due : goal.monitor_resume-requires-clause-due
 monitor_resume-requires-clause-due c =
     let a = c.args in
     let h = a.heap.now in
-    let e = a.why.now in
+    let e = a.context.now in
     let p = a.pass.now in
     let k = start_now h p in
     let gone : waits_on k.local.wait a.object ≡ true = ap (λ w. waits_on w a.object) (sym c.wait_word.ensures) ∙ sym c.waits_on.ensures ∙ c.if-waits_on.true in
     subst (λ s. IsDueOn h p e.task (monitor_resume_steps e k.local.thread s a.object)) (sym c.saved-saved.ensures)
-    (due_then h p (waits_on k.local.wait a.object) (monitor_resume_steps e k.local.thread k.saved a.object) (wait_beginning h.heap.shape e k a.object a.now) e.task c.requires.due gone)
+    (due_then h p (waits_on k.local.wait a.object) (monitor_resume_steps e k.local.thread k.saved a.object)
+    (wait_beginning h.heap.shape e k a.object a.now) e.task c.requires.due gone)
 
 -- a wait that has let go logs its Resume alone
 pub monitor_resume-requires-clause-room : goal.monitor_resume-requires-clause-room

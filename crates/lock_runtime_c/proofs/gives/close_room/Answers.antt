@@ -11,13 +11,15 @@ use Rattle.lock_runtime_c.proofs.gives.close_room.Goals as goal
 pub close-requires-clause-passes : goal.close-requires-clause-passes
 close-requires-clause-passes c =
     let h = c.args.room.heap in
-    let home : AreAt (IsHome h) c.in-Ok.passes.items = subst (λ (x : HeapSeen). AreAt (IsHome x) c.in-Ok.passes.items) c.args.room.keyed c.in-Ok.ensures.all.1 in
+    let home : AreAt (IsHome h) c.in-Ok.passes.items =
+    subst (λ (x : HeapSeen). AreAt (IsHome x) c.in-Ok.passes.items) c.args.room.keyed c.in-Ok.ensures.all.1 in
     subst (All (IsOf h)) (sym c.of.ensures) (all_of h c.in-Ok.passes.items home)
 
 pub close-requires-clause-order : goal.close-requires-clause-order
 close-requires-clause-order c =
     let h = c.args.room.heap in
-    let home : AreAt (IsHome h) c.in-Ok.passes.items = subst (λ (x : HeapSeen). AreAt (IsHome x) c.in-Ok.passes.items) c.args.room.keyed c.in-Ok.ensures.all.1 in
+    let home : AreAt (IsHome h) c.in-Ok.passes.items =
+    subst (λ (x : HeapSeen). AreAt (IsHome x) c.in-Ok.passes.items) c.args.room.keyed c.in-Ok.ensures.all.1 in
     let many = c.in-Ok.ensures.all.0 in
     let each = c.args.room.each in
     let ok = c.in-Ok.passes.ok in
@@ -27,13 +29,15 @@ close-requires-clause-order c =
 pub close-requires-clause-stopped : goal.close-requires-clause-stopped
 close-requires-clause-stopped c =
     let h = c.args.room.heap in
-    let home : AreAt (IsHome h) c.in-Ok.passes.items = subst (λ (x : HeapSeen). AreAt (IsHome x) c.in-Ok.passes.items) c.args.room.keyed c.in-Ok.ensures.all.1 in
+    let home : AreAt (IsHome h) c.in-Ok.passes.items =
+    subst (λ (x : HeapSeen). AreAt (IsHome x) c.in-Ok.passes.items) c.args.room.keyed c.in-Ok.ensures.all.1 in
     subst (All (λ (p : PassSeen). p.known.running ≡ false)) (sym c.of.ensures) (all_stopped h c.in-Ok.passes.items home)
 
 pub close-requires-clause-quiet : goal.close-requires-clause-quiet
 close-requires-clause-quiet c =
     let h = c.args.room.heap in
-    let home : AreAt (IsHome h) c.in-Ok.passes.items = subst (λ (x : HeapSeen). AreAt (IsHome x) c.in-Ok.passes.items) c.args.room.keyed c.in-Ok.ensures.all.1 in
+    let home : AreAt (IsHome h) c.in-Ok.passes.items =
+    subst (λ (x : HeapSeen). AreAt (IsHome x) c.in-Ok.passes.items) c.args.room.keyed c.in-Ok.ensures.all.1 in
     subst (λ (ps : List PassSeen). All (λ (p : PassSeen). p.known.requesting ≡ false) ps ⊎ Any (λ (p : PassSeen). p.known.halted ≡ true) ps)
     (sym c.of.ensures) (quiet h c.in-Ok.passes.items home)
 
@@ -59,5 +63,6 @@ returns-in-Ok-clause-left c =
       counts = e.counts ∙ ap counts_of_all same;
       legal = subst (λ (l : List PassSeen). LegalObjects h.heap.shape.objects (logs_of l)) same e.legal;
       stamps = subst (λ (l : List PassSeen). StampsAreExact (logs_of l)) same e.stamps;
-      biases = subst (λ (l : List PassSeen). All (λ (p : PassSeen). p.known.unfinished ≡ None) l → BiasesAtEnd 0 h.heap left.words (logs_of l) (knowns l)) same e.biases;
+      biases = subst (λ (l : List PassSeen). All (λ (p : PassSeen). p.known.unfinished ≡ None) l
+          → BiasesAtEnd 0 h.heap left.words (logs_of l) (knowns l)) same e.biases;
     }

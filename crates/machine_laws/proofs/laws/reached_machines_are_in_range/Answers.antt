@@ -1,4 +1,5 @@
-use Rattle.machine_laws.proofs.ReachedRange.{owner_in_range, count_in_range, holds_in_range, waits_in_range, called_in_range, local_in_range, slot_in_range, taken_in_range, offer_in_range, dump_in_range, dumped_in_range}
+use Rattle.machine_laws.proofs.ReachedRange.{owner_in_range, count_in_range, holds_in_range, waits_in_range, called_in_range, local_in_range}
+use Rattle.machine_laws.proofs.ReachedRange.{slot_in_range, taken_in_range, offer_in_range, dump_in_range, dumped_in_range}
 use Rattle.machine_laws.proofs.laws.reached_machines_are_in_range.Goals as goal
 
 pub returns-clause-owner : goal.returns-clause-owner

@@ -1,5 +1,5 @@
-use Rattle.machine_words.proofs.Untouched.{untouched_behind}
+use Rattle.machine_words.proofs.Untouched.{untouched_after}
 use Rattle.machine_words.proofs.laws.machines_stay_untouched.Goals as goal
 
 pub returns : goal.returns
-returns c = untouched_behind
+returns c = untouched_after

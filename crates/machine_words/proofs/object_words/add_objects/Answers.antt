@@ -1,7 +1,7 @@
 use Rattle.std.proofs.Common.{◌≡◌, ℕ, ◌+◌, ◌++◌, false, List, drop, length, slice_get, Some, is_some, refl, sym, ap, ◌∙◌, subst, arith}
 use Rattle.std.specs.List.{AllByRecursion}
 use Rattle.std.proofs.lemmas.Option.{slice_get_read}
-use Rattle.plain_monitor.specs.Made.{Numbering, first_made, class_of}
+use Rattle.plain_monitor.specs.Made.{Numbering, first_made, class_if_there}
 use Rattle.plain_monitor.specs.Objects.{PlainObject}
 use Rattle.plain_monitor.specs.ValueWords.{IsSpellable}
 use Rattle.plain_monitor.proofs.Lists.{all_at}
@@ -9,7 +9,7 @@ use Rattle.object_program.specs.Program.{declared_total, numbering_of}
 use Rattle.plain_machine.proofs.NeededObjects.{first_is_total}
 use Rattle.machine_laws.specs.Reached.{HasSlots}
 use Rattle.machine_words.specs.ObjectWords.{objects_words}
-use Rattle.machine_words.specs.inner.Reading.{behind_row}
+use Rattle.machine_words.specs.inner.Reading.{after_row}
 use Rattle.machine_words.proofs.ReadBack.{objects_spelled}
 use Rattle.machine_words.proofs.Renewing.{is_not_there, words_jump}
 use Rattle.machine_words.proofs.There.{not_declared}
@@ -28,11 +28,11 @@ add_changed-requires c =
     (objects_spelled m.program 0 m.objects c.requires.reached.program each)
     (subst (λ (xs : List PlainObject). slice_get xs c.loop-number.number ≡ Some x) c.objects-objects.ensures at)
 
-pub behind_row-number-requires-clause-made : goal.behind_row-number-requires-clause-made
-behind_row-number-requires-clause-made c =
+pub after_row-number-requires-clause-made : goal.after_row-number-requires-clause-made
+after_row-number-requires-clause-made c =
     let m = c.args.machine.now in
     let n : Numbering = numbering_of m.program in
-    let none : is_some (class_of n m.made c.loop-number.number) ≡ false =
+    let none : is_some (class_if_there n m.made c.loop-number.number) ≡ false =
     ap is_some (sym c.class_of.ensures) ∙ sym c.is_some.ensures ∙ c.if-is_some.false in
     let first : c.declared_total-first.result ≡ first_made n =
     c.declared_total-first.ensures ∙ ap declared_total c.program.ensures ∙ sym (first_is_total m.program.objects) in
@@ -45,12 +45,12 @@ loop-number-preserved c =
     let n : Numbering = numbering_of m.program in
     let objects = c.objects-objects.result.now in
     let out = c.loop-number.out.items in
-    let none : is_some (class_of n m.made c.loop-number.number) ≡ false =
+    let none : is_some (class_if_there n m.made c.loop-number.number) ≡ false =
     ap is_some (sym c.class_of.ensures) ∙ sym c.is_some.ensures ∙ c.if-is_some.false in
     let first : c.declared_total-first.result ≡ first_made n =
     c.declared_total-first.ensures ∙ ap declared_total c.program.ensures ∙ sym (first_is_total m.program.objects) in
-    let to : behind_row (first_made n) c.loop-number.number ≡ c.behind_row-number.result =
-    ap (λ (k : ℕ). behind_row k c.loop-number.number) (sym first) ∙ sym c.behind_row-number.ensures in
+    let to : after_row (first_made n) c.loop-number.number ≡ c.after_row-number.result =
+    ap (λ (k : ℕ). after_row k c.loop-number.number) (sym first) ∙ sym c.after_row-number.ensures in
     let same =
     words_jump n m.made objects c.loop-number.number (λ o x at none.
     c.requires.untouched o x (subst (λ (xs : List PlainObject). slice_get xs o ≡ Some x) c.objects-objects.ensures at) none) none

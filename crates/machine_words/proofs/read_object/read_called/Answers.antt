@@ -17,9 +17,9 @@ loop-preserved c =
     let inv = c.loop.invariant in
     let ws = c.args.words.now in
     let less : ℕ = c.args.count - (c.loop.counter + 1) in
-    let behind : List ℕ = drop c.take_number-in-loop.new.at ws in
+    let beyond : List ℕ = drop c.take_number-in-loop.new.at ws in
     let left : c.args.count - c.loop.counter ≡ suc less = omega arith in
-    let here : drop c.loop.at ws ≡ c.in_ok-thread.thread ∷ c.in_ok-holds.holds ∷ behind =
+    let here : drop c.loop.at ws ≡ c.in_ok-thread.thread ∷ c.in_ok-holds.holds ∷ beyond =
     c.in_ok-thread.ensures ∙ ap (λ xs. c.in_ok-thread.thread ∷ xs) c.in_ok-holds.ensures in
     let filled =
     filled_more (λ (x : PlainObject). x.monitor.called) (λ (x : PlainObject) (ps : List (ℕ × ℕ)). record x { monitor = record x.monitor { called = ps } })
@@ -27,8 +27,10 @@ loop-preserved c =
     c.in_ok-add_called.ensures in
     record {
       same = filled.0;
-      reads = reads_more read_pairs c.args.object.now.monitor.called c.args.count (drop c.args.at.now ws) c.loop.object.monitor.called (c.args.count - c.loop.counter)
-          (drop c.loop.at ws) (c.in_ok-thread.thread, c.in_ok-holds.holds) less behind c.add_called.new.self.monitor.called filled.1 left (ap (read_pairs (suc less)) here) inv.reads;
+      reads = reads_more read_pairs c.args.object.now.monitor.called c.args.count
+          (drop c.args.at.now ws) c.loop.object.monitor.called (c.args.count - c.loop.counter)
+          (drop c.loop.at ws) (c.in_ok-thread.thread, c.in_ok-holds.holds) less beyond c.add_called.new.self.monitor.called filled.1 left
+          (ap (read_pairs (suc less)) here) inv.reads;
     }
 
 pub returns-clause-object : goal.returns-clause-object
@@ -45,6 +47,7 @@ pub returns-clause-rest : goal.returns-clause-rest
 returns-clause-rest c =
     let none : c.args.count - c.loop.counter ≡ 0 = omega arith in
     let all =
-    reads_all read_pairs c.args.object.now.monitor.called c.args.count (drop c.args.at.now c.args.words.now) c.loop.object.monitor.called (c.args.count - c.loop.counter)
+    reads_all read_pairs c.args.object.now.monitor.called c.args.count
+    (drop c.args.at.now c.args.words.now) c.loop.object.monitor.called (c.args.count - c.loop.counter)
     (drop c.loop.at c.args.words.now) none refl c.loop.invariant.reads in
     sym all.1

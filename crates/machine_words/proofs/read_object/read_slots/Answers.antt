@@ -18,18 +18,20 @@ loop-preserved c =
     let inv = c.loop.invariant in
     let ws = c.args.words.now in
     let less : ℕ = c.args.slots - (c.loop.counter + 1) in
-    let behind : List ℕ = drop c.take_word.new.at ws in
+    let beyond : List ℕ = drop c.take_word.new.at ws in
     let left : c.args.slots - c.loop.counter ≡ suc less = omega arith in
     let is =
     ap (read_values (suc less)) c.in_ok-word.ensures
-    ∙ ap (λ (v : Value). (v ∷ (read_values less behind).0, (read_values less behind).1)) (sym c.in_ok-value.ensures) in
+    ∙ ap (λ (v : Value). (v ∷ (read_values less beyond).0, (read_values less beyond).1)) (sym c.in_ok-value.ensures) in
     let filled =
-    filled_more (λ (x : PlainObject). x.slots) (λ (x : PlainObject) (vs : List Value). record x { slots = vs }) c.args.object.now c.loop.object c.add_slot.new.self c.in_ok-value.value
+    filled_more (λ (x : PlainObject). x.slots)
+    (λ (x : PlainObject) (vs : List Value). record x { slots = vs }) c.args.object.now c.loop.object c.add_slot.new.self c.in_ok-value.value
     (λ s xs. refl) (λ s xs ys. refl) inv.same c.in_ok-add_slot.ensures in
     record {
       same = filled.0;
-      reads = reads_more read_values c.args.object.now.slots c.args.slots (drop c.args.at.now ws) c.loop.object.slots (c.args.slots - c.loop.counter) (drop c.loop.at ws)
-          c.in_ok-value.value less behind c.add_slot.new.self.slots filled.1 left is inv.reads;
+      reads = reads_more read_values c.args.object.now.slots c.args.slots
+          (drop c.args.at.now ws) c.loop.object.slots (c.args.slots - c.loop.counter) (drop c.loop.at ws)
+          c.in_ok-value.value less beyond c.add_slot.new.self.slots filled.1 left is inv.reads;
     }
 
 pub returns-clause-object : goal.returns-clause-object

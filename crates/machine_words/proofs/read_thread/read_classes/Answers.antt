@@ -25,7 +25,7 @@ loop-preserved c =
     let old = c.loop.register.made in
     let new = c.add.new.self.made in
     let less : ℕ = c.args.count - (c.loop.counter + 1) in
-    let behind : List ℕ = drop c.take_number.new.at ws in
+    let beyond : List ℕ = drop c.take_number.new.at ws in
     let left : c.args.count - c.loop.counter ≡ suc less = omega arith in
     let within : c.args.t < length old = omega (arith, c.requires, inv.count) in
     let more = row_more c.args.t first old new c.in_ok-class.class within inv.same c.add.ensures.made in
@@ -34,7 +34,7 @@ loop-preserved c =
       count = more.2 ∙ inv.count;
       same = more.0;
       reads = reads_more read_numbers (made_by first c.args.t) c.args.count (drop c.args.at.now ws) (made_by old c.args.t) (c.args.count - c.loop.counter)
-          (drop c.loop.at ws) c.in_ok-class.class less behind (made_by new c.args.t) more.1 left (ap (read_numbers (suc less)) c.in_ok-class.ensures) inv.reads;
+          (drop c.loop.at ws) c.in_ok-class.class less beyond (made_by new c.args.t) more.1 left (ap (read_numbers (suc less)) c.in_ok-class.ensures) inv.reads;
     }
 
 pub returns-clause-made : goal.returns-clause-made

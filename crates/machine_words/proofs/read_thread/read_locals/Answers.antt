@@ -18,18 +18,20 @@ loop-preserved c =
     let inv = c.loop.invariant in
     let ws = c.args.words.now in
     let less : ℕ = c.args.count - (c.loop.counter + 1) in
-    let behind : List ℕ = drop c.take_word.new.at ws in
+    let beyond : List ℕ = drop c.take_word.new.at ws in
     let left : c.args.count - c.loop.counter ≡ suc less = omega arith in
     let is =
     ap (read_values (suc less)) c.in_ok-word.ensures
-    ∙ ap (λ (v : Value). (v ∷ (read_values less behind).0, (read_values less behind).1)) (sym c.in_ok-value.ensures) in
+    ∙ ap (λ (v : Value). (v ∷ (read_values less beyond).0, (read_values less beyond).1)) (sym c.in_ok-value.ensures) in
     let filled =
-    filled_more (λ (x : ThreadState). x.locals) (λ (x : ThreadState) (vs : List Value). record x { locals = vs }) c.args.thread.now c.loop.thread c.add_local.new.self c.in_ok-value.value
+    filled_more (λ (x : ThreadState). x.locals)
+    (λ (x : ThreadState) (vs : List Value). record x { locals = vs }) c.args.thread.now c.loop.thread c.add_local.new.self c.in_ok-value.value
     (λ s xs. refl) (λ s xs ys. refl) inv.same c.in_ok-add_local.ensures in
     record {
       same = filled.0;
-      reads = reads_more read_values c.args.thread.now.locals c.args.count (drop c.args.at.now ws) c.loop.thread.locals (c.args.count - c.loop.counter) (drop c.loop.at ws)
-          c.in_ok-value.value less behind c.add_local.new.self.locals filled.1 left is inv.reads;
+      reads = reads_more read_values c.args.thread.now.locals c.args.count
+          (drop c.args.at.now ws) c.loop.thread.locals (c.args.count - c.loop.counter) (drop c.loop.at ws)
+          c.in_ok-value.value less beyond c.add_local.new.self.locals filled.1 left is inv.reads;
     }
 
 pub returns-clause-thread : goal.returns-clause-thread

@@ -10,8 +10,10 @@ pub loop-thread-preserved : goal.loop-thread-preserved
 loop-thread-preserved c =
     let inv = c.loop-thread.invariant in
     let within : c.loop-thread.thread-index < length c.loop-thread.threads = omega (arith, c.loop-thread-test.true, inv.count) in
-    walks_more (thread_step c.args.fuel) c.args.threads.now (drop c.args.at.now c.args.words.now) c.loop-thread.thread-index c.loop-thread.threads (drop c.loop-thread.at c.args.words.now)
-    c.read_thread.new.thread c.thread-item.result (drop c.read_thread.new.at c.args.words.now) within c.in_ok-read_thread.ensures.thread c.in_ok-read_thread.ensures.rest inv
+    walks_more (thread_step c.args.fuel) c.args.threads.now
+    (drop c.args.at.now c.args.words.now) c.loop-thread.thread-index c.loop-thread.threads (drop c.loop-thread.at c.args.words.now)
+    c.read_thread.new.thread c.thread-item.result
+    (drop c.read_thread.new.at c.args.words.now) within c.in_ok-read_thread.ensures.thread c.in_ok-read_thread.ensures.rest inv
 
 pub returns-clause-threads : goal.returns-clause-threads
 returns-clause-threads c =

@@ -1,10 +1,10 @@
 use Rattle.std.proofs.Common.{◌≡◌, ℕ, ◌+◌, ◌<◌, ◌≤◌, false, [], List, length, slice_index_or, is_some, refl, sym, ap, ◌∙◌, subst, arith}
-use Rattle.plain_monitor.specs.Made.{Numbering, first_made, class_of}
+use Rattle.plain_monitor.specs.Made.{Numbering, first_made, class_if_there}
 use Rattle.plain_monitor.specs.Objects.{PlainObject, new_object}
 use Rattle.object_program.specs.Program.{numbering_of}
 use Rattle.plain_machine.specs.Machine.{PlainMachine}
 use Rattle.plain_machine.proofs.NeededObjects.{first_is_total}
-use Rattle.machine_words.specs.inner.Reading.{Walks, renewed, renew_step, beside, behind_row}
+use Rattle.machine_words.specs.inner.Reading.{Walks, renewed, renew_step, beside, after_row}
 use Rattle.machine_words.proofs.Beside.{reached_beside, beside_again}
 use Rattle.machine_words.proofs.There.{not_declared}
 use Rattle.machine_words.proofs.Renewing.{is_not_there, renew_jump}
@@ -41,11 +41,11 @@ loop-number-preserved-then-is_some c =
           c.in_ok-renew_at.ensures.threads ∙ ap (beside new 0) inv.threads ∙ beside_again new objects 0 c.args.threads.now;
     }
 
-pub behind_row-number-requires-clause-made : goal.behind_row-number-requires-clause-made
-behind_row-number-requires-clause-made c =
+pub after_row-number-requires-clause-made : goal.after_row-number-requires-clause-made
+after_row-number-requires-clause-made c =
     let n : Numbering = numbering_of c.args.program.now in
-    let none : is_some (class_of n c.args.register.now.made c.loop-number.number) ≡ false =
-    ap (λ (m : Numbering). is_some (class_of m c.args.register.now.made c.loop-number.number)) (sym c.requires.numbering)
+    let none : is_some (class_if_there n c.args.register.now.made c.loop-number.number) ≡ false =
+    ap (λ (m : Numbering). is_some (class_if_there m c.args.register.now.made c.loop-number.number)) (sym c.requires.numbering)
     ∙ ap is_some (sym c.class_of.ensures) ∙ sym c.is_some.ensures ∙ c.if-is_some.false in
     let first : c.declared_total-first.result ≡ first_made n = c.declared_total-first.ensures ∙ sym (first_is_total c.args.program.now.objects) in
     let above = not_declared n c.args.register.now.made c.loop-number.number (is_not_there n c.args.register.now.made c.loop-number.number none) in
@@ -55,12 +55,12 @@ pub loop-number-preserved : goal.loop-number-preserved
 loop-number-preserved c =
     let inv = c.loop-number.invariant in
     let n : Numbering = numbering_of c.args.program.now in
-    let none : is_some (class_of n c.args.register.now.made c.loop-number.number) ≡ false =
-    ap (λ (m : Numbering). is_some (class_of m c.args.register.now.made c.loop-number.number)) (sym c.requires.numbering)
+    let none : is_some (class_if_there n c.args.register.now.made c.loop-number.number) ≡ false =
+    ap (λ (m : Numbering). is_some (class_if_there m c.args.register.now.made c.loop-number.number)) (sym c.requires.numbering)
     ∙ ap is_some (sym c.class_of.ensures) ∙ sym c.is_some.ensures ∙ c.if-is_some.false in
     let first : c.declared_total-first.result ≡ first_made n = c.declared_total-first.ensures ∙ sym (first_is_total c.args.program.now.objects) in
-    let to : behind_row (first_made n) c.loop-number.number ≡ c.behind_row-number.result =
-    ap (λ (k : ℕ). behind_row k c.loop-number.number) (sym first) ∙ sym c.behind_row-number.ensures in
+    let to : after_row (first_made n) c.loop-number.number ≡ c.after_row-number.result =
+    ap (λ (k : ℕ). after_row k c.loop-number.number) (sym first) ∙ sym c.after_row-number.ensures in
     record {
       walks = subst (λ (j : ℕ). Walks renew_step c.args.objects.now [] j c.loop-number.objects []) to
           (renew_jump n c.args.register.now.made c.args.objects.now c.loop-number.number c.loop-number.objects c.requires.untouched none inv.walks);

@@ -16,7 +16,8 @@ loop-t-preserved c =
     c.in_ok-add_numbers.ensures ∙ ap (λ zs. zs ++ row) c.in_ok-add.ensures ∙ append_assoc out (length row ∷ []) row in
     record {
       end = inv.end;
-      words = written_more made_words rows c.loop-t.t row (length row ∷ row) out c.add_numbers.new.out.items (c.args.out.now.items ++ made_words rows) within at refl
+      words = written_more made_words rows c.loop-t.t row (length row ∷ row) out c.add_numbers.new.out.items
+          (c.args.out.now.items ++ made_words rows) within at refl
           inv.words added;
     }
 

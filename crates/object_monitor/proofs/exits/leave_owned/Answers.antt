@@ -1,9 +1,9 @@
 use Rattle.std.proofs.Common.{◌≡◌, ◌==◌, true, false, refl, sym, ap, subst, eq-eqb, ne_eqb}
-use Rattle.core_world.specs.declared.name.Name.TheVariants.{Recursions}
-use Rattle.core_world.specs.Threads.Known.{Local, local_of}
+use Rattle.core_world.specs.declared.word_id.WordId.TheVariants.{Recursions}
+use Rattle.core_world.specs.Threads.ThreadView.{Local, local_of}
 use Rattle.core_world.specs.Trees.MonitorSteps.{release_steps}
 use Rattle.core_world.specs.Trees.Plans.{load}
-use Rattle.heap_table.specs.Parts.{IsDueOn, HasRun}
+use Rattle.heap_table.specs.Parts.{IsDueOn, HasMadeSteps}
 use Rattle.heap_table.proofs.Parts.{can, rest_due, stepped}
 use Rattle.heap_table.proofs.Arms.{due_then, due_else, run_then, run_else}
 use Rattle.object_monitor.specs.inner.ExitParts.{lowered_exit}
@@ -12,13 +12,13 @@ use Rattle.object_monitor.proofs.exits.leave_owned.Goals as goal
 pub load-recursions-requires : goal.load-recursions-requires
 load-recursions-requires c =
     let a = c.args in
-    can a.heap.now a.pass.now a.why.now.task (load a.why.now (Recursions a.monitor)) _ c.requires.due refl c.requires.heap tt refl
+    can a.heap.now a.pass.now a.call.now.task (load a.call.now (Recursions a.monitor)) _ c.requires.due refl c.requires.heap tt refl
 
 pub release-requires-clause-due : goal.release-requires-clause-due
 release-requires-clause-due c =
     let a = c.args in
     let h = a.heap.now in
-    let e = a.why.now in
+    let e = a.call.now in
     let l = local_of a.pass.now.known in
     let q = c.load-recursions.new.pass in
     let n = c.load-recursions.result in
@@ -33,7 +33,7 @@ pub lower-requires-clause-due : goal.lower-requires-clause-due
 lower-requires-clause-due c =
     let a = c.args in
     let h = a.heap.now in
-    let e = a.why.now in
+    let e = a.call.now in
     let l = local_of a.pass.now.known in
     let q = c.load-recursions.new.pass in
     let n = c.load-recursions.result in
@@ -48,7 +48,7 @@ pub returns-then-recursions-eq0 : goal.returns-then-recursions-eq0
 returns-then-recursions-eq0 c =
     let a = c.args in
     let h = a.heap.now in
-    let e = a.why.now in
+    let e = a.call.now in
     let l = local_of a.pass.now.known in
     let q = c.load-recursions.new.pass in
     let r = c.release.new.pass in
@@ -56,7 +56,7 @@ returns-then-recursions-eq0 c =
     let s = c.load-recursions.ensures in
     let local : local_of q.known ≡ l = ap local_of s.known in
     let none : (n == 0) ≡ true = eq-eqb _ _ c.if-recursions-eq0.true in
-    let run = subst (λ (x : Local). HasRun h (release_steps e x a.object a.monitor) q r tt) local c.release.ensures in
+    let run = subst (λ (x : Local). HasMadeSteps h (release_steps e x a.object a.monitor) q r tt) local c.release.ensures in
     stepped h a.pass.now q r (load e (Recursions a.monitor)) _ n tt s refl
     (run_then h q (n == 0) (release_steps e l a.object a.monitor) (lowered_exit e l a.object a.monitor n) r tt none run)
 
@@ -64,7 +64,7 @@ pub returns-else-recursions-eq0 : goal.returns-else-recursions-eq0
 returns-else-recursions-eq0 c =
     let a = c.args in
     let h = a.heap.now in
-    let e = a.why.now in
+    let e = a.call.now in
     let l = local_of a.pass.now.known in
     let q = c.load-recursions.new.pass in
     let r = c.lower.new.pass in
@@ -72,6 +72,6 @@ returns-else-recursions-eq0 c =
     let s = c.load-recursions.ensures in
     let local : local_of q.known ≡ l = ap local_of s.known in
     let some : (n == 0) ≡ false = ne_eqb _ _ c.if-recursions-eq0.false in
-    let run = subst (λ (x : Local). HasRun h (lowered_exit e x a.object a.monitor n) q r tt) local c.lower.ensures in
+    let run = subst (λ (x : Local). HasMadeSteps h (lowered_exit e x a.object a.monitor n) q r tt) local c.lower.ensures in
     stepped h a.pass.now q r (load e (Recursions a.monitor)) _ n tt s refl
     (run_else h q (n == 0) (release_steps e l a.object a.monitor) (lowered_exit e l a.object a.monitor n) r tt some run)

@@ -1,13 +1,13 @@
 use Rattle.std.proofs.Common.{◌≡◌, refl, sym, ap, ◌∙◌, subst, Option, Some, arith}
 use Rattle.mark_word.specs.declared.owner.OwnerForm.{OwnerForm}
 use Rattle.mark_word.specs.Owner.{read_owner}
-use Rattle.core_world.specs.declared.name.Name.TheVariants.{Owner}
-use Rattle.core_world.specs.Threads.Known.{Local, local_of}
+use Rattle.core_world.specs.declared.word_id.WordId.TheVariants.{Owner}
+use Rattle.core_world.specs.Threads.ThreadView.{Local, local_of}
 use Rattle.core_world.specs.Trees.MonitorSteps.{own_steps}
 use Rattle.core_world.specs.Trees.Plans.{load, top_place}
-use Rattle.core_world.specs.Trees.Todo.{◌>>=◌}
+use Rattle.core_world.specs.Trees.StepTree.{◌>>=◌}
 use Rattle.core_world.proofs.CallRests.{part_due}
-use Rattle.heap_table.specs.Parts.{IsDueOn, HasRun}
+use Rattle.heap_table.specs.Parts.{IsDueOn, HasMadeSteps}
 use Rattle.heap_table.proofs.Parts.{can, rest_due, stepped, in_turn}
 use Rattle.heap_table.proofs.Ruled.{few_objects, not_due}
 use Rattle.object_monitor.specs.inner.ExitParts.{counted_exit}
@@ -20,13 +20,13 @@ top_place-place-requires-clause-object c = let few = few_objects c.args.heap.now
 pub load-owner-requires : goal.load-owner-requires
 load-owner-requires c =
     let a = c.args in
-    can a.heap.now a.pass.now a.why.now.task (load a.why.now (Owner a.monitor)) _ c.requires.due refl c.requires.heap tt refl
+    can a.heap.now a.pass.now a.call.now.task (load a.call.now (Owner a.monitor)) _ c.requires.due refl c.requires.heap tt refl
 
 pub own-requires-clause-due : goal.own-requires-clause-due
 own-requires-clause-due c =
     let a = c.args in
     let h = a.heap.now in
-    let e = a.why.now in
+    let e = a.call.now in
     let l = local_of a.pass.now.known in
     let q = c.load-owner.new.pass in
     let n = c.load-owner.result in
@@ -44,7 +44,7 @@ pub leave_owned-requires-clause-due : goal.leave_owned-requires-clause-due
 leave_owned-requires-clause-due c =
     let a = c.args in
     let h = a.heap.now in
-    let e = a.why.now in
+    let e = a.call.now in
     let l = local_of a.pass.now.known in
     let q = c.load-owner.new.pass in
     let r = c.own.new.pass in
@@ -55,7 +55,7 @@ leave_owned-requires-clause-due c =
     let rest = rest_due h a.pass.now e.task (load e (Owner a.monitor)) _ c.requires.due refl q n s in
     let due =
     subst (λ (f : Option OwnerForm). IsDueOn h q e.task (own_steps f e l a.object a.monitor >>= (λ _. counted_exit e l a.object a.monitor))) form rest in
-    let owned = subst (λ (x : Local). HasRun h (own_steps (Some c.in-Some.form) e x a.object a.monitor) q r tt) local c.own.ensures.run in
+    let owned = subst (λ (x : Local). HasMadeSteps h (own_steps (Some c.in-Some.form) e x a.object a.monitor) q r tt) local c.own.ensures.run in
     subst (λ (x : Local). IsDueOn h r e.task (counted_exit e x a.object a.monitor)) (sym (c.own.ensures.kept ∙ local))
     (after_owning (Some c.in-Some.form) h q r e l a.object a.monitor (counted_exit e l a.object a.monitor) due owned)
 
@@ -69,7 +69,7 @@ pub unreachable-requires : goal.unreachable-requires
 unreachable-requires c =
     let a = c.args in
     let h = a.heap.now in
-    let e = a.why.now in
+    let e = a.call.now in
     let l = local_of a.pass.now.known in
     let q = c.load-owner.new.pass in
     let n = c.load-owner.result in
@@ -83,7 +83,7 @@ pub returns : goal.returns
 returns c =
     let a = c.args in
     let h = a.heap.now in
-    let e = a.why.now in
+    let e = a.call.now in
     let l = local_of a.pass.now.known in
     let q = c.load-owner.new.pass in
     let r = c.own.new.pass in
@@ -92,9 +92,10 @@ returns c =
     let s = c.load-owner.ensures in
     let local : local_of q.known ≡ l = ap local_of s.known in
     let form = sym c.owner_of_word.ensures ∙ c.in-Some.is in
-    let owned = subst (λ (x : Local). HasRun h (own_steps (Some c.in-Some.form) e x a.object a.monitor) q r tt) local c.own.ensures.run in
-    let left = subst (λ (x : Local). HasRun h (counted_exit e x a.object a.monitor) r end tt) (c.own.ensures.kept ∙ local) c.leave_owned.ensures in
+    let owned = subst (λ (x : Local). HasMadeSteps h (own_steps (Some c.in-Some.form) e x a.object a.monitor) q r tt) local c.own.ensures.run in
+    let left = subst (λ (x : Local). HasMadeSteps h (counted_exit e x a.object a.monitor) r end tt) (c.own.ensures.kept ∙ local) c.leave_owned.ensures in
     let run =
     in_turn h q r end (own_steps (Some c.in-Some.form) e l a.object a.monitor) (λ _. counted_exit e l a.object a.monitor) tt tt owned left in
     stepped h a.pass.now q end (load e (Owner a.monitor)) _ n tt s refl
-    (subst (λ (f : Option OwnerForm). HasRun h (own_steps f e l a.object a.monitor >>= (λ _. counted_exit e l a.object a.monitor)) q end tt) (sym form) run)
+    (subst (λ (f : Option OwnerForm). HasMadeSteps h
+    (own_steps f e l a.object a.monitor >>= (λ _. counted_exit e l a.object a.monitor)) q end tt) (sym form) run)

@@ -1,14 +1,14 @@
 use Rattle.std.proofs.Common.{◌≡◌, ◌==◌, true, false, refl, sym, subst, eq-eqb, ne_eqb, arith}
 use Rattle.mark_word.specs.declared.owner.OwnerForm.TheVariants.{ByRecord}
 use Rattle.mark_word.specs.Owner.{owner_of}
-use Rattle.core_world.specs.declared.answer.Turn.TheVariants.{Done, Pending}
-use Rattle.core_world.specs.declared.answer.Why.TheVariants as why
-use Rattle.core_world.specs.declared.name.Name.TheVariants.{Displaced}
+use Rattle.core_world.specs.declared.answer.Progress.TheVariants.{Done, Pending}
+use Rattle.core_world.specs.declared.answer.PendingCause.TheVariants as why
+use Rattle.core_world.specs.declared.word_id.WordId.TheVariants.{Displaced}
 use Rattle.core_world.specs.declared.plan.StepPlan.{StepPlan}
 use Rattle.core_world.specs.declared.stage.Stage.TheVariants.{Inflates}
 use Rattle.core_world.specs.Trees.MonitorSteps.{inflate_plan, name_plan, prepare_steps}
 use Rattle.core_world.specs.Trees.Plans.{load_plan, pending_for}
-use Rattle.heap_table.specs.Parts.{IsDueOn, HasRun}
+use Rattle.heap_table.specs.Parts.{IsDueOn, HasMadeSteps}
 use Rattle.heap_table.specs.Stepping.{CanStep, HasStepped}
 use Rattle.heap_table.proofs.Parts.{can, rest_due, stepped, in_turn, ends}
 use Rattle.heap_table.proofs.Arms.{run_then, run_else}
@@ -19,13 +19,13 @@ use Rattle.object_monitor.proofs.inflates.inflate_locked.Goals as goal
 pub exchange-found-requires : goal.exchange-found-requires
 exchange-found-requires c =
     let a = c.args in
-    can a.heap.now a.pass.now a.why.now.task (inflate_plan a.why.now a.object a.mark a.thread a.place) _ c.requires.due refl c.requires.heap tt refl
+    can a.heap.now a.pass.now a.call.now.task (inflate_plan a.call.now a.object a.mark a.thread a.place) _ c.requires.due refl c.requires.heap tt refl
 
 pub returns-then-found-mark : goal.returns-then-found-mark
 returns-then-found-mark c =
     let a = c.args in
     let h = a.heap.now in
-    let e = a.why.now in
+    let e = a.call.now in
     let q = c.exchange-found.new.pass in
     let found = c.exchange-found.result in
     let s = c.exchange-found.ensures in
@@ -38,7 +38,7 @@ pub load-header-requires : goal.load-header-requires
 load-header-requires c =
     let a = c.args in
     let h = a.heap.now in
-    let e = a.why.now in
+    let e = a.call.now in
     let q = c.exchange-found.new.pass in
     let found = c.exchange-found.result in
     let s = c.exchange-found.ensures in
@@ -49,7 +49,7 @@ pub encode_owner-owner-requires : goal.encode_owner-owner-requires
 encode_owner-owner-requires c =
     let a = c.args in
     let h = a.heap.now in
-    let e = a.why.now in
+    let e = a.call.now in
     let q = c.exchange-found.new.pass in
     let found = c.exchange-found.result in
     let s = c.exchange-found.ensures in
@@ -62,7 +62,7 @@ pub prepare-requires-clause-due : goal.prepare-requires-clause-due
 prepare-requires-clause-due c =
     let a = c.args in
     let h = a.heap.now in
-    let e = a.why.now in
+    let e = a.call.now in
     let o = a.object in
     let m = a.monitor in
     let q = c.exchange-found.new.pass in
@@ -80,7 +80,7 @@ pub encode-named-requires : goal.encode-named-requires
 encode-named-requires c =
     let a = c.args in
     let h = a.heap.now in
-    let e = a.why.now in
+    let e = a.call.now in
     let o = a.object in
     let m = a.monitor in
     let q = c.exchange-found.new.pass in
@@ -97,7 +97,7 @@ pub store_and_keep-requires : goal.store_and_keep-requires
 store_and_keep-requires c =
     let a = c.args in
     let h = a.heap.now in
-    let e = a.why.now in
+    let e = a.call.now in
     let o = a.object in
     let m = a.monitor in
     let q = c.exchange-found.new.pass in
@@ -109,7 +109,7 @@ store_and_keep-requires c =
     let owner = owner_of (ByRecord a.thread a.place) in
     let due = locked_due h a.pass.now q e o a.mark m a.thread a.place found c.requires.due c.exchange-found.ensures (eq-eqb _ _ c.if-found-mark.false) in
     let rest = rest_due h q e.task (load_plan e at (Displaced a.thread a.place)) _ due refl r header c.load-header.ensures in
-    let run = subst (λ w. HasRun h (prepare_steps e at o m header w) r u tt) c.encode_owner-owner.ensures c.prepare.ensures in
+    let run = subst (λ w. HasMadeSteps h (prepare_steps e at o m header w) r u tt) c.encode_owner-owner.ensures c.prepare.ensures in
     let named = prepared h r e at o m header owner (locked_named e o m) rest u run in
     let same = names e o a.mark m c.encode-named.result c.encode-named.ensures in
     subst (CanStep h u) (sym same) (can h u e.task (name_plan e o m) _ named refl run.heap tt refl)
@@ -118,7 +118,7 @@ pub returns : goal.returns
 returns c =
     let a = c.args in
     let h = a.heap.now in
-    let e = a.why.now in
+    let e = a.call.now in
     let o = a.object in
     let m = a.monitor in
     let q = c.exchange-found.new.pass in
@@ -130,7 +130,7 @@ returns c =
     let at = Inflates o a.thread a.place in
     let owner = owner_of (ByRecord a.thread a.place) in
     let hit : (found == a.mark) ≡ true = eq-eqb _ _ c.if-found-mark.false in
-    let run = subst (λ w. HasRun h (prepare_steps e at o m header w) r u tt) c.encode_owner-owner.ensures c.prepare.ensures in
+    let run = subst (λ w. HasMadeSteps h (prepare_steps e at o m header w) r u tt) c.encode_owner-owner.ensures c.prepare.ensures in
     let same = names e o a.mark m c.encode-named.result c.encode-named.ensures in
     let s = subst (λ (x : StepPlan). HasStepped h u v x c.store_and_keep.result) same c.store_and_keep.ensures in
     let named = stepped h u v v (name_plan e o m) _ c.store_and_keep.result (Done m) s refl (ends h v (Done m) s.heap) in

@@ -1,5 +1,5 @@
 use Rattle.std.proofs.Common.{refl}
-use Rattle.core_world.specs.declared.name.Name.TheVariants.{Header, Owner, Recursions, Object}
+use Rattle.core_world.specs.declared.word_id.WordId.TheVariants.{Header, Owner, Recursions, Object}
 use Rattle.core_world.specs.Trees.MonitorSteps.{prepare_plan}
 use Rattle.heap_table.proofs.Parts.{can, rest_due, stepped, ends}
 use Rattle.object_monitor.proofs.inflates.prepare.Goals as goal
@@ -7,13 +7,13 @@ use Rattle.object_monitor.proofs.inflates.prepare.Goals as goal
 pub store-requires : goal.store-requires
 store-requires c =
     let a = c.args in
-    can a.heap.now a.pass.now a.why.now.task (prepare_plan a.why.now a.stage (Header a.monitor) a.header) _ c.requires.due refl c.requires.heap tt refl
+    can a.heap.now a.pass.now a.call.now.task (prepare_plan a.call.now a.stage (Header a.monitor) a.header) _ c.requires.due refl c.requires.heap tt refl
 
 pub store-requires-2 : goal.store-requires-2
 store-requires-2 c =
     let a = c.args in
     let h = a.heap.now in
-    let e = a.why.now in
+    let e = a.call.now in
     let s1 = c.store.ensures in
     let due1 = rest_due h a.pass.now e.task (prepare_plan e a.stage (Header a.monitor) a.header) _ c.requires.due refl c.store.new.pass c.store.result s1 in
     can h c.store.new.pass e.task (prepare_plan e a.stage (Owner a.monitor) a.owner) _ due1 refl s1.heap tt refl
@@ -22,7 +22,7 @@ pub store-requires-3 : goal.store-requires-3
 store-requires-3 c =
     let a = c.args in
     let h = a.heap.now in
-    let e = a.why.now in
+    let e = a.call.now in
     let s1 = c.store.ensures in
     let s2 = c.store-2.ensures in
     let due1 = rest_due h a.pass.now e.task (prepare_plan e a.stage (Header a.monitor) a.header) _ c.requires.due refl c.store.new.pass c.store.result s1 in
@@ -33,7 +33,7 @@ pub store-requires-4 : goal.store-requires-4
 store-requires-4 c =
     let a = c.args in
     let h = a.heap.now in
-    let e = a.why.now in
+    let e = a.call.now in
     let s1 = c.store.ensures in
     let s2 = c.store-2.ensures in
     let s3 = c.store-3.ensures in
@@ -46,7 +46,7 @@ pub returns : goal.returns
 returns c =
     let a = c.args in
     let h = a.heap.now in
-    let e = a.why.now in
+    let e = a.call.now in
     let o = a.object in
     let m = a.monitor in
     let last = c.store-4.new.pass in

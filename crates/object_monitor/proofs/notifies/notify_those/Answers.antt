@@ -24,7 +24,8 @@ loop-next-init c =
     let all : c.threads-count.result ≡ n = c.threads-count.ensures.same ∙ ap (λ (s : Shape). s.threads) c.shape.ensures in
     let few : n ≤ most_threads = omega (arith, all, c.threads-count.ensures.same, c.threads-count.ensures.limits.threads) in
     let sixteen : length a.words ≡ most_threads = search rules in (
-      first_on_its_way h a.why.now a.pass.now a.object n a.words a.first (omega (arith, few, sixteen)) c.requires.first c.requires.heap c.requires.room c.requires.due,
+      first_on_its_way h a.call.now a.pass.now a.object n a.words a.first
+          (omega (arith, few, sixteen)) c.requires.first c.requires.heap c.requires.room c.requires.due,
       length-set a.words a.first.0 0 ∙ sixteen,
     )
 
@@ -37,7 +38,7 @@ store-requires c =
     let all : c.threads-count.result ≡ n = c.threads-count.ensures.same ∙ ap (λ (s : Shape). s.threads) c.shape.ensures in
     let some : first_of (waiting a.object n l.words) ≡ Some (c.in-Some.next, c.in-Some.field-0-1) =
     sym (c.oldest.ensures ∙ ap (λ m. first_of (waiting a.object m l.words)) all) ∙ c.in-Some.is in
-    can_wake h a.why.now _ a.pass.now l.pass a.object n _ l.words l.thread l.woken c.encode_wait-word.result l.invariant.0 c.encode_wait-word.ensures
+    can_wake h a.call.now _ a.pass.now l.pass a.object n _ l.words l.thread l.woken c.encode_wait-word.result l.invariant.0 c.encode_wait-word.ensures
     (c.in-Some.next, c.in-Some.field-0-1) some
 
 pub bounds-words-next : goal.bounds-words-next
@@ -90,7 +91,7 @@ loop-next-preserved c =
     let some : first_of (waiting a.object n l.words) ≡ Some (c.in-Some.next, c.in-Some.field-0-1) =
     sym (c.oldest.ensures ∙ ap (λ m. first_of (waiting a.object m l.words)) all) ∙ c.in-Some.is in
     let sixteen = l.invariant.1 in (
-      woken_on h a.why.now _ a.pass.now l.pass a.object n _ l.words l.thread l.woken c.encode_wait-word.result l.invariant.0 c.encode_wait-word.ensures
+      woken_on h a.call.now _ a.pass.now l.pass a.object n _ l.words l.thread l.woken c.encode_wait-word.result l.invariant.0 c.encode_wait-word.ensures
           (c.in-Some.next, c.in-Some.field-0-1) some c.store.new.pass c.store.result c.store.ensures (omega (arith, few, sixteen)),
       length-set l.words c.in-Some.next 0 ∙ sixteen,
     )
@@ -104,7 +105,7 @@ log_store-requires c =
     let all : c.threads-count.result ≡ n = c.threads-count.ensures.same ∙ ap (λ (s : Shape). s.threads) c.shape.ensures in
     let oldest = c.oldest.ensures ∙ ap (λ m. first_of (waiting a.object m l.words)) all in
     let none = nobody a.object n l.words (λ t since some. c.in_default.not-Some (t, since) (oldest ∙ some)) in
-    can_end h a.why.now _ a.pass.now l.pass a.object n _ l.words l.thread l.woken c.encode_wait-word.result l.invariant.0 c.encode_wait-word.ensures none
+    can_end h a.call.now _ a.pass.now l.pass a.object n _ l.words l.thread l.woken c.encode_wait-word.result l.invariant.0 c.encode_wait-word.ensures none
 
 pub returns : goal.returns
 returns c =
@@ -115,5 +116,5 @@ returns c =
     let all : c.threads-count.result ≡ n = c.threads-count.ensures.same ∙ ap (λ (s : Shape). s.threads) c.shape.ensures in
     let oldest = c.oldest.ensures ∙ ap (λ m. first_of (waiting a.object m l.words)) all in
     let none = nobody a.object n l.words (λ t since some. c.in_default.not-Some (t, since) (oldest ∙ some)) in
-    ended h a.why.now _ a.pass.now l.pass a.object n _ l.words l.thread l.woken c.encode_wait-word.result l.invariant.0 c.encode_wait-word.ensures none
+    ended h a.call.now _ a.pass.now l.pass a.object n _ l.words l.thread l.woken c.encode_wait-word.result l.invariant.0 c.encode_wait-word.ensures none
     c.log_store.new.pass c.log_store.result c.log_store.ensures

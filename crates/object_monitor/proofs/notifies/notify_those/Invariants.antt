@@ -9,7 +9,7 @@ abbrev pub invariant-loop-next : goal.invariant-loop-next
 invariant-loop-next l =
     let n = l.heap.heap.shape.threads in
     let all = waiting l.object n l.fn.words in
-    Waking l.heap l.why (notify_those all l.why l.object) l.fn.pass l.pass l.object n (length all) l.words l.thread l.woken × (length l.words ≡ most_threads)
+    Waking l.heap l.call (notify_those all l.call l.object) l.fn.pass l.pass l.object n (length all) l.words l.thread l.woken × (length l.words ≡ most_threads)
 
 abbrev pub decreases-loop-next : goal.decreases-loop-next
 decreases-loop-next l = length (waiting l.object l.heap.heap.shape.threads l.words)

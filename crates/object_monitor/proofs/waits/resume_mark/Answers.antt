@@ -2,8 +2,8 @@ use Rattle.std.proofs.Common.{◌≡◌, ℕ, refl, sym, ap, ◌∙◌, subst, O
 use Rattle.mark_word.specs.declared.mark.MarkForm.{MarkForm}
 use Rattle.mark_word.specs.declared.mark.MarkForm.TheVariants.{Inflated}
 use Rattle.mark_word.specs.Mark.{read_mark}
-use Rattle.core_world.specs.declared.name.Name.TheVariants.{Mark}
-use Rattle.core_world.specs.Threads.Known.{Known}
+use Rattle.core_world.specs.declared.word_id.WordId.TheVariants.{Mark}
+use Rattle.core_world.specs.Threads.ThreadView.{ThreadView}
 use Rattle.core_world.specs.Trees.Plans.{load}
 use Rattle.core_world.specs.Trees.WaitSteps.{resume_owner_steps, resume_mark_at}
 use Rattle.heap_table.specs.Parts.{IsDueOn}
@@ -15,19 +15,19 @@ use Rattle.object_monitor.proofs.waits.resume_mark.Goals as goal
 pub load-mark-requires : goal.load-mark-requires
 load-mark-requires c =
     let a = c.args in
-    can a.heap.now a.pass.now a.why.now.task (load a.why.now (Mark a.object)) _ c.requires.due refl c.requires.heap tt refl
+    can a.heap.now a.pass.now a.call.now.task (load a.call.now (Mark a.object)) _ c.requires.due refl c.requires.heap tt refl
 
 pub resume_owner-requires-clause-due : goal.resume_owner-requires-clause-due
 resume_owner-requires-clause-due c =
     let a = c.args in
     let h = a.heap.now in
-    let e = a.why.now in
+    let e = a.call.now in
     let t = a.pass.now.known.thread in
     let q = c.load-mark.new.pass in
     let mark = c.load-mark.result in
     let s = c.load-mark.ensures in
     let m = c.in-Inflated.monitor in
-    let thread : q.known.thread ≡ t = ap (λ (x : Known). x.thread) s.known in
+    let thread : q.known.thread ≡ t = ap (λ (x : ThreadView). x.thread) s.known in
     let form : read_mark mark ≡ Some (Inflated m) = sym c.mark_of_word.ensures ∙ c.in-Some.is ∙ ap Some c.in-Inflated.is in
     let rest = rest_due h a.pass.now e.task (load e (Mark a.object)) _ c.requires.due refl q mark s in
     subst (λ (u : ℕ). IsDueOn h q e.task (resume_owner_steps e u a.saved a.object m)) (sym thread)
@@ -37,7 +37,7 @@ pub unreachable-requires : goal.unreachable-requires
 unreachable-requires c =
     let a = c.args in
     let h = a.heap.now in
-    let e = a.why.now in
+    let e = a.call.now in
     let t = a.pass.now.known.thread in
     let q = c.load-mark.new.pass in
     let mark = c.load-mark.result in

@@ -1,6 +1,6 @@
 use Rattle.std.proofs.Common.{sym, ◌∙◌, subst}
 use Rattle.outcome_search.specs.Keys.{IsFound}
-use Rattle.outcome_search.specs.Settled.{behind_next}
+use Rattle.outcome_search.specs.Settled.{after_next}
 use Rattle.outcome_search.proofs.Going.{unmade}
 use Rattle.outcome_search.proofs.Stepping.{none_where_spent, none_where_none, next_is, found_next}
 use Rattle.outcome_search.proofs.moves.step.Goals as goal
@@ -17,7 +17,7 @@ returns-then-not-make_next-clause-next c =
 pub returns-then-not-make_next-clause-found : goal.returns-then-not-make_next-clause-found
 returns-then-not-make_next-clause-found c =
     let m = c.args.machine.now in
-    subst (IsFound m.program c.args.fuel) (sym (unmade c.args.fuel m c.make_next.new.machine (behind_next m c.args.t)
+    subst (IsFound m.program c.args.fuel) (sym (unmade c.args.fuel m c.make_next.new.machine (after_next m c.args.t)
     (sym c.make_next.ensures.made ∙ c.if-not-make_next.true) c.make_next.ensures.machine)) c.requires.found
 
 pub words_of-requires : goal.words_of-requires

@@ -5,7 +5,8 @@ use Rattle.plain_machine.proofs.build.declared_objects.Goals as goal
 pub loop-definition-preserved : goal.loop-definition-preserved
 loop-definition-preserved c = record {
   items = c.loop-definition.invariant.items;
-  objects = new_objects_step _ _ _ _ _ _ c.loop-definition-test.true c.definition-item.is c.loop-definition.invariant.objects (rw c.slots_of_class-slots.ensures at c.in_ok-push_objects.ensures);
+  objects = new_objects_step _ _ _ _ _ _ c.loop-definition-test.true c.definition-item.is c.loop-definition.invariant.objects
+      (rw c.slots_of_class-slots.ensures at c.in_ok-push_objects.ensures);
 }
 
 pub returns-clause-total : goal.returns-clause-total

@@ -13,10 +13,13 @@ many c = omega (arith, c.objects_total.ensures, c.declared_total.ensures)
 
 pub returns-clause-objects : goal.returns-clause-objects
 returns-clause-objects c =
-    c.in_ok-push_objects.ensures ∙ ap (λ xs. xs ++ replicate (c.objects_total.result - c.declared_total.result) (new_object c.made_slots.result)) c.in_ok-objects.ensures.objects
+    c.in_ok-push_objects.ensures ∙ ap (λ xs. xs
+    ++ replicate (c.objects_total.result - c.declared_total.result) (new_object c.made_slots.result)) c.in_ok-objects.ensures.objects
     ∙ ap (λ n. new_objects (shape_from c.args.program.now.classes c.args.program.now.objects) ++ replicate n (new_object c.made_slots.result)) (many c)
-    ∙ ap (λ n. new_objects (shape_from c.args.program.now.classes c.args.program.now.objects) ++ replicate (made_total c.args.program.now) (new_object n)) c.made_slots.ensures
-    ∙ sym (new_objects_made (shape_from c.args.program.now.classes c.args.program.now.objects) (made_total c.args.program.now) 0 (made_slots c.args.program.now))
+    ∙ ap (λ n. new_objects (shape_from c.args.program.now.classes c.args.program.now.objects)
+    ++ replicate (made_total c.args.program.now) (new_object n)) c.made_slots.ensures
+    ∙ sym (new_objects_made (shape_from c.args.program.now.classes c.args.program.now.objects)
+    (made_total c.args.program.now) 0 (made_slots c.args.program.now))
 
 pub returns-clause-total : goal.returns-clause-total
 returns-clause-total c =

@@ -6,7 +6,13 @@ use Rattle.program_syntax.proofs.declare.with_objects.Goals as goal
 
 pub invariant_of-result : goal.invariant_of-result
 invariant_of-result c =
-    let d : ObjectDef = record { name = c.of-name.result; class = c.number_of-class.result; first = c.args.declared.total; size = c.args.size; array = c.args.array } in
+    let d : ObjectDef = record {
+      name = c.of-name.result;
+      class = c.number_of-class.result;
+      first = c.args.declared.total;
+      size = c.args.size;
+      array = c.args.array;
+    } in
     let one = length_push c.args.declared.objects d in
     let all = total_of-push c.args.declared.objects d in
     record {

@@ -1,5 +1,5 @@
 use Rattle.std.proofs.Common.{sym}
-use Rattle.program_syntax.proofs.BehindLines.{ahead_of}
+use Rattle.program_syntax.proofs.AfterLines.{ahead_of}
 use Rattle.program_syntax.proofs.reader.read_line.Goals as goal
 
 pub keyword_line-requires : goal.keyword_line-requires

@@ -2,7 +2,7 @@ use Rattle.std.proofs.Common.{◌≡◌, ◌-◌, ◌≤◌, [], length, None}
 use Rattle.run_io.specs.Sink.{Appends}
 use Rattle.run_io.proofs.buffered_sink.pass_on.Given as goal
 
--- what was written so far stands behind what the sink held
+-- what was written so far stands after what the sink held
 abbrev pub invariant-loop-count : goal.invariant-loop-count
 invariant-loop-count g l =
     let sink = g.K.Sink in

@@ -64,7 +64,8 @@ returns g c =
     let many : length rs ≡ c.args.heap.heap.shape.threads = done.many ∙ ap length c.into_vec-runners.ensures ∙ c.requires.runners.count in
     let heap = c.args.heap in
     let whole : c.close.result.logs ≡ logs_of c.of.result =
-    c.close.ensures.whole (subst (All (λ (p : PassSeen). p.limit ≡ heap.room)) (sym same) (all_whole heap p c.args.fuel rs done.runners c.requires.runners.room)) in
+    c.close.ensures.whole (subst (All (λ (p : PassSeen). p.limit ≡ heap.room)) (sym same)
+    (all_whole heap p c.args.fuel rs done.runners c.requires.runners.room)) in
     let closed : IsClosed c.args.heap c.of.result c.close.result = record {
       heap = c.close.ensures.heap;
       law = c.close.ensures.law;

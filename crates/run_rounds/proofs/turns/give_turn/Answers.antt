@@ -15,7 +15,7 @@ give-requires-clause-knows g c =
     let runner = c.slot_mut-runner.result.now in
     let same : t.0 ≡ runner =
     ap (λ (l : List (ℕ × RunnerSeen)). (get_or l 0 (0, t.0)).1) (sym (ap (λ (m : Me RunnerSeen SeatView). m.1) t.2) ∙ c.slot_mut-runner.ensures.value) in
-    let after = c.turn-outcome.new.runner in
+    let after = c.turn_unless_ended-outcome.new.runner in
     let none-left : rest c.args.mine.now.me.1 ≡ [] = ap (λ (m : Me RunnerSeen SeatView). rest m.1) t.2 in
     let lies = as_called g.C.Course.heap g.C.Course.program g.C.Course.fuel g.C.Course.tick h p c.args.fuel c.args.tick
     Ready c.args.place t.0 c.requires.course t.1 in
@@ -28,5 +28,5 @@ give-requires-clause-knows g c =
       as_course g.C.Course.heap g.C.Course.program g.C.Course.fuel g.C.Course.tick h p c.args.fuel c.args.tick
           c.word_after_turn-word.result c.args.place after c.requires.course
           (lies_on h p c.args.fuel c.args.tick Ready c.word_after_turn-word.result
-          c.args.place runner after now c.turn-outcome.ensures.gone c.word_after_turn-word.ensures),
+          c.args.place runner after now c.turn_unless_ended-outcome.ensures.gone c.word_after_turn-word.ensures),
     )

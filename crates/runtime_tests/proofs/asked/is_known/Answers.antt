@@ -10,8 +10,8 @@ use Rattle.heap_table.specs.Seen.{given_of}
 use Rattle.runtime_tests.proofs.asked.is_known.Goals as goal
 
 -- what a part of the log tells the log tells
-told_behind : (n : ℕ) (log : List Logged) (o : ℕ) → is_told (drop n log) o ≡ true → is_told log o ≡ true
-told_behind n log o e =
+told_after : (n : ℕ) (log : List Logged) (o : ℕ) → is_told (drop n log) o ≡ true → is_told log o ≡ true
+told_after n log o e =
     let tells = λ (l : Logged). tells_of o l.entry in
     ap (list_any tells) (sym (take-append-drop n log)) ∙ list_any-append tells (take n log) (drop n log) ∙ or_right (list_any tells (take n log)) _ e
 
@@ -25,4 +25,4 @@ returns-then-object-objects c = λ e.
     let shape = ap (λ (x : Shape). length x.objects) c.shape.ensures in
     let told : is_told (drop (given_of c.args.pass.now) log) o ≡ true = ap (λ l. is_told l o) (sym c.log.ensures) ∙ sym c.is_told.ensures ∙ e in
     and_from (is_object s o) (knows_by_log (numbering s) log o) (lt-ltb o (length s.objects) (omega (arith, below, count, shape)))
-    (or_right _ (is_told log o) (told_behind (given_of c.args.pass.now) log o told))
+    (or_right _ (is_told log o) (told_after (given_of c.args.pass.now) log o told))

@@ -1,5 +1,5 @@
 use Rattle.std.proofs.Common.{refl}
-use Rattle.core_world.specs.declared.answer.Why.TheVariants.{Stopping}
+use Rattle.core_world.specs.declared.answer.PendingCause.TheVariants.{Stopping}
 use Rattle.core_world.specs.Trees.Plans.{done_with, pending_for}
 use Rattle.heap_table.proofs.Parts.{can, last_step}
 use Rattle.safepoint.proofs.Forms.{picks, stands}

@@ -1,8 +1,8 @@
 use Rattle.std.proofs.Common.{◌==◌, false, refl, sym, ap, ◌∙◌, subst}
-use Rattle.core_world.specs.declared.name.Name.TheVariants.{Safepoint}
+use Rattle.core_world.specs.declared.word_id.WordId.TheVariants.{Safepoint}
 use Rattle.core_world.specs.declared.plan.StepPlan.{StepPlan}
 use Rattle.core_world.specs.Trees.SafepointSteps.{reached_word, released_word, release_plan}
-use Rattle.core_world.specs.Trees.Todo.{done, never}
+use Rattle.core_world.specs.Trees.StepTree.{done, unreachable}
 use Rattle.heap_table.specs.Stepping.{CanStep, HasStepped}
 use Rattle.heap_table.proofs.Parts.{can, last_step, passes}
 use Rattle.safepoint.proofs.Forms.{picks}
@@ -20,7 +20,7 @@ exchange-requires c =
 
 pub returns : goal.returns
 returns c =
-    let e = c.args.why.now in
+    let e = c.args.call.now in
     let h = c.args.heap.now in
     let p = c.args.pass.now in
     let q = c.exchange.new.pass in
@@ -33,4 +33,4 @@ returns c =
     let made = subst (λ (x : StepPlan). HasStepped h p q x found) plan c.exchange.ensures in
     let releases = release_plan (record e { check = false }) c.args.stage t in
     let hit = passes h p q e.task releases (λ n. n == reached_word t) (λ n. done tt) found c.requires.due refl made in
-    last_step h p q releases _ found _ made refl (picks (done tt) never hit)
+    last_step h p q releases _ found _ made refl (picks (done tt) unreachable hit)

@@ -1,8 +1,8 @@
 use Rattle.std.proofs.Common.{◌≡◌, ℕ, ◌==◌, eq-eqb, Bool, true, cond, if◌then◌else◌, refl, sym, ap, ◌∙◌, subst}
 use Rattle.mark_word.specs.Safe.{read_safe}
-use Rattle.core_world.specs.declared.answer.Turn.TheVariants.{Done}
-use Rattle.core_world.specs.declared.answer.Why.TheVariants.{Raced, Requested}
-use Rattle.core_world.specs.declared.name.Name.TheVariants.{Safepoint}
+use Rattle.core_world.specs.declared.answer.Progress.TheVariants.{Done}
+use Rattle.core_world.specs.declared.answer.PendingCause.TheVariants.{Raced, Requested}
+use Rattle.core_world.specs.declared.word_id.WordId.TheVariants.{Safepoint}
 use Rattle.core_world.specs.Trees.Plans.{swap, done_with, pending_for}
 use Rattle.core_world.specs.Trees.SafepointSteps.{has_requester, requested_by, request_plan}
 use Rattle.heap_table.specs.Stepping.{CanStep, HasStepped}
@@ -15,7 +15,7 @@ requested_by-left-requires-clause-range c = in_range _ _ c.requires.form
 
 pub exchange-found-requires : goal.exchange-found-requires
 exchange-found-requires c =
-    let e = c.args.why.now in
+    let e = c.args.call.now in
     let left : c.requested_by-left.result ≡ requested_by (read_safe c.args.word) c.args.pass.now.known.thread =
     c.requested_by-left.ensures ∙ λ i. requested_by (c.requires.form i) (c.thread.ensures.same i) in
     subst (λ (w : ℕ). CanStep c.args.heap.now c.args.pass.now (swap e Safepoint c.args.word w)) (sym left)
@@ -23,7 +23,7 @@ exchange-found-requires c =
 
 pub returns-then-found-word : goal.returns-then-found-word
 returns-then-found-word c =
-    let e = c.args.why.now in
+    let e = c.args.call.now in
     let h = c.args.heap.now in
     let p = c.args.pass.now in
     let word = c.args.word in

@@ -1,6 +1,6 @@
 use Rattle.std.proofs.Common.{◌≡◌, ℕ, length, refl, sym, ap, ◌∙◌, subst}
-use Rattle.core_world.specs.declared.act.Act.TheVariants.{Mask}
-use Rattle.core_world.specs.declared.name.Name.TheVariants.{Safepoint}
+use Rattle.core_world.specs.declared.act.Act.TheVariants.{FetchAnd}
+use Rattle.core_world.specs.declared.word_id.WordId.TheVariants.{Safepoint}
 use Rattle.core_world.specs.declared.plan.StepPlan.{StepPlan}
 use Rattle.core_world.specs.Trees.Plans.{quiet_plan}
 use Rattle.core_world.specs.Trees.SafepointSteps.{all_but, publish_log_plan, stop_plan}
@@ -10,7 +10,7 @@ use Rattle.safepoint.proofs.running.stop.Goals as goal
 
 pub store-requires : goal.store-requires
 store-requires c =
-    let e = c.args.why.now in
+    let e = c.args.call.now in
     let thread = sym c.thread-thread.ensures.same in
     let length_is = sym c.length-length.ensures.same in
     subst (CanStep c.args.heap.now c.args.pass.now) (λ i. publish_log_plan e (thread i) (length_is i))
@@ -18,7 +18,7 @@ store-requires c =
 
 pub mask-requires : goal.mask-requires
 mask-requires c =
-    let e = c.args.why.now in
+    let e = c.args.call.now in
     let h = c.args.heap.now in
     let p = c.args.pass.now in
     let q = c.store.new.pass in
@@ -29,5 +29,5 @@ mask-requires c =
     let made = subst (λ (x : StepPlan). HasStepped h p q x found) (λ i. publish_log_plan e (thread i) (length_is i)) c.store.ensures in
     let due = rest_due h p e.task publishes _ c.requires.due refl q found made in
     let bits : c.all_but.result ≡ all_but p.known.thread = c.all_but.ensures ∙ ap all_but thread in
-    subst (λ (b : ℕ). CanStep h q (quiet_plan e Safepoint (Mask b))) (sym bits)
+    subst (λ (b : ℕ). CanStep h q (quiet_plan e Safepoint (FetchAnd b))) (sym bits)
     (can h q e.task (stop_plan e p.known.thread) _ due refl c.store.ensures.heap tt refl)

@@ -1,5 +1,5 @@
 use Rattle.plain_monitor.specs.declared.entry.Value.TheVariants.{Nil}
-use Rattle.core_world.specs.declared.task.Task.TheVariants as task
+use Rattle.core_world.specs.declared.heap_call.HeapCall.TheVariants as task
 use Rattle.core_steps.specs.SmallWorlds.{neutral}
 use Rattle.solo_progress.proofs.SmallReady.{running_ready, running_may, entered_ready, first_may}
 use Rattle.solo_progress.proofs.SmallReady.{may_enter, may_stack_enter, may_hash, may_dump, may_request, may_print, may_finish, may_poll, may_stop}

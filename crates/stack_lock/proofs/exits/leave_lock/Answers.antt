@@ -3,25 +3,26 @@ use Rattle.mark_word.specs.declared.mark.MarkForm.{MarkForm}
 use Rattle.mark_word.specs.declared.mark.MarkForm.TheVariants.{Inflating, Inflated}
 use Rattle.mark_word.specs.Mark.{read_mark}
 use Rattle.core_world.specs.declared.answer.StackOut.TheVariants.{Monitor, Not}
-use Rattle.core_world.specs.declared.answer.Why.TheVariants as why
-use Rattle.core_world.specs.declared.name.Name.TheVariants.{Mark}
-use Rattle.core_world.specs.Threads.Known.{Local, local_of}
+use Rattle.core_world.specs.declared.answer.PendingCause.TheVariants as why
+use Rattle.core_world.specs.declared.word_id.WordId.TheVariants.{Mark}
+use Rattle.core_world.specs.Threads.ThreadView.{Local, local_of}
 use Rattle.core_world.specs.Trees.LockSteps.{stack_exit_at, stack_exit_by}
 use Rattle.core_world.specs.Trees.Plans.{load}
-use Rattle.heap_table.specs.Parts.{IsDueOn, HasRun}
+use Rattle.heap_table.specs.Parts.{IsDueOn, HasMadeSteps}
 use Rattle.heap_table.proofs.Parts.{can, rest_due, stepped, ends}
 use Rattle.stack_lock.proofs.Never.{never_left}
 use Rattle.heap_table.proofs.Ruled.{not_due}
 use Rattle.stack_lock.proofs.exits.leave_lock.Goals as goal
 
 pub load-mark-requires : goal.load-mark-requires
-load-mark-requires c = let a = c.args in can a.heap.now a.pass.now a.why.now.task (load a.why.now (Mark a.object)) _ c.requires.due refl c.requires.heap tt refl
+load-mark-requires c = let a = c.args in
+    can a.heap.now a.pass.now a.call.now.task (load a.call.now (Mark a.object)) _ c.requires.due refl c.requires.heap tt refl
 
 pub let_go-requires-clause-due : goal.let_go-requires-clause-due
 let_go-requires-clause-due c =
     let a = c.args in
     let h = a.heap.now in
-    let e = a.why.now in
+    let e = a.call.now in
     let l = local_of a.pass.now.known in
     let q = c.load-mark.new.pass in
     let mark = c.load-mark.result in
@@ -37,7 +38,7 @@ pub unreachable-requires : goal.unreachable-requires
 unreachable-requires c =
     let a = c.args in
     let h = a.heap.now in
-    let e = a.why.now in
+    let e = a.call.now in
     let l = local_of a.pass.now.known in
     let q = c.load-mark.new.pass in
     let mark = c.load-mark.result in
@@ -53,7 +54,7 @@ pub unreachable-requires-in-None : goal.unreachable-requires-in-None
 unreachable-requires-in-None c =
     let a = c.args in
     let h = a.heap.now in
-    let e = a.why.now in
+    let e = a.call.now in
     let l = local_of a.pass.now.known in
     let q = c.load-mark.new.pass in
     let mark = c.load-mark.result in
@@ -67,7 +68,7 @@ pub returns-in-Locked : goal.returns-in-Locked
 returns-in-Locked c =
     let a = c.args in
     let h = a.heap.now in
-    let e = a.why.now in
+    let e = a.call.now in
     let l = local_of a.pass.now.known in
     let q = c.load-mark.new.pass in
     let mark = c.load-mark.result in
@@ -77,14 +78,15 @@ returns-in-Locked c =
     let local : local_of q.known ≡ l = ap local_of s.known in
     let r = c.let_go.new.pass in
     let out = c.let_go.result in
-    let run = subst (λ (x : Local). HasRun h (stack_exit_by e x a.object a.header mark) q r out) local c.let_go.ensures in
-    stepped h a.pass.now q r plan _ mark out s refl (subst (λ (f : Option MarkForm). HasRun h (stack_exit_at f e l a.object a.header mark) q r out) (sym form) run)
+    let run = subst (λ (x : Local). HasMadeSteps h (stack_exit_by e x a.object a.header mark) q r out) local c.let_go.ensures in
+    stepped h a.pass.now q r plan _ mark out s refl
+    (subst (λ (f : Option MarkForm). HasMadeSteps h (stack_exit_at f e l a.object a.header mark) q r out) (sym form) run)
 
 pub returns-in-Inflating : goal.returns-in-Inflating
 returns-in-Inflating c =
     let a = c.args in
     let h = a.heap.now in
-    let e = a.why.now in
+    let e = a.call.now in
     let l = local_of a.pass.now.known in
     let q = c.load-mark.new.pass in
     let mark = c.load-mark.result in
@@ -92,13 +94,14 @@ returns-in-Inflating c =
     let s = c.load-mark.ensures in
     let form : read_mark mark ≡ Some Inflating = sym c.mark_of_word.ensures ∙ c.in-Some.is ∙ ap Some c.in-Inflating.is in
     let out = Not why.Inflating in
-    stepped h a.pass.now q q plan _ mark out s refl (subst (λ (f : Option MarkForm). HasRun h (stack_exit_at f e l a.object a.header mark) q q out) (sym form) (ends h q out s.heap))
+    stepped h a.pass.now q q plan _ mark out s refl
+    (subst (λ (f : Option MarkForm). HasMadeSteps h (stack_exit_at f e l a.object a.header mark) q q out) (sym form) (ends h q out s.heap))
 
 pub returns-in-Inflated : goal.returns-in-Inflated
 returns-in-Inflated c =
     let a = c.args in
     let h = a.heap.now in
-    let e = a.why.now in
+    let e = a.call.now in
     let l = local_of a.pass.now.known in
     let q = c.load-mark.new.pass in
     let mark = c.load-mark.result in
@@ -106,4 +109,5 @@ returns-in-Inflated c =
     let s = c.load-mark.ensures in
     let form : read_mark mark ≡ Some (Inflated c.in-Inflated.monitor) = sym c.mark_of_word.ensures ∙ c.in-Some.is ∙ ap Some c.in-Inflated.is in
     let out = Monitor c.in-Inflated.monitor in
-    stepped h a.pass.now q q plan _ mark out s refl (subst (λ (f : Option MarkForm). HasRun h (stack_exit_at f e l a.object a.header mark) q q out) (sym form) (ends h q out s.heap))
+    stepped h a.pass.now q q plan _ mark out s refl
+    (subst (λ (f : Option MarkForm). HasMadeSteps h (stack_exit_at f e l a.object a.header mark) q q out) (sym form) (ends h q out s.heap))

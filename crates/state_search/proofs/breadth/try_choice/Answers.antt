@@ -1,4 +1,5 @@
-use Rattle.std.proofs.Common.{rules, ◌≡◌, ◌<◌, ◌||◌, nat_lt, ℕ, Bool, true, false, List, Option, Some, if◌then◌else◌, length, slice_get, IsTrue, sym, ◌∙◌, subst}
+use Rattle.std.proofs.Common.{rules, ◌≡◌, ◌<◌, ◌||◌, nat_lt, ℕ, Bool, true, false, List, Option}
+use Rattle.std.proofs.Common.{Some, if◌then◌else◌, length, slice_get, IsTrue, sym, ◌∙◌, subst}
 use Rattle.std.proofs.lemmas.Bool.{false≢true}
 use Rattle.std.proofs.lemmas.Option.{same_Some}
 use Rattle.state_search.specs.Found.{Keys}

@@ -4,14 +4,15 @@ use Rattle.core_world.specs.declared.answer.IllegalMonitorState.{IllegalMonitorS
 use Rattle.core_world.specs.declared.answer.StackOut.TheVariants.{Not}
 use Rattle.core_world.specs.declared.answer.TooDeep.{TooDeep}
 use Rattle.core_world.specs.declared.answer.TooManyDumps.{TooManyDumps}
-use Rattle.core_world.specs.declared.answer.Turn.TheVariants.{Pending}
-use Rattle.core_world.specs.declared.answer.Why.TheVariants.{Raced}
+use Rattle.core_world.specs.declared.answer.Progress.TheVariants.{Pending}
+use Rattle.core_world.specs.declared.answer.PendingCause.TheVariants.{Raced}
 use Rattle.core_world.specs.Trees.LockSteps.{stack_exit_steps}
 use Rattle.core_world.specs.Trees.Operations.{enter_steps, exit_steps, wait_steps, notify_steps, notify_all_steps, hash_steps, dump_steps, check_steps}
 use Rattle.core_world.specs.Trees.SafepointSteps.{resume_steps, request_steps}
-use Rattle.step_history.proofs.Sights.{TurnSees, ResultSees, OutSees}
+use Rattle.step_history.proofs.Sights.{ProgressSees, ResultSees, OutSees}
 use Rattle.step_history.proofs.LockSights.{stack_exit_sights}
-use Rattle.step_history.proofs.CallSights.{enter_sights, exit_sights, wait_sights, notify_sights, notify_all_sights, hash_sights, dump_sights, check_sights, resume_sights, request_sights}
+use Rattle.step_history.proofs.CallSights.{enter_sights, exit_sights, wait_sights, notify_sights, notify_all_sights}
+use Rattle.step_history.proofs.CallSights.{hash_sights, dump_sights, check_sights, resume_sights, request_sights}
 use Rattle.step_history.proofs.Blamed.{call_blamed}
 use Rattle.step_history.proofs.blame.calls_race_only_with_another_thread.Goals as goal
 
@@ -42,7 +43,7 @@ returns-clause-notify_all c s k o now t e f xs =
 
 pub returns-clause-hash : goal.returns-clause-hash
 returns-clause-hash c s k o now t e f xs =
-    call_blamed (TurnSees {A = ℕ}) t (hash_steps s k o now) xs (Pending (Raced e f)) e f
+    call_blamed (ProgressSees {A = ℕ}) t (hash_steps s k o now) xs (Pending (Raced e f)) e f
     (λ ms sees. sees) (hash_sights s k o now [])
 
 pub returns-clause-dump : goal.returns-clause-dump
@@ -52,17 +53,17 @@ returns-clause-dump c s k t e f xs =
 
 pub returns-clause-check : goal.returns-clause-check
 returns-clause-check c s k t e f xs =
-    call_blamed (TurnSees {A = Bool}) t (check_steps s k) xs (Pending (Raced e f)) e f
+    call_blamed (ProgressSees {A = Bool}) t (check_steps s k) xs (Pending (Raced e f)) e f
     (λ ms sees. sees) (check_sights s k [])
 
 pub returns-clause-resume : goal.returns-clause-resume
 returns-clause-resume c p k t e f xs =
-    call_blamed (TurnSees {A = Unit {0}}) t (resume_steps p k) xs (Pending (Raced e f)) e f
+    call_blamed (ProgressSees {A = Unit {0}}) t (resume_steps p k) xs (Pending (Raced e f)) e f
     (λ ms sees. sees) (resume_sights p k [])
 
 pub returns-clause-request : goal.returns-clause-request
 returns-clause-request c p u t e f xs =
-    call_blamed (TurnSees {A = Unit {0}}) t (request_steps p u) xs (Pending (Raced e f)) e f
+    call_blamed (ProgressSees {A = Unit {0}}) t (request_steps p u) xs (Pending (Raced e f)) e f
     (λ ms sees. sees) (request_sights p u [])
 
 pub returns-clause-stack_exit : goal.returns-clause-stack_exit

@@ -11,5 +11,6 @@ use Rattle.sync_source.proofs.compiler.compile.Goals as goal
 
 pub compile_threads-requires : goal.compile_threads-requires
 compile_threads-requires c =
-    let all = all_weaker _ (λ (t : SyncThread). size (all_of t.body.statements.items) ≤ most_code) (λ t k. k.code_few) _ (all_unmap _ thread_text _ c.source.invariant.threads) in
+    let all = all_weaker _ (λ (t : SyncThread). size (all_of t.body.statements.items) ≤ most_code)
+    (λ t k. k.code_few) _ (all_unmap _ thread_text _ c.source.invariant.threads) in
     record { fits = subst (AllByRecursion (λ (t : SyncThread). size (all_of t.body.statements.items) ≤ most_code)) (sym c.items-3.ensures) all }

@@ -60,7 +60,8 @@ emit_if-returns t c =
     let p : past ≡ held + size b = omega (arith, c.block_size-2.ensures) in
     let e = c.in_ok-put.ensures ∙ ap (λ i. old ++ i ∷ []) c.jump_where.ensures in
     let g = c.in_ok-put-2.ensures ∙ ap (λ i. c.emit_block.new.code.items ++ i ∷ []) c.jump_to.ensures in
-    subst (λ z. OnOk r (c.emit_block-2.new.code.items ≡ z)) (put_if old _ _ _ c.args.test b o held past h p e c.in_ok-emit_block.ensures g) c.emit_block-2.ensures
+    subst (λ z. OnOk r (c.emit_block-2.new.code.items ≡ z))
+    (put_if old _ _ _ c.args.test b o held past h p e c.in_ok-emit_block.ensures g) c.emit_block-2.ensures
 
 pub emit_block-loop-statement-preserved : goal.emit_block-loop-statement-preserved
 emit_block-loop-statement-preserved t c =
@@ -68,7 +69,8 @@ emit_block-loop-statement-preserved t c =
     let xs = c.deref-statement-items.result.now in
     let x = c.statement-item.result in
     let later = all_of (drop (l.statement-index + 1) xs) in
-    let here : drop l.statement-index xs ≡ x ∷ drop (l.statement-index + 1) xs = drop_more xs l.statement-index x (omega arith) ∙ ap (λ y. y ∷ drop (l.statement-index + 1) xs) (sym c.statement-item.is) in
+    let here : drop l.statement-index xs ≡ x ∷ drop (l.statement-index + 1) xs =
+    drop_more xs l.statement-index x (omega arith) ∙ ap (λ y. y ∷ drop (l.statement-index + 1) xs) (sym c.statement-item.is) in
     let done = c.in_ok-emit_statement.ensures in (
       put_before _ _ x later done ∙ ap (λ ys. l.code.items ++ code_at (length l.code.items) (all_of ys)) (sym here) ∙ l.invariant.0,
       put_size _ _ x later done ∙ ap (λ ys. length l.code.items + size (all_of ys)) (sym here) ∙ l.invariant.1,
@@ -81,7 +83,10 @@ emit_block-emit_statement-requires t c =
     let xs = c.deref-statement-items.result.now in
     let x = c.statement-item.result in
     let later = all_of (drop (l.statement-index + 1) xs) in
-    let here : drop l.statement-index xs ≡ x ∷ drop (l.statement-index + 1) xs = drop_more xs l.statement-index x (omega arith) ∙ ap (λ y. y ∷ drop (l.statement-index + 1) xs) (sym c.statement-item.is) in
+    let here : drop l.statement-index xs ≡ x ∷ drop (l.statement-index + 1) xs =
+    drop_more xs l.statement-index x (omega arith) ∙ ap (λ y. y ∷ drop (l.statement-index + 1) xs) (sym c.statement-item.is) in
     let left = ap (λ ys. size (all_of ys)) here in
-    let whole = ap (λ ys. size (all_of ys)) c.deref-statement-items.ensures.value in
-    (omega (arith, left, whole, size-before x later, l.invariant.1, l.invariant.2, c.decreases), omega (arith, left, whole, size-before x later, l.invariant.1, c.requires.fits))
+    let whole = ap (λ ys. size (all_of ys)) c.deref-statement-items.ensures.value in (
+      omega (arith, left, whole, size-before x later, l.invariant.1, l.invariant.2, c.decreases),
+      omega (arith, left, whole, size-before x later, l.invariant.1, c.requires.fits),
+    )

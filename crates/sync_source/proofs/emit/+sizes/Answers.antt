@@ -78,7 +78,8 @@ block_size-loop-statement-preserved t c =
     let xs = c.deref-statement-items.result.now in
     let x = c.statement-item.result in
     let later = all_of (drop (l.statement-index + 1) xs) in
-    let here : drop l.statement-index xs ≡ x ∷ drop (l.statement-index + 1) xs = drop_more xs l.statement-index x (omega arith) ∙ ap (λ y. y ∷ drop (l.statement-index + 1) xs) (sym c.statement-item.is) in
+    let here : drop l.statement-index xs ≡ x ∷ drop (l.statement-index + 1) xs =
+    drop_more xs l.statement-index x (omega arith) ∙ ap (λ y. y ∷ drop (l.statement-index + 1) xs) (sym c.statement-item.is) in
     let left = ap (λ ys. size (all_of ys)) here in
     omega (arith, left, size-before x later, c.statement_size-sum.ensures, l.invariant)
 
@@ -88,7 +89,8 @@ block_size-statement_size-sum-requires t c =
     let xs = c.deref-statement-items.result.now in
     let x = c.statement-item.result in
     let later = all_of (drop (l.statement-index + 1) xs) in
-    let here : drop l.statement-index xs ≡ x ∷ drop (l.statement-index + 1) xs = drop_more xs l.statement-index x (omega arith) ∙ ap (λ y. y ∷ drop (l.statement-index + 1) xs) (sym c.statement-item.is) in
+    let here : drop l.statement-index xs ≡ x ∷ drop (l.statement-index + 1) xs =
+    drop_more xs l.statement-index x (omega arith) ∙ ap (λ y. y ∷ drop (l.statement-index + 1) xs) (sym c.statement-item.is) in
     let left = ap (λ ys. size (all_of ys)) here in
     (omega (arith, left, size-before x later, l.invariant, c.decreases), omega (arith, left, size-before x later, l.invariant, c.requires))
 
@@ -98,6 +100,7 @@ block_size-overflow_add-sum t c =
     let xs = c.deref-statement-items.result.now in
     let x = c.statement-item.result in
     let later = all_of (drop (l.statement-index + 1) xs) in
-    let here : drop l.statement-index xs ≡ x ∷ drop (l.statement-index + 1) xs = drop_more xs l.statement-index x (omega arith) ∙ ap (λ y. y ∷ drop (l.statement-index + 1) xs) (sym c.statement-item.is) in
+    let here : drop l.statement-index xs ≡ x ∷ drop (l.statement-index + 1) xs =
+    drop_more xs l.statement-index x (omega arith) ∙ ap (λ y. y ∷ drop (l.statement-index + 1) xs) (sym c.statement-item.is) in
     let left = ap (λ ys. size (all_of ys)) here in
     omega (arith, left, size-before x later, l.invariant, c.requires, c.statement_size-sum.ensures)

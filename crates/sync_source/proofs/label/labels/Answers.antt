@@ -9,9 +9,11 @@ pub loop-number-preserved : goal.loop-number-preserved
 loop-number-preserved c =
     let l = c.loop-number in
     let within : l.number < length c.in_ok-marks.marks.items = omega (arith, l.invariant.marks.count, c.loop-number-test.true) in
-    let marked : c.index.result.now ≡ list_any (goes_to l.number) c.args.code.now = c.index.ensures ∙ get_or_default c.in_ok-marks.marks.items l.number c.index.result.now false within ∙ l.invariant.marks.marked l.number within in
+    let marked : c.index.result.now ≡ list_any (goes_to l.number) c.args.code.now = c.index.ensures
+    ∙ get_or_default c.in_ok-marks.marks.items l.number c.index.result.now false within ∙ l.invariant.marks.marked l.number within in
     record {
-      labels = labels_go (λ n. list_any (goes_to n) c.args.code.now) _ _ _ l.number _ c.index.result.now c.loop-number-test.true marked c.in_ok-put_label.ensures l.invariant.labels;
+      labels = labels_go (λ n. list_any (goes_to n) c.args.code.now) _ _ _ l.number _
+          c.index.result.now c.loop-number-test.true marked c.in_ok-put_label.ensures l.invariant.labels;
       from = omega arith;
       to = omega (arith, c.loop-number-test.true);
       count = l.invariant.count;

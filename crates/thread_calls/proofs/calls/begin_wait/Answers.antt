@@ -1,18 +1,18 @@
 use Rattle.std.proofs.Common.{eq-eqb, true, refl, sym, ap, ◌∙◌, subst, arith}
-use Rattle.core_world.specs.declared.answer.Turn.TheVariants.{Done, Pending}
+use Rattle.core_world.specs.declared.answer.Progress.TheVariants.{Done, Pending}
 use Rattle.core_calls.proofs.Called.{called}
 use Rattle.core_calls.proofs.NamedCalls.{wait_named}
-use Rattle.core_world.specs.declared.task.Task.TheVariants as task
+use Rattle.core_world.specs.declared.heap_call.HeapCall.TheVariants as task
 use Rattle.heap_table.specs.Resting.{start_now}
 use Rattle.plain_monitor.specs.declared.entry.Entry.TheVariants as entry
-use Rattle.plain_machine.specs.declared.call.Asked.TheVariants.{Calls, Resumes}
-use Rattle.plain_machine.specs.declared.call.Call.TheVariants as call
+use Rattle.plain_machine.specs.declared.monitor_call.NextEntry.TheVariants.{Calls, Resumes}
+use Rattle.plain_machine.specs.declared.monitor_call.MonitorCall.TheVariants as call
 use Rattle.machine_laws.proofs.ReachedAsked.{asked_of}
-use Rattle.thread_frame.specs.Frames.{before_call, frame_behind}
+use Rattle.thread_frame.specs.Frames.{before_call, frame_after}
 use Rattle.thread_calls.specs.Advances.{HasAdvanced}
 use Rattle.thread_calls.specs.Between.{state_by}
 use Rattle.thread_calls.proofs.Advanced.{asks_call}
-use Rattle.thread_calls.proofs.Behind.{came}
+use Rattle.thread_calls.proofs.After.{came}
 use Rattle.thread_calls.proofs.May.{may_wait, held_is, thread_is}
 use Rattle.thread_calls.proofs.OnTime.{timed_at}
 use Rattle.thread_calls.proofs.Waited.{wait_done, wait_left, wait_let_go}
@@ -50,9 +50,9 @@ returns-in-Done-clause-advanced g c =
     let f = before_call a.frame.now (call.Wait a.object) in
     let q = c.wait.new.pass in
     let e = c.in-Ok.ensures in
-    let moved = c.follow-in-Done.ensures ∙ ap (λ x. frame_behind x (Resumes a.object) (entry.Resume a.object)) c.follow.ensures in
+    let moved = c.follow-in-Done.ensures ∙ ap (λ x. frame_after x (Resumes a.object) (entry.Resume a.object)) c.follow.ensures in
     subst (λ x. HasAdvanced a.heap.now a.program.now a.fuel a.pass.now q f x (Done true)) (sym moved)
-    (wait_done a.heap.now a.program.now a.fuel a.pass.now f r.heap r.may a.object c.time_now.result q (came e.rests e.run) c.in-Ok.turn
+    (wait_done a.heap.now a.program.now a.fuel a.pass.now f r.heap r.may a.object c.time_now.result q (came e.rests e.run) c.in-Ok.progress
     e.says e.stands e.run.ran c.in-Done.field-0 refl c.in-Done.is)
 
 pub returns-then-has_let_go-clause-advanced : goal.returns-then-has_let_go-clause-advanced
@@ -63,7 +63,7 @@ returns-then-has_let_go-clause-advanced g c =
     let q = c.wait.new.pass in
     let e = c.in-Ok.ensures in
     subst (λ x. HasAdvanced a.heap.now a.program.now a.fuel a.pass.now q f x (Pending c.in-Pending.why)) (sym c.follow-then-has_let_go.ensures)
-    (wait_let_go a.heap.now a.program.now a.fuel a.pass.now f r.heap r.may a.object c.time_now.result q (came e.rests e.run) c.in-Ok.turn
+    (wait_let_go a.heap.now a.program.now a.fuel a.pass.now f r.heap r.may a.object c.time_now.result q (came e.rests e.run) c.in-Ok.progress
     e.says e.stands e.run.ran c.in-Pending.why refl c.in-Pending.is (sym c.has_let_go.ensures ∙ c.if-has_let_go.true))
 
 pub returns-else-has_let_go-clause-advanced : goal.returns-else-has_let_go-clause-advanced
@@ -74,7 +74,7 @@ returns-else-has_let_go-clause-advanced g c =
     let q = c.wait.new.pass in
     let e = c.in-Ok.ensures in
     subst (λ x. HasAdvanced a.heap.now a.program.now a.fuel a.pass.now q f x (Pending c.in-Pending.why)) (sym c.stand_before.ensures)
-    (wait_left a.heap.now a.program.now a.fuel a.pass.now f r.heap r.may a.object c.time_now.result q (came e.rests e.run) c.in-Ok.turn
+    (wait_left a.heap.now a.program.now a.fuel a.pass.now f r.heap r.may a.object c.time_now.result q (came e.rests e.run) c.in-Ok.progress
     e.says e.stands e.run.ran c.in-Pending.why refl c.in-Pending.is (sym c.has_let_go.ensures ∙ c.if-has_let_go.false))
 
 pub returns-in-Done-clause-timed : goal.returns-in-Done-clause-timed

@@ -12,5 +12,5 @@ returns-in-Calling c =
     record {
       may = subst (MayAdvance a.heap.now a.program.now a.fuel a.pass.now) at c.requires.may;
       placed = subst (IsAtInstruction a.frame.now.place a.frame.now.made) (c.mode.ensures.is ∙ mode) c.mode.ensures.placed;
-      from = λ q e turn. subst (λ f. HasAdvanced a.heap.now a.program.now a.fuel a.pass.now q f e turn) (sym at);
+      from = λ q e progress. subst (λ f. HasAdvanced a.heap.now a.program.now a.fuel a.pass.now q f e progress) (sym at);
     }

@@ -48,5 +48,6 @@ returns-in-Arrived c =
     record {
       may = arrived a.heap.now a.program.now a.fuel a.pass.now a.frame.now r.heap r.may r.local f leads c.in-Arrived.call refl same;
       placed = c.in-Arrived.ensures.walked.1;
-      from = λ q e turn. from_there a.heap.now a.program.now a.fuel a.pass.now a.frame.now r.heap r.may r.local f leads q e turn c.in-Arrived.call refl same;
+      from = λ q e progress. from_there a.heap.now a.program.now a.fuel a.pass.now
+          a.frame.now r.heap r.may r.local f leads q e progress c.in-Arrived.call refl same;
     }

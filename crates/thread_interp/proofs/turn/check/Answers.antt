@@ -26,8 +26,8 @@ check_stuck-stuck-requires c =
     may_check a.heap.now a.program.now a.fuel a.pass.now c.set_running.new.pass a.frame.now c.requires.free c.requires.live
     c.set_running.result c.set_running.ensures.ready c.in_default.ensures.ready.stands.goes
 
-pub set_still-requires : goal.set_still-requires
-set_still-requires c =
+pub set_stopped-requires : goal.set_stopped-requires
+set_stopped-requires c =
     let a = c.args in
     let e = c.check_stuck-stuck.ensures in
     record {
@@ -38,13 +38,13 @@ set_still-requires c =
 pub returns-clause-runner : goal.returns-clause-runner
 returns-clause-runner c =
     let a = c.args in
-    is_runner a.heap.now a.program.now a.fuel c.check_stuck-stuck.new.pass c.set_still.new.pass a.frame.now c.set_still.ensures.still
+    is_runner a.heap.now a.program.now a.fuel c.check_stuck-stuck.new.pass c.set_stopped.new.pass a.frame.now c.set_stopped.ensures.still
 
 pub returns-clause-thread : goal.returns-clause-thread
 returns-clause-thread c =
     let a = c.args in
     let e = c.check_stuck-stuck.ensures in
-    c.set_still.ensures.still.thread
+    c.set_stopped.ensures.still.thread
     ∙ check_thread a.heap.now a.program.now a.fuel c.set_running.new.pass c.check_stuck-stuck.new.pass a.frame.now
     c.set_running.ensures.ready.on c.requires.live e.rests c.check_stuck-stuck.result e.run e.says e.stands
     ∙ c.set_running.ensures.ready.thread
@@ -61,7 +61,7 @@ pub returns-clause-log : goal.returns-clause-log
 returns-clause-log c =
     let a = c.args in
     let e = c.check_stuck-stuck.ensures in
-    c.set_still.ensures.still.log
+    c.set_stopped.ensures.still.log
     ∙ check_log a.heap.now a.program.now a.fuel c.set_running.new.pass c.check_stuck-stuck.new.pass a.frame.now
     c.set_running.ensures.ready.on c.requires.live e.rests c.check_stuck-stuck.result e.run e.says e.stands
     ∙ c.set_running.ensures.ready.log
@@ -69,14 +69,14 @@ returns-clause-log c =
 pub returns-clause-looked : goal.returns-clause-looked
 returns-clause-looked c =
     let a = c.args in
-    let behind = c.check_stuck-stuck in
+    let after = c.check_stuck-stuck in
     inl (record {
       ready = c.set_running.new.pass;
-      behind = behind.new.pass;
+      after = after.new.pass;
       set_running = c.in_default.ensures.ready.stands.set;
-      ran = behind.ensures.run.ran;
-      finds = behind.ensures.finds;
-      set_still = set_still a.heap.now a.program.now a.fuel behind.new.pass c.set_still.new.pass a.frame.now c.set_still.ensures.still;
+      ran = after.ensures.run.ran;
+      finds = after.ensures.finds;
+      set_still = set_still a.heap.now a.program.now a.fuel after.new.pass c.set_stopped.new.pass a.frame.now c.set_stopped.ensures.still;
     })
 
 pub returns-clause-stands : goal.returns-clause-stands
@@ -86,7 +86,7 @@ returns-clause-stands c =
     let left =
     check_left a.heap.now a.program.now a.fuel c.set_running.new.pass c.check_stuck-stuck.new.pass a.frame.now
     c.set_running.ensures.ready.on c.requires.live e.rests c.check_stuck-stuck.result e.run e.says e.stands in
-    has_checked a.heap.now a.program.now a.fuel c.check_stuck-stuck.new.pass c.set_still.new.pass a.frame.now c.set_still.ensures.still
+    has_checked a.heap.now a.program.now a.fuel c.check_stuck-stuck.new.pass c.set_stopped.new.pass a.frame.now c.set_stopped.ensures.still
     c.check_stuck-stuck.result left e.stands
 
 pub returns-in-Pending-clause-timed : goal.returns-in-Pending-clause-timed
@@ -95,5 +95,5 @@ returns-in-Pending-clause-timed c = c.set_running.ensures.timed
 pub returns-clause-timed : goal.returns-clause-timed
 returns-clause-timed c = λ tick timed.
     let e = c.check_stuck-stuck in
-    c.set_still.ensures.timed tick
+    c.set_stopped.ensures.timed tick
     (check_timed c.args.heap.now c.set_running.new.pass e.new.pass e.result e.ensures.run tick (c.set_running.ensures.timed tick timed))

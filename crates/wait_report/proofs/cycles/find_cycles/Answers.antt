@@ -17,6 +17,7 @@ returns c =
     let n = length c.items.result.now in
     let none : n - c.loop-first.first ≡ 0 = omega arith in
     let whole : cycles_from c.args.machine.now n 0 n ≡ c.of.result =
-    c.loop-first.invariant ∙ ap (λ k. c.loop-first.cycles.items ++ cycles_from c.args.machine.now n c.loop-first.first k) none ∙ append-nil c.loop-first.cycles.items ∙ sym c.of.ensures in
+    c.loop-first.invariant ∙ ap (λ k. c.loop-first.cycles.items ++ cycles_from c.args.machine.now n c.loop-first.first k) none
+    ∙ append-nil c.loop-first.cycles.items ∙ sym c.of.ensures in
     let count : n ≡ length c.args.machine.now.threads = ap length c.items.ensures ∙ ap (λ p. length p.threads) c.program.view_is ∙ sym c.requires in
     subst (AreCycles c.args.machine.now) whole (all_are_cycles c.args.machine.now n count)

@@ -1,4 +1,4 @@
-use Rattle.core_locks.proofs.RefutedMarks.{no_header_stored, no_header_exchanged}
+use Rattle.core_locks.proofs.monitor.RefutedMarks.{no_header_stored, no_header_exchanged}
 use Rattle.core_locks.proofs.refused.inflating.no_inflation_without_the_header.Goals as goal
 
 pub returns-clause-stored : goal.returns-clause-stored

@@ -1,4 +1,4 @@
-use Rattle.core_locks.proofs.RefutedMarks.{no_owner_resting, no_owner_open, no_owner_exchanged}
+use Rattle.core_locks.proofs.monitor.RefutedMarks.{no_owner_resting, no_owner_open, no_owner_exchanged}
 use Rattle.core_locks.proofs.refused.inflating.no_inflation_without_the_owner.Goals as goal
 
 pub returns-clause-resting : goal.returns-clause-resting

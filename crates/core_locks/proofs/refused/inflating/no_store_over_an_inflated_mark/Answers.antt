@@ -1,4 +1,4 @@
-use Rattle.core_locks.proofs.RefutedMarks.{no_store_keeps, no_store_spends}
+use Rattle.core_locks.proofs.monitor.RefutedMarks.{no_store_keeps, no_store_spends}
 use Rattle.core_locks.proofs.refused.inflating.no_store_over_an_inflated_mark.Goals as goal
 
 pub returns-clause-kept : goal.returns-clause-kept

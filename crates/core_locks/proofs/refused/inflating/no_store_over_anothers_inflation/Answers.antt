@@ -1,4 +1,4 @@
-use Rattle.core_locks.proofs.RefutedMarks.{no_store_names, no_store_inflates}
+use Rattle.core_locks.proofs.monitor.RefutedMarks.{no_store_names, no_store_inflates}
 use Rattle.core_locks.proofs.refused.inflating.no_store_over_anothers_inflation.Goals as goal
 
 pub returns-clause-named : goal.returns-clause-named

@@ -1,4 +1,4 @@
-use Rattle.core_locks.proofs.RefutedOwners.{no_exit_with_recursions, no_wait_with_recursions}
+use Rattle.core_locks.proofs.monitor.RefutedOwners.{no_exit_with_recursions, no_wait_with_recursions}
 use Rattle.core_locks.proofs.refused.owning.no_free_monitor_with_recursions.Goals as goal
 
 pub returns-clause-exit : goal.returns-clause-exit

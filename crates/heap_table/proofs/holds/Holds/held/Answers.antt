@@ -20,5 +20,6 @@ loop-i-preserved c =
 pub returns-clause-held : goal.returns-clause-held
 returns-clause-held c =
     let holds = c.args.self.now in
-    let all = number_used (λ h. names c.args.object h) 0 c.loop-i.i holds.words (none_named c.args.object) (λ i l. holds.rest i (omega (arith, l, c.loop-i-test.false))) in
+    let all = number_used (λ h. names c.args.object h) 0 c.loop-i.i holds.words
+    (none_named c.args.object) (λ i l. holds.rest i (omega (arith, l, c.loop-i-test.false))) in
     c.loop-i.invariant.0 ∙ all

@@ -8,13 +8,15 @@ pub returns-then-self-i-clause-place : goal.returns-then-self-i-clause-place
 returns-then-self-i-clause-place c =
     let words = c.args.self.now.words in
     let n : length words ≡ most_holds = search rules in
-    sym (position_or_len_is (λ h. h == c.args.word) words c.loop-i.i 0 (omega (arith, n, c.loop-i-test.true, c.args.self.now.within)) c.loop-i.invariant (λ l. eq-eqb _ _ c.if-self-i.true))
+    sym (position_or_len_is (λ h. h == c.args.word) words c.loop-i.i 0
+    (omega (arith, n, c.loop-i-test.true, c.args.self.now.within)) c.loop-i.invariant (λ l. eq-eqb _ _ c.if-self-i.true))
 
 pub returns-then-word-eq0-clause-place : goal.returns-then-word-eq0-clause-place
 returns-then-word-eq0-clause-place c =
     let holds = c.args.self.now in
     let n : length holds.words ≡ most_holds = search rules in
-    sym (unused c.args.word holds.used holds.words (omega (arith, n, holds.within)) holds.rest (λ k l. c.loop-i.invariant k (omega (arith, l, c.loop-i-test.false))) c.if-word-eq0.true)
+    sym (unused c.args.word holds.used holds.words (omega (arith, n, holds.within)) holds.rest
+    (λ k l. c.loop-i.invariant k (omega (arith, l, c.loop-i-test.false))) c.if-word-eq0.true)
 
 pub returns-else-word-eq0-clause-place : goal.returns-else-word-eq0-clause-place
 returns-else-word-eq0-clause-place c =

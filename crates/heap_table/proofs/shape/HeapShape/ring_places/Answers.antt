@@ -9,7 +9,8 @@ returns-clause-places c =
     let s : Shape = record { threads = own.threads; classes = own.classes; declared = own.declared; objects = own.objects.items } in
     let next = c.next_power_of_two.ensures in
     let objects = c.len.ensures in
-    ring_is s c.next_power_of_two.result next.power.0 c.self.invariant.0 next.power.1 (omega (arith, next.lower_bound, objects)) (omega (arith, next.upper_bound, objects))
+    ring_is s c.next_power_of_two.result next.power.0 c.self.invariant.0 next.power.1
+    (omega (arith, next.lower_bound, objects)) (omega (arith, next.upper_bound, objects))
     ∙ ap (λ (s : Shape). 2 ^ ring_bits s) c.self.view_is
 
 pub returns-clause-few : goal.returns-clause-few

@@ -22,5 +22,5 @@ returns-clause-leads c =
     let holds = counts_from 0 c.args.objects c.args.pass.now.known.holds in
     let f = c.args.self.now in
     let some : 0 < f.fuel = omega (arith, c.fuel.ensures, c.if-fuel-eq0.false) in
-    ap (λ (g : FrameSeen). next_state p t holds g) c.make.ensures.moved
-    ∙ walks p (code_of p t) (locals_of p t) holds f f.mode _ c.requires.local some c.sees-next.ensures.next
+    ap (λ (g : FrameSeen). next_state p t holds g) c.apply.ensures.moved
+    ∙ walks p (code_of p t) (locals_of p t) holds f f.mode _ c.requires.local some c.decode_next-next.ensures.next

@@ -1,0 +1,17 @@
+pub mod enter_exit
+pub mod bias
+pub mod Counts
+pub mod Opening
+pub mod LastEntry
+pub mod Owners
+pub mod Takings
+pub mod Quiets
+pub mod Paths
+pub mod Whole
+pub mod Leaning
+pub mod Beside
+pub mod Logged
+pub mod TakenLogs
+pub mod QuietKinds
+pub mod LoggedKinds
+pub mod RefusedCounts

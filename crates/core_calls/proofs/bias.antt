@@ -1,0 +1,3 @@
+-- Biases and their revocation.
+pub mod BiasSay
+pub mod RevocationSpends

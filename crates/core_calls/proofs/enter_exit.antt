@@ -1,0 +1,6 @@
+-- Enters and exits, by lock records and hold words.
+pub mod LocksSay
+pub mod EntersSay
+pub mod ShortCalls
+pub mod StaysLocks
+pub mod NamedLocks

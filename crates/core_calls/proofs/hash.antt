@@ -1,0 +1,2 @@
+-- Identity hashes, and the draws for them.
+pub mod HashSay

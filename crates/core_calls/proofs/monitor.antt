@@ -1,0 +1,2 @@
+-- Inflation, and the words of monitors.
+pub mod MonitorsSay

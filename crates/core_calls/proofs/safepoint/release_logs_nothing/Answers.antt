@@ -1,0 +1,9 @@
+use Rattle.core_calls.proofs.Runs.{tells}
+use Rattle.core_calls.proofs.OtherCallsSay.{release_call_says}
+use Rattle.core_calls.proofs.safepoint.release_logs_nothing.Goals as goal
+
+pub returns-clause-steps : goal.returns-clause-steps
+returns-clause-steps c = release_call_says
+
+pub returns-clause-run : goal.returns-clause-run
+returns-clause-run c k shape start before after answer ran = tells (release_call_says k) ran

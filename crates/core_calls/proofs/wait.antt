@@ -1,0 +1,7 @@
+-- Waiting, and waking those who wait.
+pub mod WaitsSay
+pub mod WaitCallsSay
+pub mod Waiters
+pub mod WhoIsWoken
+pub mod StaysWaits
+pub mod NamedWaits

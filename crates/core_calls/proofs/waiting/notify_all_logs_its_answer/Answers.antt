@@ -1,9 +1,0 @@
-use Rattle.core_calls.proofs.Runs.{tells}
-use Rattle.core_calls.proofs.WaitCallsSay.{notify_all_says}
-use Rattle.core_calls.proofs.waiting.notify_all_logs_its_answer.Goals as goal
-
-pub returns-clause-steps : goal.returns-clause-steps
-returns-clause-steps c = notify_all_says
-
-pub returns-clause-run : goal.returns-clause-run
-returns-clause-run c s k o now shape start before after answer ran = tells (notify_all_says s k o now) ran

@@ -1,5 +1,0 @@
-use Rattle.core_counts.proofs.QuietKinds.{looks}
-use Rattle.core_counts.proofs.kinds.a_look_keeps_the_law_of_biases.Goals as goal
-
-pub returns : goal.returns
-returns c = looks

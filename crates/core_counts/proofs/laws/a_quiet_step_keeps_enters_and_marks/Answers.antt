@@ -1,5 +1,0 @@
-use Rattle.core_counts.proofs.Quiets.{quiet_keeps}
-use Rattle.core_counts.proofs.laws.a_quiet_step_keeps_enters_and_marks.Goals as goal
-
-pub returns : goal.returns
-returns c = quiet_keeps

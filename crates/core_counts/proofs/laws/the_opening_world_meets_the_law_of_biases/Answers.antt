@@ -1,5 +1,0 @@
-use Rattle.core_counts.proofs.Opening.{opening_meets}
-use Rattle.core_counts.proofs.laws.the_opening_world_meets_the_law_of_biases.Goals as goal
-
-pub returns : goal.returns
-returns c = opening_meets

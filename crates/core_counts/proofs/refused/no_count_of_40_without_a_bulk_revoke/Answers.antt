@@ -1,5 +1,0 @@
-use Rattle.core_counts.proofs.RefusedCounts.{no_missing_revoke}
-use Rattle.core_counts.proofs.refused.no_count_of_40_without_a_bulk_revoke.Goals as goal
-
-pub returns : goal.returns
-returns c = no_missing_revoke

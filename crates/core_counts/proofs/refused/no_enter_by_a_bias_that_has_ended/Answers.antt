@@ -1,5 +1,0 @@
-use Rattle.core_counts.proofs.RefusedEnters.{no_ended_bias}
-use Rattle.core_counts.proofs.refused.no_enter_by_a_bias_that_has_ended.Goals as goal
-
-pub returns : goal.returns
-returns c = λ w P t e o p path within may v by ended. no_ended_bias w P t o p path e within may v by ended

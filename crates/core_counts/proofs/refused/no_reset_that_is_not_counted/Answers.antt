@@ -1,5 +1,0 @@
-use Rattle.core_counts.proofs.RefusedCounts.{no_uncounted_reset}
-use Rattle.core_counts.proofs.refused.no_reset_that_is_not_counted.Goals as goal
-
-pub returns : goal.returns
-returns c = no_uncounted_reset

@@ -1,9 +1,0 @@
-use Rattle.core_counts.proofs.Beside.{beside_keeps}
-use Rattle.core_counts.proofs.Leaning.{exchange_leaves}
-use Rattle.core_counts.proofs.steps.a_step_beside_the_biases_keeps_the_law_of_biases.Goals as goal
-
-pub returns-clause-keeps : goal.returns-clause-keeps
-returns-clause-keeps c = λ w t p beside law. beside_keeps w t p law beside
-
-pub returns-clause-exchange : goal.returns-clause-exchange
-returns-clause-exchange c = exchange_leaves

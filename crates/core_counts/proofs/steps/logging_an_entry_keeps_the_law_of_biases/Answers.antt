@@ -1,5 +1,0 @@
-use Rattle.core_counts.proofs.Logged.{entry_logged}
-use Rattle.core_counts.proofs.steps.logging_an_entry_keeps_the_law_of_biases.Goals as goal
-
-pub returns : goal.returns
-returns c = entry_logged

@@ -1,5 +1,0 @@
-use Rattle.core_counts.proofs.HoldStored.{hold_stored}
-use Rattle.core_counts.proofs.steps.storing_a_hold_word_keeps_the_law_of_biases.Goals as goal
-
-pub returns : goal.returns
-returns c = hold_stored

@@ -1,5 +1,0 @@
-use Rattle.core_locks.proofs.Fetches.{of_nobody}
-use Rattle.core_locks.proofs.deflating.a_claim_gives_a_monitor_of_nobody.Goals as goal
-
-pub returns : goal.returns
-returns c = of_nobody

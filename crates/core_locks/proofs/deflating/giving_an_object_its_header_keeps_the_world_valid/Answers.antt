@@ -1,5 +1,0 @@
-use Rattle.core_locks.proofs.Detaches.{detaches}
-use Rattle.core_locks.proofs.deflating.giving_an_object_its_header_keeps_the_world_valid.Goals as goal
-
-pub returns : goal.returns
-returns c = detaches

@@ -1,5 +1,0 @@
-use Rattle.core_locks.proofs.Enqueues.{enqueues}
-use Rattle.core_locks.proofs.deflating.storing_into_the_ring_keeps_the_world_valid.Goals as goal
-
-pub returns : goal.returns
-returns c = enqueues

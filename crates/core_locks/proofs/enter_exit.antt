@@ -1,0 +1,22 @@
+-- Enters and exits, by lock records and hold words.
+pub mod MarkHolds
+pub mod Displaces
+pub mod Seizes
+pub mod EnterTakes
+pub mod EnterFits
+pub mod EnterLogs
+pub mod TakenStamps
+pub mod HoldCounts
+pub mod HoldClears
+pub mod HoldWays
+pub mod HoldCleared
+pub mod ExitEntries
+pub mod LastExit
+pub mod ExitLeaves
+pub mod ExitHolds
+pub mod ExitMarks
+pub mod RefutedExits
+pub mod RefutedExchanges
+pub mod HoldSets
+pub mod HoldLaw
+pub mod RefutedOwning

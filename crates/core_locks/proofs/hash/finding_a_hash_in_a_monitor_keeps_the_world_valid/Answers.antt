@@ -1,0 +1,8 @@
+use Rattle.core_locks.proofs.hash.HashFinds.{finds_in_header, looks_in_header}
+use Rattle.core_locks.proofs.hash.finding_a_hash_in_a_monitor_keeps_the_world_valid.Goals as goal
+
+pub returns-clause-found : goal.returns-clause-found
+returns-clause-found c = finds_in_header
+
+pub returns-clause-none : goal.returns-clause-none
+returns-clause-none c = looks_in_header

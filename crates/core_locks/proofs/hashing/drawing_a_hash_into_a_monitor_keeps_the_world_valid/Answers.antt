@@ -1,8 +1,0 @@
-use Rattle.core_locks.proofs.HashHeader.{draws_header, draw_misses_header}
-use Rattle.core_locks.proofs.hashing.drawing_a_hash_into_a_monitor_keeps_the_world_valid.Goals as goal
-
-pub returns-clause-hit : goal.returns-clause-hit
-returns-clause-hit c = draws_header
-
-pub returns-clause-miss : goal.returns-clause-miss
-returns-clause-miss c = draw_misses_header

@@ -1,8 +1,0 @@
-use Rattle.core_locks.proofs.HashFinds.{finds_in_record, looks_in_record}
-use Rattle.core_locks.proofs.hashing.finding_a_hash_in_an_own_record_keeps_the_world_valid.Goals as goal
-
-pub returns-clause-found : goal.returns-clause-found
-returns-clause-found c = finds_in_record
-
-pub returns-clause-none : goal.returns-clause-none
-returns-clause-none c = looks_in_record

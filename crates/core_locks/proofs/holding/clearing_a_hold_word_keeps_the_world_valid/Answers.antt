@@ -1,5 +1,0 @@
-use Rattle.core_locks.proofs.HoldCleared.{cleared_valid}
-use Rattle.core_locks.proofs.holding.clearing_a_hold_word_keeps_the_world_valid.Goals as goal
-
-pub returns : goal.returns
-returns c = cleared_valid

@@ -1,5 +1,0 @@
-use Rattle.core_locks.proofs.Seizes.{seizes}
-use Rattle.core_locks.proofs.marking.exchanging_a_neutral_mark_keeps_the_world_valid.Goals as goal
-
-pub returns : goal.returns
-returns c = seizes

@@ -1,5 +1,0 @@
-use Rattle.core_locks.proofs.Displaces.{displaces}
-use Rattle.core_locks.proofs.marking.storing_a_displaced_word_keeps_the_world_valid.Goals as goal
-
-pub returns : goal.returns
-returns c = displaces

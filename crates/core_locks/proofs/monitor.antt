@@ -1,0 +1,22 @@
+-- Inflation, and the words of monitors.
+pub mod Places
+pub mod MonitorSeen
+pub mod Claims
+pub mod Fetches
+pub mod Prepares
+pub mod Counting
+pub mod OwnerTurns
+pub mod TakesOver
+pub mod SwapLaws
+pub mod Takes
+pub mod Grabs
+pub mod Names
+pub mod InflationOf
+pub mod NamesLaws
+pub mod Inflates
+pub mod Frees
+pub mod Supplies
+pub mod RefutedCopies
+pub mod RefutedInflations
+pub mod RefutedMarks
+pub mod RefutedOwners

@@ -1,0 +1,119 @@
+-- A thread clears the owner word of a monitor, and so logs its last Exit.
+use Rattle.core_locks.proofs.Prelude.{◌≡◌, ◌≢◌, ◌⊎◌, ℕ, ◌<◌, ◌||◌, ne_eqb, Bool, true, List, Some, refl, sym, ap, ◌∙◌, subst, arith, inl, inr}
+use Rattle.core_locks.proofs.Prelude.{same_Some, is_thread, PlainObject, take_entry, Exit, Mark, Owner, Recursions, StepPlan, monitor_in}
+use Rattle.core_locks.proofs.Prelude.{inflation_in, bears, ThreadView, World, with_word_and_known, Lock, Open, BiasedTo, OnRecord, OwnedBy, lock}
+use Rattle.core_locks.proofs.Prelude.{marks, who, holder, hold_count, monitor_of, owner_at, waits_at, owner_lock, Stays, IsKeptOrNamed, SeenStays}
+use Rattle.core_locks.proofs.Prelude.{CallContext, known_hit, Fits, IsOwner, owner_zero, fits_running, MayFree, free_plan, LogsValid}
+use Rattle.core_locks.proofs.Clauses.{parts_of, seen, forms, biases, recursions, hashes, AllHold}
+use Rattle.core_locks.proofs.enter_exit.ExitEntries.{objects_where, exit_parts, exit_are}
+use Rattle.core_locks.proofs.enter_exit.HoldWays.{saw_thread_owns}
+use Rattle.core_locks.proofs.enter_exit.LastExit.{freed, MayExit, IsExit, inside, owned as owned_before, letting_go_taken as takes_exit}
+use Rattle.core_locks.proofs.enter_exit.LastExit.{owner_back, was_locked, recursions_law, last_step}
+use Rattle.core_locks.proofs.MarkMeanings.{forms_owned}
+use Rattle.core_locks.proofs.monitor.MonitorSeen.{uncounted_named}
+use Rattle.core_locks.proofs.monitor.OwnerTurns.{owned_locks, lock_now, lock_forth, locks_turn, heads_turn}
+use Rattle.core_locks.proofs.OwnSeen.{seen_as}
+use Rattle.core_locks.proofs.Steps.{noting, IsStep, next, stepped, step_fits, holds_next, inflates_stay}
+
+module _ (w : World) (P : List PlainObject) (t : ℕ) (e : CallContext) (o c p s : ℕ)
+    (within : t < w.shape.threads) (may : MayFree w.shape (w.known t) o c s) (v : Fits w P) where
+  abbrev plan : StepPlan
+  plan = free_plan e o c p
+
+  abbrev l : ThreadView
+  l = known_hit w.shape w.start plan (w.words (Owner c)) (w.known t)
+
+  abbrev x : World
+  x = with_word_and_known (Owner c) 0 t l w
+
+  abbrev Q : List PlainObject
+  Q = objects_where P o (freed P o)
+
+  step : IsStep w t l noting
+  step = record { within = within; mine = refl; others = λ k. refl }
+
+  may_exit : MayExit w.shape (w.known t) o s
+  may_exit = search may
+
+  exit_it : IsExit (w.known t) l o p
+  exit_it = record { grows = refl; stage = refl; draws = refl }
+
+  owned : (owner_at P o t ≡ true) × (hold_count o (w.known t).holds ≡ (monitor_of P o).count)
+  owned = owned_before step P o p s may_exit exit_it v
+
+  letting_go_taken : take_entry P t (Exit o) ≡ Some Q
+  letting_go_taken = takes_exit step P o p s may_exit exit_it v
+
+  -- THE LOCK was the thread's by the monitor, and is open
+  mark_names : monitor_in (marks w o) ≡ Some c
+  mark_names = let saw = may.inflated in ap monitor_in (v.seen.stays t (Mark o) saw.0 saw.1 (inl (may.runs, inr (inl (c, saw.2))))) ∙ saw.2
+
+  thread_owns : lock w o ≡ OwnedBy t
+  thread_owns = saw_thread_owns w P t o may.runs v c (omega (arith, within, v.limits.threads)) owned.0 may.inflated may.owner
+
+  count_zero : w.words (Recursions c) ≡ 0
+  count_zero = v.seen.stays t (Recursions c) 0 may.recursions (inl (may.runs, inr (o, mark_names, ap (λ (b : Bool). b || bears (w.known t).stage o) owned.0)))
+
+  abbrev locks : ℕ → Lock
+  locks = owned_locks w c 0
+
+  now : (i : ℕ) → ((i ≡ o) × (locks i ≡ Open)) ⊎ ((i ≢ o) × (locks i ≡ lock w i))
+  now = lock_now w P o c 0 (OwnedBy t) Open v mark_names thread_owns (ap owner_lock owner_zero)
+
+  forth : (i : ℕ) (f : Lock) → lock w i ≡ f → (OwnedBy t ≡ f → ⊥) → locks i ≡ f
+  forth = lock_forth w P o c 0 (OwnedBy t) Open v mark_names thread_owns (ap owner_lock owner_zero)
+
+  -- nobody else owns the object or bears it
+  holder_is : who w o ≡ Some t
+  holder_is = ap (λ f. holder f (λ u. hold_count o (w.known u).holds)) thread_owns
+
+  -- WHAT WAS SEEN. Nobody else counts on the words of a monitor that the mark of the thread's object names.
+  uncounted : (u r : ℕ) → u ≢ t → Stays w (w.known u) (owner_at P) u (Owner c) r → w.words (Owner c) ≡ r → ⊥
+  uncounted u r d h is = uncounted_named w P o c u v mark_names (ap (λ a. is_thread a u) holder_is ∙ ne_eqb t u (λ q. d (sym q))) (Owner c) r refl h
+
+  seen_law : SeenStays x (owner_at Q) (waits_at P)
+  seen_law =
+      let inflates : inflation_in l.stage ≡ inflation_in (w.known t).stage = sym (ap inflation_in may.calm) in
+      let held : (i : ℕ) → (owner_at P i t || bears l.stage i) ≡ true
+      → (owner_at P i t || bears (w.known t).stage i) ≡ true = λ i h. ap (λ f. owner_at P i t || bears f i) may.calm ∙ h in
+      let named : IsKeptOrNamed w (w.known t) c = inr (o, mark_names) in
+      seen_as w P t plan (search (may.runs, inflates, held, named, uncounted)) (owner_at Q)
+      (λ i u h. (owner_back step P o p s may_exit exit_it v i u h).1) (waits_at P) (λ i h. h) v
+
+  abbrev n : World
+  n = next w t l noting x.words
+
+  all_after : AllHold (exit_parts w (stepped w t l x.words) P locks (parts_of n Q))
+  all_after seen = holds_next step (λ y. SeenStays y (owner_at Q) (waits_at P)) x.words seen_law
+  all_after forms = forms_owned c 0 v.forms (subst (IsOwner w.shape) (sym owner_zero) tt)
+  all_after biases = record {
+    hashless = v.biases.hashless;
+    nobody = v.biases.nobody;
+    unheld = λ i u b d. v.biases.unheld i u b (λ g. d (forth i (BiasedTo u) g (λ f. cc f)));
+  }
+  all_after recursions = recursions_law step P o p s may_exit exit_it v holder_is locks now (marks w)
+      (λ i a h. h) (λ a h. ap (λ k. w.words (Recursions k)) (same_Some _ _ (sym h ∙ mark_names)) ∙ count_zero)
+  all_after hashes = record {
+    stands = v.hashes.stands;
+    records = v.hashes.records;
+    on_record = λ i u q f. v.hashes.on_record i u q
+        (was_locked step P o p s may_exit exit_it v holder_is locks now i (OnRecord u q) f (λ g. cc g)).1;
+  }
+  all_after c = last_step step P o p s may_exit exit_it v holder_is locks now c
+
+  freed_fits : Fits x Q
+  freed_fits =
+      let stay = inflates_stay step (sym (ap inflation_in may.calm)) in
+      step_fits step x.words Q (exit_parts w (stepped w t l x.words) P locks (parts_of n Q))
+      (exit_are step x.words P o (freed P o) (inside step P o p s may_exit exit_it v) refl refl locks stay refl
+      (locks_turn w t noting c 0 l stay) (heads_turn w t noting c 0 l stay)) all_after
+
+-- the law
+pub frees_owner : (e : CallContext) (o m p stamp : ℕ) → LogsValid (λ w t. MayFree w.shape (w.known t) o m stamp) (λ w t. free_plan e o m p) (Exit o)
+frees_owner e o m p stamp w P t within may valid =
+    let v = fits_running w P t may.runs valid in
+    record {
+      now = Q w P t e o m p stamp within may v;
+      taken = letting_go_taken w P t e o m p stamp within may v;
+      valid = inl (freed_fits w P t e o m p stamp within may v);
+    }

@@ -1,5 +1,0 @@
-use Rattle.core_locks.proofs.Grabs.{grabs_free}
-use Rattle.core_locks.proofs.monitors.exchanging_a_free_owner_keeps_the_world_valid.Goals as goal
-
-pub returns : goal.returns
-returns c = grabs_free

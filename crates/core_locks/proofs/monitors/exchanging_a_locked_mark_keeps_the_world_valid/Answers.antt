@@ -1,5 +1,0 @@
-use Rattle.core_locks.proofs.Inflates.{inflates_locked}
-use Rattle.core_locks.proofs.monitors.exchanging_a_locked_mark_keeps_the_world_valid.Goals as goal
-
-pub returns : goal.returns
-returns c = inflates_locked

@@ -1,5 +1,0 @@
-use Rattle.core_locks.proofs.Frees.{frees_owner}
-use Rattle.core_locks.proofs.monitors.freeing_a_monitor_keeps_the_world_valid.Goals as goal
-
-pub returns : goal.returns
-returns c = frees_owner

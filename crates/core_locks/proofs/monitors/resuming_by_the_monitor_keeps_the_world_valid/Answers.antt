@@ -1,6 +1,0 @@
-use Rattle.core_locks.proofs.Restores.{restores_recursions}
-use Rattle.core_locks.proofs.Regains.{regains_free}
-use Rattle.core_locks.proofs.monitors.resuming_by_the_monitor_keeps_the_world_valid.Goals as goal
-
-pub returns : goal.returns
-returns c = record { owner = regains_free; recursions = restores_recursions }

@@ -1,5 +1,0 @@
-use Rattle.core_locks.proofs.RefutedDeflations.{no_deflation_another}
-use Rattle.core_locks.proofs.refused.deflating.no_deflation_of_another_monitor.Goals as goal
-
-pub returns : goal.returns
-returns c = no_deflation_another

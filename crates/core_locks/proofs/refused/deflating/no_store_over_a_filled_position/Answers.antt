@@ -1,5 +1,0 @@
-use Rattle.core_locks.proofs.RefutedClaims.{no_store_filled}
-use Rattle.core_locks.proofs.refused.deflating.no_store_over_a_filled_position.Goals as goal
-
-pub returns : goal.returns
-returns c = no_store_filled

@@ -1,5 +1,0 @@
-use Rattle.core_locks.proofs.RefutedWaits.{no_notify_all_that_misses_one}
-use Rattle.core_locks.proofs.refused.waiting.no_notify_all_that_misses_one.Goals as goal
-
-pub returns : goal.returns
-returns c = no_notify_all_that_misses_one

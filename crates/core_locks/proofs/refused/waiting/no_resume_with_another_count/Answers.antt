@@ -1,5 +1,0 @@
-use Rattle.core_locks.proofs.RefutedWaits.{no_resume_with_another_count}
-use Rattle.core_locks.proofs.refused.waiting.no_resume_with_another_count.Goals as goal
-
-pub returns : goal.returns
-returns c = no_resume_with_another_count

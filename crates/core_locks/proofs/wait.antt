@@ -1,0 +1,25 @@
+-- Waiting, and waking those who wait.
+pub mod LeavesLists
+pub mod RaiseStamps
+pub mod WaitStores
+pub mod WaitLaws
+pub mod ResumeLogs
+pub mod LeavesStamps
+pub mod LeavesStates
+pub mod LeavesPlain
+pub mod Leaves
+pub mod TellNobody
+pub mod InWait
+pub mod LetsGo
+pub mod Restores
+pub mod Regains
+pub mod Saves
+pub mod TellLists
+pub mod Wakes
+pub mod WakeForms
+pub mod WakesNext
+pub mod WakesLog
+pub mod WakesCalls
+pub mod WakeOrder
+pub mod RefutedWaits
+pub mod RefutedResumes

@@ -1,5 +1,0 @@
-use Rattle.core_locks.proofs.RaiseStamps.{raising_valid}
-use Rattle.core_locks.proofs.waiting.raising_a_stamp_keeps_the_world_valid.Goals as goal
-
-pub returns : goal.returns
-returns c = raising_valid

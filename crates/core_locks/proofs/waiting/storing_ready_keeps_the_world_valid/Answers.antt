@@ -1,5 +1,0 @@
-use Rattle.core_locks.proofs.WaitLaws.{ready_valid}
-use Rattle.core_locks.proofs.waiting.storing_ready_keeps_the_world_valid.Goals as goal
-
-pub returns : goal.returns
-returns c = ready_valid

@@ -1,5 +1,0 @@
-use Rattle.core_locks.proofs.WakesNext.{waking_next_valid}
-use Rattle.core_locks.proofs.waking.telling_one_of_several_keeps_the_world_valid.Goals as goal
-
-pub returns : goal.returns
-returns c = waking_next_valid

@@ -1,0 +1,10 @@
+-- Biases and their revocation.
+pub mod BiasRules
+pub mod RevocationTrees
+pub mod Revocations
+pub mod BehindRevocations
+pub mod AskedRevocations
+pub mod BiasFacts
+pub mod KeptHeaders
+pub mod BiasEnters
+pub mod Unbiases

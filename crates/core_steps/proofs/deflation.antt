@@ -1,0 +1,4 @@
+-- Idle monitors that are given back, and the ring that they go to.
+pub mod Ringed
+pub mod Deflations
+pub mod AllDeflations

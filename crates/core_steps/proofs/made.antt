@@ -1,0 +1,2 @@
+-- Objects that are made at run time.
+pub mod CreateCall

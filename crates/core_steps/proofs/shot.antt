@@ -1,0 +1,2 @@
+-- Dumps and their shots.
+pub mod DumpCall

@@ -1,0 +1,2 @@
+-- Biases and their revocation.
+pub mod LookWhileRevoking

@@ -1,0 +1,2 @@
+-- The safepoint word, and what threads do at a reached safepoint.
+pub mod SafeBits

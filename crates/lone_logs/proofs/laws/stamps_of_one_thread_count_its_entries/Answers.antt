@@ -1,5 +1,0 @@
-use Rattle.lone_logs.proofs.OneLog.{stamps_count}
-use Rattle.lone_logs.proofs.laws.stamps_of_one_thread_count_its_entries.Goals as goal
-
-pub returns : goal.returns
-returns c = stamps_count

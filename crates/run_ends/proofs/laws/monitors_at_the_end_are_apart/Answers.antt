@@ -1,5 +1,0 @@
-use Rattle.run_ends.proofs.Monitors.{monitors_are_apart}
-use Rattle.run_ends.proofs.laws.monitors_at_the_end_are_apart.Goals as goal
-
-pub returns : goal.returns
-returns c = monitors_are_apart

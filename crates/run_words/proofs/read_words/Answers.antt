@@ -1,6 +1,0 @@
-use Rattle.std.specs.Prelude.{string_bytes}
-use Rattle.run_words.proofs.Runs.{accepted_short}
-use Rattle.run_words.proofs.read_words.Goals as goal
-
-pub returns-in_default-clause-refused : goal.returns-in_default-clause-refused
-returns-in_default-clause-refused c e = accepted_short (λ w. string_bytes w) c.args.words.now c.in_default.len_below

@@ -1,9 +1,0 @@
-use Rattle.std.proofs.Common.{lit<}
-use Rattle.std.proofs.lemmas.Str.Pattern.{strip_prefix_char}
-use Rattle.run_words.proofs.Texts.{behind_hyphen_by_strip}
-use Rattle.run_words.proofs.words.behind_hyphen.Goals as goal
-
-pub returns : goal.returns
-returns c =
-    let text = c.args.word.now in
-    behind_hyphen_by_strip c.strip_prefix.result text (strip_prefix_char 45 text c.strip_prefix.result c.strip_prefix.ensures.cases (lit< tt))
