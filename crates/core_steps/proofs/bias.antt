@@ -2,7 +2,7 @@
 pub mod BiasRules
 pub mod RevocationTrees
 pub mod Revocations
-pub mod BehindRevocations
+pub mod AfterRevocations
 pub mod AskedRevocations
 pub mod BiasFacts
 pub mod KeptHeaders
