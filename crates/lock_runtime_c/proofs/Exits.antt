@@ -35,15 +35,16 @@ made_not out (Err e) is full = let a : kind out ≡ 2 = ap kind is in absurd (om
 -- a log with that room isn't full
 roomy : (n : ℕ) (p : PassSeen) → Fits p n → 1 ≤ n → (nat_le (length p.known.log + 1) p.limit && nat_le (length p.known.log + 1) log_limit) ≡ true
 roomy n p kept some =
-    let (page, stamps) = (kept.page, kept.stamps) in
+    let page = kept.page in
+    let stamps = kept.stamps in
     and_from _ _ (le-leb (length p.known.log + 1) p.limit (omega (arith, page, some))) (le-leb (length p.known.log + 1) log_limit (omega (arith, stamps, some)))
 
 -- what bars the exit is a misuse
 barred_not : (b : Bool) (why : Option Misuse) (out : Outcome) → b ≡ false → or_else (option_map Misused why) (if b then Some Full else None) ≡ Some out
     → kind out ≡ 4 → ⊥
-barred_not b (Some why) out no is full = let a : kind out ≡ 3 = ap kind (sym (same_Some _ _ is)) in absurd (omega (arith, a, full))
-barred_not false None out no is full = absurd (cc is)
-barred_not true None out no is full = absurd (cc no)
+barred_not b (Some why) out off is full = let a : kind out ≡ 3 = ap kind (sym (same_Some _ _ is)) in absurd (omega (arith, a, full))
+barred_not false None out off is full = absurd (cc is)
+barred_not true None out off is full = absurd (cc off)
 
 told_not : (h : HeapSeen) (p q : PassSeen) (o : ℕ) (out : Outcome) (by : Option Outcome) → barred h p (Exit o) ≡ by → is_full p (Exit o) ≡ false
     → ToldBy by h (Exit o) p q out → kind out ≡ 4 → ⊥

@@ -1,6 +1,6 @@
 -- Each call leaves the room that the log has to keep.
 use Rattle.std.proofs.Common.{◌≡◌, ℕ, zero, suc, ◌+◌, ◌≤◌, ◌==◌, not, cond, ltb-true, Bool, true, false, List, []}
-use Rattle.std.proofs.Common.{◌∷◌, length, slice_index, Ok, Err, None, refl, sym, ap, ◌∙◌, subst, arith, inl, inr}
+use Rattle.std.proofs.Common.{◌∷◌, length, slice_index, Ok, Err, None, refl, sym, ap, ◌∙◌, subst, arith}
 use Rattle.std.proofs.lemmas.Bool.{and_parts}
 use Rattle.mark_word.specs.Hold.{read_hold}
 use Rattle.plain_monitor.specs.declared.entry.Entry.{Entry}

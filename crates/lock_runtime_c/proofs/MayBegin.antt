@@ -1,6 +1,6 @@
 -- What a call asks, where no reason is found why it can't begin.
 use Rattle.std.proofs.Common.{◌≡◌, ℕ, ◌+◌, ◌≤◌, ◌<◌, ◌==◌, ◌&&◌, ◌||◌, not, cond, is_none, nat_lt, nat_le, Bool, true, false, List, []}
-use Rattle.std.proofs.Common.{◌∷◌, length, Option, None, Some, refl, sym, ap, ◌∙◌, subst, arith, lt-ltb, le-leb, ltb-true, leb-true}
+use Rattle.std.proofs.Common.{◌∷◌, length, Option, None, Some, refl, sym, ap, ◌∙◌, arith, lt-ltb, le-leb, ltb-true, leb-true}
 use Rattle.std.specs.Prelude.{is_some, if◌then◌else◌, option_map}
 use Rattle.std.proofs.lemmas.Bool.{eqb-true, and_parts, and_from}
 use Rattle.std.specs.List.{list_all}
@@ -10,8 +10,7 @@ use Rattle.plain_monitor.specs.declared.entry.Value.TheVariants as value
 use Rattle.core_world.specs.Clauses.Lengths.{log_limit}
 use Rattle.core_world.specs.Clauses.Safepoints.{ends}
 use Rattle.core_world.specs.Locks.{count_where}
-use Rattle.core_world.specs.Threads.ThreadView.{ThreadView}
-use Rattle.core_world.specs.Threads.References.{has_reference, has_value, is_value_over}
+use Rattle.core_world.specs.Threads.References.{has_reference, has_value}
 use Rattle.core_world.specs.Threads.Stages.{one_if}
 use Rattle.core_world.specs.Trees.Operations.{goes_on_with}
 use Rattle.core_world.specs.Trees.Calls.{may_begin, may_operate, most_logged}
@@ -27,13 +26,12 @@ use Rattle.heap_table.specs.Resting.{MayCall, MayOperate, Rests}
 use Rattle.heap_table.specs.Seen.{HeapSeen, PassSeen}
 use Rattle.heap_table.proofs.Resting.{at_rest}
 use Rattle.lock_runtime.proofs.Declared.{declared_known}
-use Rattle.lock_runtime_c.specs.LogRoom.{Fits, is_full, room_for}
-use Rattle.lock_runtime_c.specs.Reasons.{first_reason, goes_on, if_so, of_check, of_holds, of_object, of_operands, of_slot}
-use Rattle.lock_runtime_c.specs.Reasons.{of_standing, of_stopped, of_value, operation, or_else, other_operation}
+use Rattle.lock_runtime_c.specs.LogRoom.{Fits, is_full}
+use Rattle.lock_runtime_c.specs.Reasons.{first_reason, goes_on, if_so, of_check, of_holds, of_object, of_slot}
+use Rattle.lock_runtime_c.specs.Reasons.{of_standing, of_stopped, of_value, or_else, other_operation}
 use Rattle.lock_runtime_c.specs.Told.{barred}
 use Rattle.lock_runtime_c.specs.declared.outcome.Misuse.{Misuse}
 use Rattle.lock_runtime_c.specs.declared.outcome.Misuse.TheVariants as misuse
-use Rattle.lock_runtime_c.specs.declared.outcome.Outcome.{Outcome}
 use Rattle.lock_runtime_c.specs.declared.outcome.Outcome.TheVariants.{Full, Misused}
 use Rattle.lock_runtime_c.specs.inner.MayMake.{MayMake}
 
@@ -168,16 +166,15 @@ module _ (h : HeapSeen) (p : PassSeen) (rests : Rests h p) where
   waits o now n none room some most =
       let (stand, object) = neither _ _ none in
       let r = room.stamps in
-      and_from _ _ (known h p rests o object)
-      (and_from _ _ (acts (Some (op.Wait, o)) n stand room some)
-      (le-leb (length p.known.log + most_logged p.known (task.Wait o now)) log_limit (omega (arith, r, most))))
+      and_from _ _ (and_from _ _ (known h p rests o object) (acts (Some (op.Wait, o)) n stand room some))
+      (le-leb (length p.known.log + most_logged p.known (task.Wait o now)) log_limit (omega (arith, r, most)))
 
   may_get : (o slot n : ℕ) → or_else (of_standing p.known None) (of_slot h.heap.shape o slot) ≡ None → Fits p n → 1 ≤ n
       → may_begin h.heap.shape h.heap.biasing p.known (task.Get o slot) ≡ true
   may_get o slot n none room some =
       let (stand, there) = neither _ _ none in
       let (object, slot_is) = slot_there h p rests o slot there in
-      and_from _ _ object (and_from _ _ slot_is (acts None n stand room some))
+      and_from _ _ (and_from _ _ object slot_is) (acts None n stand room some)
 
   may_put : (o slot : ℕ) (v : Value) (n : ℕ) → or_else (of_standing p.known None) (or_else (of_slot h.heap.shape o slot) (of_value h.heap.shape v)) ≡ None
       → Fits p n → 1 ≤ n → may_begin h.heap.shape h.heap.biasing p.known (task.Put o slot v) ≡ true
@@ -185,7 +182,7 @@ module _ (h : HeapSeen) (p : PassSeen) (rests : Rests h p) where
       let (stand, operands) = neither _ _ none in
       let (there, is_one) = neither _ _ operands in
       let (object, slot_is) = slot_there h p rests o slot there in
-      and_from _ _ object (and_from _ _ slot_is (and_from _ _ (value_known h p rests v is_one) (acts None n stand room some)))
+      and_from _ _ (and_from _ _ (and_from _ _ object slot_is) (value_known h p rests v is_one)) (acts None n stand room some)
 
   may_print : (v : Value) (n : ℕ) → or_else (of_standing p.known None) (of_value h.heap.shape v) ≡ None → Fits p n → 1 ≤ n
       → may_begin h.heap.shape h.heap.biasing p.known (task.Print v) ≡ true

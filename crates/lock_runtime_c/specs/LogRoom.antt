@@ -5,7 +5,7 @@ use Rattle.core_world.specs.declared.heap_call.HeapCall.TheVariants.{Enter, Exit
 use Rattle.core_world.specs.Clauses.Lengths.{log_limit}
 use Rattle.core_world.specs.Words.Forms.{waits_on}
 use Rattle.heap_table.specs.Kept.{all_holds}
-use Rattle.heap_table.specs.Seen.{HeapSeen, PassSeen}
+use Rattle.heap_table.specs.Seen.{PassSeen}
 
 -- so many entries more fit into the page, and into what stamps allow a log
 pub record Fits (p : PassSeen) (entries : ℕ) : Type 0 where

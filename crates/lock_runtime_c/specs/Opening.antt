@@ -6,7 +6,6 @@ use Rattle.lock_runtime_c.specs.Numbers.{answered}
 use Rattle.lock_runtime_c.specs.declared.answers.Answer.{Answer}
 use Rattle.lock_runtime_c.specs.declared.handle.Slot.{Slot}
 use Rattle.lock_runtime_c.specs.declared.inner.Plan.{Plan}
-use Rattle.lock_runtime_c.specs.declared.inner.Room.{Room}
 use Rattle.lock_runtime_c.specs.declared.inner.Seat.{Seat}
 use Rattle.lock_runtime_c.specs.declared.inner.Inner.{Inner}
 use Rattle.lock_runtime_c.specs.declared.inner.Inner.TheVariants as inner

@@ -6,7 +6,7 @@ ghost use Rattle.lock_runtime_c.specs.LogRoom.{KeepsRoom};
 ghost use Rattle.lock_runtime_c.specs.Told.{barred, IsMade, Told};
 ghost use Rattle.lock_runtime_c.specs.inner.MayMake.{MayMake};
 
-use crate::outcome::{Misuse, Outcome, Said};
+use crate::outcome::{Outcome, Said};
 use crate::reasons::{first_reason, is_full};
 use crate::told::{checked, dumped, entered, got, hashed, owned, stored, turned, woke, woke_all};
 use core_world::HeapCall;
@@ -158,13 +158,16 @@ fn barred(heap: &Heap, pass: &Pass, task: HeapCall) -> Option<Outcome>
     ensures why { result ≡ barred heap.now pass.now task }
     ensures may { result ≡ None → MayMake heap.now pass.now task }
 {
-    if let Some(why) = first_reason(heap, pass, task) {
-        return Some(Outcome::Misused(why));
+    match first_reason(heap, pass, task) {
+        Some(why) => Some(Outcome::Misused(why)),
+        None => {
+            if is_full(pass, task) {
+                Some(Outcome::Full)
+            } else {
+                None
+            }
+        }
     }
-    if is_full(pass, task) {
-        return Some(Outcome::Full);
-    }
-    None
 }
 
 // The call of this task, which may begin.
@@ -194,8 +197,12 @@ fn begin(heap: &Heap, pass: &mut Pass, task: HeapCall) -> Outcome
         HeapCall::Print { value } => print(heap, pass, value),
         HeapCall::Dump => dump(heap, pass),
         HeapCall::Finish { ending } => finish(heap, pass, ending),
-        // no such call may begin
-        _ => Outcome::Misused(Misuse::OtherKind),
+        HeapCall::Create { .. }
+        | HeapCall::StackEnter { .. }
+        | HeapCall::StackExit { .. }
+        | HeapCall::Request
+        | HeapCall::Reached
+        | HeapCall::Release => unreachable!(),
     }
 }
 

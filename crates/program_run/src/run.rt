@@ -14,6 +14,7 @@ use heap_table::Closed;
 use object_program::Program;
 use plain_monitor::NoMemory;
 use run_io::{Clock, Gate};
+use run_rounds::RunTerms;
 use std::alloc::Global;
 use std::sync::Wait;
 use std::thread::Threads;
@@ -66,17 +67,14 @@ fn run_closed<R: Threads + Wait + Sync, C: Clock + Sync, G: Gate + Sync>(
         settings.now.fuel settings.now.tick) }
 {
     let (heap, runners) = open(alloc, program, settings)?;
-    run_rounds::run(
-        rt,
-        alloc,
+    let terms = RunTerms {
         program,
-        heap,
-        runners,
-        settings.fuel,
-        settings.workers,
-        settings.quantum,
         clock,
-        settings.tick,
         gate,
-    )
+        tick: settings.tick,
+        fuel: settings.fuel,
+        quantum: settings.quantum,
+        workers: settings.workers,
+    };
+    run_rounds::run(rt, alloc, heap, runners, &terms)
 }

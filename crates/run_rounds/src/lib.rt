@@ -7,10 +7,13 @@
 
 mod course;
 mod first;
+mod run_terms;
 mod runs;
 mod turns;
+mod work_context;
 mod workers;
 
 pub use first::first_runners;
+pub use run_terms::RunTerms;
 pub use runs::run;
 pub use thread_interp::Runner;

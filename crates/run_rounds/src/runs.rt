@@ -5,9 +5,9 @@ ghost use Rattle.thread_calls.specs.Between.{IsHeapOf};
 ghost use Rattle.run_rounds.specs.Outcome.{IsRunOutcome};
 ghost use Rattle.run_rounds.specs.Rounds.{AreReady};
 
+use crate::run_terms::RunTerms;
 use crate::workers::serve_until_over;
 use heap_table::{Closed, Heap, Pass, close};
-use object_program::Program;
 use plain_monitor::{List, NoMemory};
 use run_io::{Clock, Gate};
 use std::alloc::Global;
@@ -32,7 +32,7 @@ fn into_passes(runners: Vec<Runner>, mut passes: Vec<Pass>) -> Vec<Pass>
 ///
 /// The runners are those of this heap, one for each thread in the order of the threads, all with one fuel, in
 /// instructions, and no check of theirs is unfinished: as `Runner::new` gives them, or after turns of their own.
-/// Each of `workers` workers, or of as many as there are threads where these are fewer, takes runners that are ready,
+/// Each of the terms' workers, or of as many as there are threads where these are fewer, takes runners that are ready,
 /// one after the other, and gives each a turn of at most `quantum` instructions. It returns when all threads have
 /// ended, or when the run was halted because it is stuck, and it may wait for workers.
 ///
@@ -45,29 +45,24 @@ fn into_passes(runners: Vec<Runner>, mut passes: Vec<Pass>) -> Vec<Pass>
 pub fn run<R: Threads + Wait + Sync, C: Clock + Sync, G: Gate + Sync>(
     rt: &R,
     alloc: Global,
-    program: &Program,
     heap: Heap,
     runners: List<Runner>,
-    fuel: u32,
-    workers: u32,
-    quantum: u32,
-    clock: &C,
-    tick: u32,
-    gate: &G,
+    terms: &RunTerms<C, G>,
 ) -> Result<Closed, NoMemory>
-    requires workers { 1 ≤ workers }
-    requires quantum { 1 ≤ quantum }
-    requires program { IsHeapOf heap program.now }
-    requires runners { AreReady heap program.now fuel tick runners }
-    ensures { IfOk result (IsRunOutcome heap.heap program.now fuel tick) }
+    requires workers { 1 ≤ terms.now.workers }
+    requires quantum { 1 ≤ terms.now.quantum }
+    requires program { IsHeapOf heap terms.now.program.now }
+    requires runners { AreReady heap terms.now.program.now terms.now.fuel terms.now.tick runners }
+    ensures { IfOk result (IsRunOutcome heap.heap terms.now.program.now terms.now.fuel terms.now.tick) }
 {
     let passes = Vec::with_capacity(alloc, runners.items().len()).map_err(|_| NoMemory)?;
     let room = Vec::with_capacity(alloc, runners.items().len()).map_err(|_| NoMemory)?;
     let runners = runners.into_vec();
-    let workers = workers.min(runners.len() as u32);
-    let runners = serve_until_over(
-        rt, alloc, program, &heap, fuel, runners, room, workers, quantum, clock, tick, gate,
-    )?;
+    let few = RunTerms {
+        workers: terms.workers.min(runners.len() as u32),
+        ..*terms
+    };
+    let runners = serve_until_over(rt, alloc, &heap, &few, runners, room)?;
     let passes = into_passes(runners, passes);
     the_machine_is_what_the_logs_make_it();
     a_log_tells_where_its_thread_stands();

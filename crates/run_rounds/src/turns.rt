@@ -10,12 +10,12 @@ ghost use Rattle.turn_pool.specs.Pool.{seat_view};
 ghost use Rattle.run_rounds.specs.inner.Slots.{IsCourse, MayLie, StandsUnder};
 ghost use Rattle.run_rounds.specs.inner.Turns.{HasGoneOn};
 
-use crate::course::{Course, RunnerPool, RunnerSeat};
+use crate::course::{Course, RunnerSeat};
+use crate::work_context::WorkContext;
 use core_world::{PendingCause, Progress};
-use heap_table::Heap;
-use object_program::Program;
 use run_io::{Clock, Gate};
 use std::sync::Wait;
+use thread_calls::RunContext;
 use thread_interp::{RunState, Runner};
 use turn_pool::Word;
 
@@ -32,24 +32,20 @@ pub enum Outcome {
 
 // A turn of the runner, unless its thread has ended.
 fn turn_unless_ended<K: Clock, G: Gate>(
-    program: &Program,
-    heap: &Heap,
-    runner: &mut Runner,
-    quantum: u32,
-    clock: &K,
-    tick: u32,
+    run: &RunContext<K>,
     gate: &G,
+    runner: &mut Runner,
 ) -> Outcome
-    requires heap { IsHeapOf heap.now program.now }
-    requires runner { IsRunner heap.now program.now runner.old }
+    requires heap { IsHeapOf run.now.heap.now run.now.program.now }
+    requires runner { IsRunner run.now.heap.now run.now.program.now runner.old }
     requires unchecked { runner.old.pass.known.checking ≡ false }
-    requires quantum { 1 ≤ quantum }
-    ensures gone { HasGoneOn heap.now program.now tick runner.old runner.new }
+    requires quantum { 1 ≤ run.now.quantum }
+    ensures gone { HasGoneOn run.now.heap.now run.now.program.now run.now.tick runner.old runner.new }
 {
     if runner.has_ended() {
         return Outcome::Stalled;
     }
-    let turn = runner.turn(program, heap, clock, tick, gate, quantum);
+    let turn = runner.turn(run, gate);
     if turn.instructions > 0 || runner.has_ended() {
         return Outcome::Moved;
     }
@@ -72,48 +68,42 @@ fn word_after_turn(runner: &Runner) -> Word
 /// Gives the runner of this place a turn of at most `quantum` instructions, and puts it back into the pool. `tick` is
 /// in milliseconds.
 pub fn give_turn<C: Course, K: Clock, G: Gate>(
-    program: &Program,
-    heap: &Heap,
-    fuel: u32,
-    pool: &RunnerPool<C>,
+    work: &WorkContext<C, K, G>,
     mine: &mut RunnerSeat,
     place: u32,
-    quantum: u32,
-    clock: &K,
-    tick: u32,
-    gate: &G,
 ) -> Outcome
-    requires course { IsCourse C.heap C.program C.fuel C.tick heap.now program.now fuel tick }
-    requires heap { IsHeapOf heap.now program.now }
-    requires quantum { 1 ≤ quantum }
-    requires table { mine.old.table_id ≡ pool.now.slots.shared.table_id }
-    requires place { place < pool.now.slots.shared.table_id.slots }
+    requires course { let run = work.now.run in
+        IsCourse C.heap C.program C.fuel C.tick run.heap.now run.program.now run.fuel run.tick }
+    requires heap { IsHeapOf work.now.run.heap.now work.now.run.program.now }
+    requires quantum { 1 ≤ work.now.run.quantum }
+    requires table { mine.old.table_id ≡ work.now.pool.now.slots.shared.table_id }
+    requires place { place < work.now.pool.now.slots.shared.table_id.slots }
     requires held { (r : RunnerSeen) × MayLie C.heap C.program C.fuel C.tick Ready place r
         × (mine.old.me ≡ (seat_view 1 (Some place) false, (place, r) ∷ [])) }
     ensures table { mine.new.table_id ≡ mine.old.table_id }
     ensures free { mine.new.me ≡ (seat_view 1 None false, []) }
 {
-    let runner = mine.slot_mut(&pool.slots.shared, place as usize);
-    let outcome = turn_unless_ended(program, heap, runner, quantum, clock, tick, gate);
+    let runner = mine.slot_mut(&work.pool.slots.shared, place as usize);
+    let outcome = turn_unless_ended(&work.run, work.gate, runner);
     let word = word_after_turn(runner);
-    pool.give(mine, place, word);
+    work.pool.give(mine, place, word);
     outcome
 }
 
 // Whether the run is stuck, by a check of this runner. One that other threads have to stop for is made again.
-fn check<R: Wait>(rt: &R, program: &Program, heap: &Heap, runner: &mut Runner) -> bool
-    requires program { IsHeapOf heap.now program.now }
-    requires runner { IsRunner heap.now program.now runner.old }
+fn check<R: Wait, K>(rt: &R, run: &RunContext<K>, runner: &mut Runner) -> bool
+    requires program { IsHeapOf run.now.heap.now run.now.program.now }
+    requires runner { IsRunner run.now.heap.now run.now.program.now runner.old }
     requires free { (runner.old.pass.known.requesting ≡ false) × (runner.old.pass.known.checking ≡ false) }
     requires live { has_ended runner.old.frame ≡ false }
-    ensures runner { IsRunner heap.now program.now runner.new }
+    ensures runner { IsRunner run.now.heap.now run.now.program.now runner.new }
     ensures unchecked { runner.new.pass.known.checking ≡ false }
     ensures same { IsSame runner.old runner.new }
     ensures halted { result ≡ true → runner.new.pass.known.halted ≡ true }
     ensures timed { (tick : ℕ) → StaysTimed tick runner.old.pass runner.new.pass }
 {
     for _ in rt.forever() {
-        if let Progress::Done(stuck) = runner.check(program, heap) {
+        if let Progress::Done(stuck) = runner.check(run) {
             return stuck;
         }
         if !runner.checking() {
@@ -124,17 +114,17 @@ fn check<R: Wait>(rt: &R, program: &Program, heap: &Heap, runner: &mut Runner) -
 }
 
 // Makes a check with this runner where it can: its thread hasn't ended, and asks for no safepoint. Whether the run is stuck.
-fn check_where_free<R: Wait>(rt: &R, program: &Program, heap: &Heap, runner: &mut Runner) -> bool
-    requires heap { IsHeapOf heap.now program.now }
-    requires runner { IsRunner heap.now program.now runner.old }
+fn check_where_free<R: Wait, K>(rt: &R, run: &RunContext<K>, runner: &mut Runner) -> bool
+    requires heap { IsHeapOf run.now.heap.now run.now.program.now }
+    requires runner { IsRunner run.now.heap.now run.now.program.now runner.old }
     requires unchecked { runner.old.pass.known.checking ≡ false }
-    ensures gone { (tick : ℕ) → HasGoneOn heap.now program.now tick runner.old runner.new }
+    ensures gone { (tick : ℕ) → HasGoneOn run.now.heap.now run.now.program.now tick runner.old runner.new }
     ensures halted { result ≡ true → runner.new.pass.known.halted ≡ true }
 {
     if runner.has_ended() || runner.requesting() {
         return false;
     }
-    check(rt, program, heap, runner)
+    check(rt, run, runner)
 }
 
 // Under which word a runner goes back after a check.
@@ -150,28 +140,25 @@ fn word_after_check(runner: &Runner, stuck: bool) -> Word
 
 /// Makes a check with the runner of this place, and puts it back into the pool. It answers whether the run was
 /// halted.
-pub fn give_check<C: Course, R: Wait>(
+pub fn give_check<C: Course, R: Wait, K, G>(
     rt: &R,
-    program: &Program,
-    heap: &Heap,
-    fuel: u32,
-    pool: &RunnerPool<C>,
+    work: &WorkContext<C, K, G>,
     mine: &mut RunnerSeat,
     place: u32,
-    tick: u32,
 ) -> bool
-    requires course { IsCourse C.heap C.program C.fuel C.tick heap.now program.now fuel tick }
-    requires heap { IsHeapOf heap.now program.now }
-    requires table { mine.old.table_id ≡ pool.now.slots.shared.table_id }
-    requires place { place < pool.now.slots.shared.table_id.slots }
+    requires course { let run = work.now.run in
+        IsCourse C.heap C.program C.fuel C.tick run.heap.now run.program.now run.fuel run.tick }
+    requires heap { IsHeapOf work.now.run.heap.now work.now.run.program.now }
+    requires table { mine.old.table_id ≡ work.now.pool.now.slots.shared.table_id }
+    requires place { place < work.now.pool.now.slots.shared.table_id.slots }
     requires held { (r : RunnerSeen) × MayLie C.heap C.program C.fuel C.tick Ready place r
         × (mine.old.me ≡ (seat_view 1 (Some place) false, (place, r) ∷ [])) }
     ensures table { mine.new.table_id ≡ mine.old.table_id }
     ensures free { mine.new.me ≡ (seat_view 1 None false, []) }
 {
-    let runner = mine.slot_mut(&pool.slots.shared, place as usize);
-    let stuck = check_where_free(rt, program, heap, runner);
+    let runner = mine.slot_mut(&work.pool.slots.shared, place as usize);
+    let stuck = check_where_free(rt, &work.run, runner);
     let word = word_after_check(runner, stuck);
-    pool.give(mine, place, word);
+    work.pool.give(mine, place, word);
     stuck
 }

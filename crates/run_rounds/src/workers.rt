@@ -9,9 +9,10 @@ ghost use Rattle.run_rounds.specs.inner.Ends.{AreDone};
 ghost use Rattle.run_rounds.specs.inner.Slots.{IsCourse};
 
 use crate::course::{Course, RunnerPool, RunnerSeat};
+use crate::run_terms::RunTerms;
 use crate::turns::{Outcome, give_check, give_turn};
+use crate::work_context::WorkContext;
 use heap_table::Heap;
-use object_program::Program;
 use plain_monitor::NoMemory;
 use run_io::{Clock, Gate};
 use std::alloc::Global;
@@ -19,6 +20,7 @@ use std::marker::Brand;
 use std::sync::Wait;
 use std::thread;
 use std::thread::Threads;
+use thread_calls::RunContext;
 use thread_interp::Runner;
 use turn_pool::{first_from, stand_still};
 
@@ -51,61 +53,50 @@ fn notes<C: Course>(pool: &RunnerPool<C>, mine: &mut RunnerSeat, moved: bool) ->
 // A turn of the runner at this place, where it is ready. Whether one did something; where it is stalled, that is noted, so that nobody takes the
 // runner until another has done something.
 fn visit<C: Course, K: Clock, G: Gate>(
-    program: &Program,
-    heap: &Heap,
-    fuel: u32,
-    pool: &RunnerPool<C>,
+    work: &WorkContext<C, K, G>,
     mine: &mut RunnerSeat,
     place: u32,
-    quantum: u32,
-    clock: &K,
-    tick: u32,
-    gate: &G,
 ) -> bool
-    requires course { IsCourse C.heap C.program C.fuel C.tick heap.now program.now fuel tick }
-    requires heap { IsHeapOf heap.now program.now }
-    requires quantum { 1 ≤ quantum }
-    requires table { mine.old.table_id ≡ pool.now.slots.shared.table_id }
-    requires place { place < pool.now.slots.shared.table_id.slots }
+    requires course { let run = work.now.run in
+        IsCourse C.heap C.program C.fuel C.tick run.heap.now run.program.now run.fuel run.tick }
+    requires heap { IsHeapOf work.now.run.heap.now work.now.run.program.now }
+    requires quantum { 1 ≤ work.now.run.quantum }
+    requires table { mine.old.table_id ≡ work.now.pool.now.slots.shared.table_id }
+    requires place { place < work.now.pool.now.slots.shared.table_id.slots }
     requires free { mine.old.me ≡ (seat_view 1 None false, []) }
     ensures table { mine.new.table_id ≡ mine.old.table_id }
     ensures free { mine.new.me ≡ (seat_view 1 None false, []) }
 {
-    if !pool.take(mine, place) {
+    if !work.pool.take(mine, place) {
         return false;
     }
-    let outcome = give_turn(
-        program, heap, fuel, pool, mine, place, quantum, clock, tick, gate,
-    );
+    let outcome = give_turn(work, mine, place);
     if outcome == Outcome::Stalled {
-        pool.note(mine, place);
+        work.pool.note(mine, place);
     }
     outcome == Outcome::Moved
 }
 
 // A check by the runner at this place, where it is ready. Whether one was made that didn't halt the run: then all look again whether they go on.
-fn look<C: Course, R: Wait>(
+fn look<C: Course, R: Wait, K, G>(
     rt: &R,
-    program: &Program,
-    heap: &Heap,
-    fuel: u32,
-    pool: &RunnerPool<C>,
+    work: &WorkContext<C, K, G>,
     mine: &mut RunnerSeat,
     place: u32,
-    tick: u32,
 ) -> bool
-    requires course { IsCourse C.heap C.program C.fuel C.tick heap.now program.now fuel tick }
-    requires heap { IsHeapOf heap.now program.now }
-    requires table { mine.old.table_id ≡ pool.now.slots.shared.table_id }
-    requires place { place < pool.now.slots.shared.table_id.slots }
+    requires course { let run = work.now.run in
+        IsCourse C.heap C.program C.fuel C.tick run.heap.now run.program.now run.fuel run.tick }
+    requires heap { IsHeapOf work.now.run.heap.now work.now.run.program.now }
+    requires table { mine.old.table_id ≡ work.now.pool.now.slots.shared.table_id }
+    requires place { place < work.now.pool.now.slots.shared.table_id.slots }
     requires free { mine.old.me ≡ (seat_view 1 None false, []) }
     ensures table { mine.new.table_id ≡ mine.old.table_id }
     ensures free { mine.new.me ≡ (seat_view 1 None false, []) }
 {
-    if !pool.take(mine, place) {
+    if !work.pool.take(mine, place) {
         return false;
     }
-    !give_check(rt, program, heap, fuel, pool, mine, place, tick)
+    !give_check(rt, work, mine, place)
 }
 
 // Whether all is over. Where it is, those that sleep look again, and nobody falls asleep by what he saw before.
@@ -127,26 +118,21 @@ fn sees_over<C: Course>(pool: &RunnerPool<C>, mine: &mut RunnerSeat) -> bool
 // Turns and checks until all is over.
 fn serve<C: Course, R: Wait, K: Clock, G: Gate>(
     rt: &R,
-    program: &Program,
-    heap: &Heap,
-    fuel: u32,
-    pool: &RunnerPool<C>,
+    work: &WorkContext<C, K, G>,
     mine: &mut RunnerSeat,
     first: u32,
-    quantum: u32,
-    clock: &K,
-    tick: u32,
-    gate: &G,
 )
-    requires course { IsCourse C.heap C.program C.fuel C.tick heap.now program.now fuel tick }
-    requires heap { IsHeapOf heap.now program.now }
-    requires quantum { 1 ≤ quantum }
+    requires course { let run = work.now.run in
+        IsCourse C.heap C.program C.fuel C.tick run.heap.now run.program.now run.fuel run.tick }
+    requires heap { IsHeapOf work.now.run.heap.now work.now.run.program.now }
+    requires quantum { 1 ≤ work.now.run.quantum }
     requires first { first < 32 }
-    requires table { mine.old.table_id ≡ pool.now.slots.shared.table_id }
+    requires table { mine.old.table_id ≡ work.now.pool.now.slots.shared.table_id }
     requires free { mine.old.me ≡ (seat_view 1 None false, []) }
     ensures table { mine.new.table_id ≡ mine.old.table_id }
     ensures over { mine.new.me ≡ (seat_view 1 None true, []) }
 {
+    let pool = work.pool;
     let mut next = first;
     let mut moved = false;
     for _ in rt.forever() {
@@ -155,16 +141,14 @@ fn serve<C: Course, R: Wait, K: Clock, G: Gate>(
         let ready = pool.ready();
         if let Some(place) = first_from(ready & !stalled, next, pool.count) {
             next = place + 1;
-            moved = visit(
-                program, heap, fuel, pool, mine, place, quantum, clock, tick, gate,
-            );
+            moved = visit(work, mine, place);
         } else if sees_over(pool, mine) {
             return;
         } else if !stand_still(pool.count, ready, pool.ended(), stalled) {
             pool.rest(rt, (stalled % (1 << 32)) as u32);
         } else if let Some(place) = first_from(ready, next, pool.count) {
             next = place + 1;
-            moved = look(rt, program, heap, fuel, pool, mine, place, tick);
+            moved = look(rt, work, mine, place);
         }
     }
     unreachable!()
@@ -214,98 +198,93 @@ fn dismiss<C: Course>(pool: &RunnerPool<C>, own: &mut RunnerSeat, workers: Vec<W
 }
 
 // The turns of a run that the type C stands for.
-fn serve_all<C: Course + Send + Sync, R: Threads + Wait + Sync, K: Clock + Sync, G: Gate + Sync>(
+fn serve_all<
+    'a,
+    C: Course + Send + Sync,
+    R: Threads + Wait + Sync,
+    K: Clock + Sync,
+    G: Gate + Sync,
+>(
     rt: &R,
     alloc: Global,
-    program: &Program,
-    heap: &Heap,
-    fuel: u32,
+    heap: &'a Heap,
+    terms: &RunTerms<'a, K, G>,
     runners: Vec<Runner>,
     room: Vec<Runner>,
-    workers: u32,
-    quantum: u32,
-    clock: &K,
-    tick: u32,
-    gate: &G,
 ) -> Result<Vec<Runner>, NoMemory>
-    requires course { IsCourse C.heap C.program C.fuel C.tick heap.now program.now fuel tick }
+    requires course { IsCourse C.heap C.program C.fuel C.tick
+        heap.now terms.now.program.now terms.now.fuel terms.now.tick }
     requires few { vec_len runners < 33 }
-    requires workers { (1 ≤ workers) × (workers < 33) }
-    requires quantum { 1 ≤ quantum }
-    requires program { IsHeapOf heap.now program.now }
-    requires runners { AreRunners heap.now program.now fuel runners.items }
-    requires timed { AreTimed tick runners.items }
+    requires workers { (1 ≤ terms.now.workers) × (terms.now.workers < 33) }
+    requires quantum { 1 ≤ terms.now.quantum }
+    requires program { IsHeapOf heap.now terms.now.program.now }
+    requires runners { AreRunners heap.now terms.now.program.now terms.now.fuel runners.items }
+    requires timed { AreTimed terms.now.tick runners.items }
     requires room { (room.items ≡ []) × (vec_len runners ≤ vec_capacity room) }
-    ensures { IfOk result (λ v. AreDone heap.now program.now fuel tick (length runners.items) v.items) }
+    ensures { IfOk result (λ v. AreDone heap.now terms.now.program.now terms.now.fuel terms.now.tick
+        (length runners.items) v.items) }
 {
+    let workers = terms.workers;
     let seats = Vec::with_capacity(alloc, workers as usize).map_err(|_| NoMemory)?;
     let Ok((pool, mut own)) = RunnerPool::<C>::new(alloc, runners) else {
         return Err(NoMemory);
     };
     let mut seats = hire(&pool, &mut own, seats, workers);
-    let shared = &pool;
+    let work = WorkContext {
+        run: RunContext {
+            program: terms.program,
+            heap,
+            clock: terms.clock,
+            tick: terms.tick,
+            fuel: terms.fuel,
+            quantum: terms.quantum,
+        },
+        pool: &pool,
+        gate: terms.gate,
+    };
+    let shared = &work;
     thread::for_each_mut(
         rt,
         seats.as_mut_slice(),
         workers as usize,
         &|i: usize, worker: &mut Worker|
-            requires { IsCourse C.heap C.program C.fuel C.tick heap.now program.now fuel tick
-                × IsHeapOf heap.now program.now × (1 ≤ quantum)
-                × (worker.now.seat.table_id ≡ shared.now.slots.shared.table_id)
+            requires { (let run = shared.now.run in
+                IsCourse C.heap C.program C.fuel C.tick run.heap.now run.program.now run.fuel run.tick)
+                × IsHeapOf shared.now.run.heap.now shared.now.run.program.now × (1 ≤ shared.now.run.quantum)
+                × (worker.now.seat.table_id ≡ shared.now.pool.now.slots.shared.table_id)
                 × (worker.now.seat.me ≡ (seat_view 1 None false, [])) }
             ensures { (worker.exit.now.seat.table_id ≡ worker.entry.now.seat.table_id)
                 × (worker.exit.now.seat.me ≡ (seat_view 1 None true, [])) }
-        {
-            serve(
-                rt,
-                program,
-                heap,
-                fuel,
-                shared,
-                &mut worker.seat,
-                (i % 32) as u32,
-                quantum,
-                clock,
-                tick,
-                gate,
-            )
-        },
+        { serve(rt, shared, &mut worker.seat, (i % 32) as u32) },
     );
     dismiss(&pool, &mut own, seats);
     Ok(pool.end(own, room))
 }
 
-/// Gives turns of at most `quantum` instructions to all runners, by `workers` workers, until all threads have ended
-/// or a check halted the run. It answers the runners, in their order. `room` is empty, with room for them; `tick` is
-/// in milliseconds.
+/// Gives turns of at most `quantum` instructions to all runners, by the terms' workers, until all threads have ended
+/// or a check halted the run. It answers the runners, in their order. `room` is empty, with room for them. The run's `tick` is in
+/// milliseconds.
 ///
 /// # Errors
 ///
 /// `NoMemory` where an allocation fails, before the first turn.
-pub fn serve_until_over<R: Threads + Wait + Sync, K: Clock + Sync, G: Gate + Sync>(
+pub fn serve_until_over<'a, R: Threads + Wait + Sync, K: Clock + Sync, G: Gate + Sync>(
     rt: &R,
     alloc: Global,
-    program: &Program,
-    heap: &Heap,
-    fuel: u32,
+    heap: &'a Heap,
+    terms: &RunTerms<'a, K, G>,
     runners: Vec<Runner>,
     room: Vec<Runner>,
-    workers: u32,
-    quantum: u32,
-    clock: &K,
-    tick: u32,
-    gate: &G,
 ) -> Result<Vec<Runner>, NoMemory>
     requires few { vec_len runners < 33 }
-    requires workers { (1 ≤ workers) × (workers < 33) }
-    requires quantum { 1 ≤ quantum }
-    requires program { IsHeapOf heap.now program.now }
-    requires runners { AreRunners heap.now program.now fuel runners.items }
-    requires timed { AreTimed tick runners.items }
+    requires workers { (1 ≤ terms.now.workers) × (terms.now.workers < 33) }
+    requires quantum { 1 ≤ terms.now.quantum }
+    requires program { IsHeapOf heap.now terms.now.program.now }
+    requires runners { AreRunners heap.now terms.now.program.now terms.now.fuel runners.items }
+    requires timed { AreTimed terms.now.tick runners.items }
     requires room { (room.items ≡ []) × (vec_len runners ≤ vec_capacity room) }
-    ensures { IfOk result (λ v. AreDone heap.now program.now fuel tick (length runners.items) v.items) }
+    ensures { IfOk result (λ v. AreDone heap.now terms.now.program.now terms.now.fuel terms.now.tick
+        (length runners.items) v.items) }
 {
-    serve_all::<Brand, R, K, G>(
-        rt, alloc, program, heap, fuel, runners, room, workers, quantum, clock, tick, gate,
-    )
+    serve_all::<Brand, R, K, G>(rt, alloc, heap, terms, runners, room)
 }

@@ -11,12 +11,12 @@ ghost use Rattle.thread_calls.specs.Timed.{StaysTimed};
 ghost use Rattle.thread_frame.specs.Frames.{before_call, IsAtInstruction};
 
 use crate::came::{Went, tell};
+use crate::run_context::RunContext;
 use crate::runtime_calls::{call_runtime, enter, exit, get, put};
 use crate::timing::time_now;
 use core_world::{PendingCause, Progress};
-use heap_table::{Heap, Pass};
+use heap_table::Pass;
 use lock_runtime as runtime;
-use object_program::Program;
 use plain_machine::{MonitorCall, NextEntry};
 use plain_monitor::Entry;
 use run_io::Clock;
@@ -26,30 +26,27 @@ use thread_frame::Frame;
 /// instructions are have places of their own, so that no answer of theirs goes through memory; `call_runtime` makes the rest.
 #[inline]
 pub(crate) fn call<C: Clock>(
-    program: &Program,
-    heap: &Heap,
-    clock: &C,
-    tick: u32,
-    fuel: u32,
+    run: &RunContext<C>,
     pass: &mut Pass,
     frame: &mut Frame,
     call: MonitorCall,
     cause: &mut PendingCause,
 ) -> Went
-    requires heap { IsHeapOf heap.now program.now }
-    requires may { MayAdvance heap.now program.now fuel pass.old (before_call frame.old call) }
+    requires heap { IsHeapOf run.now.heap.now run.now.program.now }
+    requires may { MayAdvance run.now.heap.now run.now.program.now run.now.fuel
+        pass.old (before_call frame.old call) }
     requires placed { IsAtInstruction frame.old.place frame.old.made (Some (Calling call)) }
-    ensures advanced { HasAdvanced heap.now program.now fuel pass.old pass.new (before_call frame.old call) frame.new
-        (progress_of result cause.new) }
-    ensures timed { StaysTimed tick pass.old pass.new }
+    ensures advanced { HasAdvanced run.now.heap.now run.now.program.now run.now.fuel
+        pass.old pass.new (before_call frame.old call) frame.new (progress_of result cause.new) }
+    ensures timed { StaysTimed run.now.tick pass.old pass.new }
 {
     match call {
         MonitorCall::Enter { object } => {
-            let progress = enter(heap, pass, object, time_now(clock, tick));
+            let progress = enter(run.heap, pass, object, time_now(run.clock, run.tick));
             go_past(frame, MonitorCall::Enter { object }, progress, cause)
         }
         MonitorCall::Exit { object } => {
-            let progress = exit(heap, pass, object);
+            let progress = exit(run.heap, pass, object);
             go_past(frame, MonitorCall::Exit { object }, progress, cause)
         }
         MonitorCall::Get {
@@ -57,7 +54,7 @@ pub(crate) fn call<C: Clock>(
             object,
             slot,
         } => {
-            let progress = get(heap, pass, local, object, slot);
+            let progress = get(run.heap, pass, local, object, slot);
             let made = MonitorCall::Get {
                 local,
                 object,
@@ -70,7 +67,7 @@ pub(crate) fn call<C: Clock>(
             slot,
             value,
         } => {
-            let progress = put(heap, pass, object, slot, value);
+            let progress = put(run.heap, pass, object, slot, value);
             let made = MonitorCall::Put {
                 object,
                 slot,
@@ -79,11 +76,11 @@ pub(crate) fn call<C: Clock>(
             go_past(frame, made, progress, cause)
         }
         MonitorCall::Wait { object } => {
-            let progress = begin_wait(program, heap, clock, tick, fuel, pass, frame, object);
+            let progress = begin_wait(run, pass, frame, object);
             tell(progress, cause)
         }
         _ => {
-            let progress = call_runtime(heap, clock, tick, pass, call);
+            let progress = call_runtime(run, pass, call);
             go_past(frame, call, progress, cause)
         }
     }
@@ -127,26 +124,23 @@ fn has_let_go(why: PendingCause) -> bool
 // Begins to wait on the object, and may go on up to the end of the wait.
 #[inline(never)]
 fn begin_wait<C: Clock>(
-    program: &Program,
-    heap: &Heap,
-    clock: &C,
-    tick: u32,
-    fuel: u32,
+    run: &RunContext<C>,
     pass: &mut Pass,
     frame: &mut Frame,
     object: u32,
 ) -> Progress<bool>
-    requires heap { IsHeapOf heap.now program.now }
-    requires may { MayAdvance heap.now program.now fuel pass.old (before_call frame.old (call.Wait object)) }
+    requires heap { IsHeapOf run.now.heap.now run.now.program.now }
+    requires may { MayAdvance run.now.heap.now run.now.program.now run.now.fuel
+        pass.old (before_call frame.old (call.Wait object)) }
     requires placed { IsAtInstruction frame.old.place frame.old.made (Some (Calling (call.Wait object))) }
-    ensures advanced { HasAdvanced heap.now program.now fuel pass.old pass.new
-        (before_call frame.old (call.Wait object)) frame.new result }
-    ensures timed { StaysTimed tick pass.old pass.new }
+    ensures advanced { HasAdvanced run.now.heap.now run.now.program.now run.now.fuel
+        pass.old pass.new (before_call frame.old (call.Wait object)) frame.new result }
+    ensures timed { StaysTimed run.now.tick pass.old pass.new }
 {
     let call = MonitorCall::Wait { object };
     let asked = NextEntry::Calls { call };
     let entry = Entry::Wait { object };
-    match runtime::wait(heap, pass, object, time_now(clock, tick)) {
+    match runtime::wait(run.heap, pass, object, time_now(run.clock, run.tick)) {
         Ok(progress) => match progress {
             Progress::Done(()) => {
                 frame.follow(asked, &entry);

@@ -8,10 +8,10 @@ ghost use Rattle.thread_calls.specs.Timed.{StaysTimed};
 
 use crate::calls::call;
 use crate::came::{Went, tell};
+use crate::run_context::RunContext;
 use crate::waiting_and_unwinding::{continue_wait, unwind};
 use core_world::PendingCause;
-use heap_table::{Heap, Pass};
-use object_program::Program;
+use heap_table::Pass;
 use plain_machine::{Mode, MonitorCall};
 use plain_monitor::Ending;
 use run_io::Clock;
@@ -25,37 +25,31 @@ use thread_frame::{Frame, Walked};
 /// `advance` continues it. A `new` makes the thread's next object on the heap, to which its local then refers; it is
 /// never pending.
 ///
-/// `tick` is how many milliseconds one count of the clock stands for, and `fuel` how many instructions the thread
-/// could execute at first. A call that needs a moment gets the clock's time then, by `tick`; where that is 0, the
+/// The run's `tick` is how many milliseconds one count of the clock stands for, and its `fuel` how many instructions
+/// the thread could execute at first. A call that needs a moment gets the clock's time then, by the run's `tick`; where that is 0, the
 /// clock is not looked at.
 pub fn advance<C: Clock>(
-    program: &Program,
-    heap: &Heap,
-    clock: &C,
-    tick: u32,
-    fuel: u32,
+    run: &RunContext<C>,
     pass: &mut Pass,
     frame: &mut Frame,
     cause: &mut PendingCause,
 ) -> Went
-    requires heap { IsHeapOf heap.now program.now }
-    requires may { MayAdvance heap.now program.now fuel pass.old frame.old }
-    ensures advanced { HasAdvanced heap.now program.now fuel pass.old pass.new frame.old frame.new
-        (progress_of result cause.new) }
-    ensures timed { StaysTimed tick pass.old pass.new }
+    requires heap { IsHeapOf run.now.heap.now run.now.program.now }
+    requires may { MayAdvance run.now.heap.now run.now.program.now run.now.fuel pass.old frame.old }
+    ensures advanced { HasAdvanced run.now.heap.now run.now.program.now run.now.fuel
+        pass.old pass.new frame.old frame.new (progress_of result cause.new) }
+    ensures timed { StaysTimed run.now.tick pass.old pass.new }
 {
-    match reach(program, heap, fuel, pass, frame) {
+    match reach(run, pass, frame) {
         Reached::Ran => Went::Done,
         Reached::Spent => Went::On,
-        Reached::Calls { call: next } => {
-            call(program, heap, clock, tick, fuel, pass, frame, next, cause)
-        }
+        Reached::Calls { call: next } => call(run, pass, frame, next, cause),
         Reached::Waits { object } => {
-            let progress = continue_wait(program, heap, clock, tick, fuel, pass, frame, object);
+            let progress = continue_wait(run, pass, frame, object);
             tell(progress, cause)
         }
         Reached::Unwinds { ending } => {
-            let progress = unwind(program, heap, fuel, pass, frame, ending);
+            let progress = unwind(run, pass, frame, ending);
             tell(progress, cause)
         }
     }
@@ -79,13 +73,13 @@ pub(crate) enum Reached {
 
 // Looks where the thread stands, and executes its instruction where that is a local one.
 #[inline]
-fn reach(program: &Program, heap: &Heap, fuel: u32, pass: &Pass, frame: &mut Frame) -> Reached
-    requires heap { IsHeapOf heap.now program.now }
-    requires may { MayAdvance heap.now program.now fuel pass.now frame.old }
-    ensures { HasReached heap.now program.now fuel pass.now frame.old frame.new result }
+fn reach<C>(run: &RunContext<C>, pass: &Pass, frame: &mut Frame) -> Reached
+    requires heap { IsHeapOf run.now.heap.now run.now.program.now }
+    requires may { MayAdvance run.now.heap.now run.now.program.now run.now.fuel pass.now frame.old }
+    ensures { HasReached run.now.heap.now run.now.program.now run.now.fuel pass.now frame.old frame.new result }
 {
     match frame.mode() {
-        None => walk(program, heap, fuel, pass, frame),
+        None => walk(run, pass, frame),
         Some(mode) => match mode {
             Mode::Calling { call } => Reached::Calls { call },
             Mode::Waiting { object } => Reached::Waits { object },
@@ -97,13 +91,13 @@ fn reach(program: &Program, heap: &Heap, fuel: u32, pass: &Pass, frame: &mut Fra
 
 // Looks at the instruction, in the middle of local ones.
 #[inline]
-fn walk(program: &Program, heap: &Heap, fuel: u32, pass: &Pass, frame: &mut Frame) -> Reached
-    requires heap { IsHeapOf heap.now program.now }
-    requires may { MayAdvance heap.now program.now fuel pass.now frame.old }
+fn walk<C>(run: &RunContext<C>, pass: &Pass, frame: &mut Frame) -> Reached
+    requires heap { IsHeapOf run.now.heap.now run.now.program.now }
+    requires may { MayAdvance run.now.heap.now run.now.program.now run.now.fuel pass.now frame.old }
     requires local { frame.old.mode ≡ None }
-    ensures { HasReached heap.now program.now fuel pass.now frame.old frame.new result }
+    ensures { HasReached run.now.heap.now run.now.program.now run.now.fuel pass.now frame.old frame.new result }
 {
-    match frame.walk(program, pass, heap.shape().objects() as u32) {
+    match frame.walk(run.program, pass, run.heap.shape().objects() as u32) {
         Walked::Ran => Reached::Ran,
         Walked::Spent => Reached::Spent,
         Walked::Arrived { call } => Reached::Calls { call },

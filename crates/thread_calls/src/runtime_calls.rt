@@ -11,6 +11,7 @@ ghost use Rattle.plain_monitor.specs.Limits.{most_made};
 ghost use Rattle.thread_calls.specs.inner.Made.{HasMade, Holds, IsRare, MayMake};
 ghost use Rattle.thread_calls.specs.Timed.{StaysTimed};
 
+use crate::run_context::RunContext;
 use crate::timing::time_now;
 use core_world::Progress;
 use heap_table::{Heap, Pass};
@@ -184,32 +185,40 @@ fn dump(heap: &Heap, pass: &mut Pass, number: u32) -> Progress<Entry>
 }
 
 /// Makes the call, which may begin and isn't refused, and is none of those that have a place of their own where calls are made. Calls that
-/// need a moment get the clock's time now, in milliseconds, by `tick`.
+/// need a moment get the clock's time now, in milliseconds, by the run's `tick`.
 pub(crate) fn call_runtime<C: Clock>(
-    heap: &Heap,
-    clock: &C,
-    tick: u32,
+    run: &RunContext<C>,
     pass: &mut Pass,
     call: MonitorCall,
 ) -> Progress<Entry>
-    requires may { MayMake heap.now pass.old call }
+    requires may { MayMake run.now.heap.now pass.old call }
     requires rare { IsRare call }
-    ensures made { HasMade heap.now pass.old pass.new call result }
-    ensures timed { StaysTimed tick pass.old pass.new }
+    ensures made { HasMade run.now.heap.now pass.old pass.new call result }
+    ensures timed { StaysTimed run.now.tick pass.old pass.new }
 {
     match call {
         MonitorCall::Enter { .. } => unreachable!(),
         MonitorCall::Exit { .. } => unreachable!(),
         MonitorCall::Wait { .. } => unreachable!(),
-        MonitorCall::Notify { object } => notify(heap, pass, object, time_now(clock, tick)),
-        MonitorCall::NotifyAll { object } => notify_all(heap, pass, object, time_now(clock, tick)),
+        MonitorCall::Notify { object } => notify(
+            run.heap,
+            pass,
+            object,
+            time_now(run.clock, run.tick),
+        ),
+        MonitorCall::NotifyAll { object } => notify_all(
+            run.heap,
+            pass,
+            object,
+            time_now(run.clock, run.tick),
+        ),
         MonitorCall::Get { .. } => unreachable!(),
         MonitorCall::Put { .. } => unreachable!(),
         MonitorCall::Hash { local, object } => {
-            hash(heap, pass, local, object, time_now(clock, tick))
+            hash(run.heap, pass, local, object, time_now(run.clock, run.tick))
         }
-        MonitorCall::New { local, class } => create(heap, pass, local, class),
-        MonitorCall::Print { value } => print(heap, pass, value),
-        MonitorCall::Dump { number } => dump(heap, pass, number),
+        MonitorCall::New { local, class } => create(run.heap, pass, local, class),
+        MonitorCall::Print { value } => print(run.heap, pass, value),
+        MonitorCall::Dump { number } => dump(run.heap, pass, number),
     }
 }

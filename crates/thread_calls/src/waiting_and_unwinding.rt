@@ -11,12 +11,12 @@ ghost use Rattle.thread_calls.specs.inner.Least.{lesser, object_in};
 ghost use Rattle.thread_calls.specs.Timed.{StaysTimed};
 ghost use Rattle.thread_frame.specs.Sights.{counts_from};
 
+use crate::run_context::RunContext;
 use crate::timing::time_now;
 use core_world::Progress;
 use heap_table::{Heap, Pass, hold_of_word};
 use lock_runtime as runtime;
 use mark_word::HoldForm;
-use object_program::Program;
 use plain_machine::NextEntry;
 use plain_monitor::{Ending, Entry, ending_entry};
 use run_io::Clock;
@@ -64,22 +64,19 @@ fn least_held(heap: &Heap, pass: &Pass) -> Option<u32>
 /// Goes on with the thread's wait on the object.
 #[inline(never)]
 pub(crate) fn continue_wait<C: Clock>(
-    program: &Program,
-    heap: &Heap,
-    clock: &C,
-    tick: u32,
-    fuel: u32,
+    run: &RunContext<C>,
     pass: &mut Pass,
     frame: &mut Frame,
     object: u32,
 ) -> Progress<bool>
-    requires heap { IsHeapOf heap.now program.now }
-    requires may { MayAdvance heap.now program.now fuel pass.old frame.old }
+    requires heap { IsHeapOf run.now.heap.now run.now.program.now }
+    requires may { MayAdvance run.now.heap.now run.now.program.now run.now.fuel pass.old frame.old }
     requires at { frame.old.mode ≡ Some (Waiting object) }
-    ensures advanced { HasAdvanced heap.now program.now fuel pass.old pass.new frame.old frame.new result }
-    ensures timed { StaysTimed tick pass.old pass.new }
+    ensures advanced { HasAdvanced run.now.heap.now run.now.program.now run.now.fuel
+        pass.old pass.new frame.old frame.new result }
+    ensures timed { StaysTimed run.now.tick pass.old pass.new }
 {
-    match runtime::wait(heap, pass, object, time_now(clock, tick)) {
+    match runtime::wait(run.heap, pass, object, time_now(run.clock, run.tick)) {
         Ok(progress) => match progress {
             Progress::Done(()) => {
                 frame.follow(NextEntry::Resumes { object }, &Entry::Resume { object });
@@ -93,24 +90,23 @@ pub(crate) fn continue_wait<C: Clock>(
 
 /// Leaves the least object that the thread holds, or ends the thread, which holds none.
 #[inline(never)]
-pub(crate) fn unwind(
-    program: &Program,
-    heap: &Heap,
-    fuel: u32,
+pub(crate) fn unwind<C>(
+    run: &RunContext<C>,
     pass: &mut Pass,
     frame: &mut Frame,
     ending: Ending,
 ) -> Progress<bool>
-    requires heap { IsHeapOf heap.now program.now }
-    requires may { MayAdvance heap.now program.now fuel pass.old frame.old }
+    requires heap { IsHeapOf run.now.heap.now run.now.program.now }
+    requires may { MayAdvance run.now.heap.now run.now.program.now run.now.fuel pass.old frame.old }
     requires at { frame.old.mode ≡ Some (Unwinding ending) }
-    ensures advanced { HasAdvanced heap.now program.now fuel pass.old pass.new frame.old frame.new result }
+    ensures advanced { HasAdvanced run.now.heap.now run.now.program.now run.now.fuel
+        pass.old pass.new frame.old frame.new result }
     ensures timed { (tick : ℕ) → StaysTimed tick pass.old pass.new }
 {
-    match least_held(heap, pass) {
-        Some(object) => leave(program, heap, fuel, pass, frame, ending, object),
+    match least_held(run.heap, pass) {
+        Some(object) => leave(run, pass, frame, ending, object),
         None => {
-            runtime::finish(heap, pass, ending);
+            runtime::finish(run.heap, pass, ending);
             frame.follow(NextEntry::Ends { ending }, &ending_entry(ending));
             Progress::Done(false)
         }
@@ -118,24 +114,23 @@ pub(crate) fn unwind(
 }
 
 // Leaves this object, as the thread ends so.
-fn leave(
-    program: &Program,
-    heap: &Heap,
-    fuel: u32,
+fn leave<C>(
+    run: &RunContext<C>,
     pass: &mut Pass,
     frame: &mut Frame,
     ending: Ending,
     object: u32,
 ) -> Progress<bool>
-    requires heap { IsHeapOf heap.now program.now }
-    requires may { MayAdvance heap.now program.now fuel pass.old frame.old }
+    requires heap { IsHeapOf run.now.heap.now run.now.program.now }
+    requires may { MayAdvance run.now.heap.now run.now.program.now run.now.fuel pass.old frame.old }
     requires at { frame.old.mode ≡ Some (Unwinding ending) }
-    requires least { held_from 0 (counts_from 0 (length heap.now.heap.shape.objects) pass.old.known.holds)
+    requires least { held_from 0 (counts_from 0 (length run.now.heap.now.heap.shape.objects) pass.old.known.holds)
         ≡ Some object }
-    ensures advanced { HasAdvanced heap.now program.now fuel pass.old pass.new frame.old frame.new result }
+    ensures advanced { HasAdvanced run.now.heap.now run.now.program.now run.now.fuel
+        pass.old pass.new frame.old frame.new result }
     ensures timed { (tick : ℕ) → StaysTimed tick pass.old pass.new }
 {
-    match runtime::exit(heap, pass, object) {
+    match runtime::exit(run.heap, pass, object) {
         Ok(progress) => match progress {
             Progress::Done(()) => {
                 frame.follow(NextEntry::Leaves { object }, &Entry::Exit { object });

@@ -1,10 +1,8 @@
 -- What a call that begins asks.
-use Rattle.std.specs.Prelude.{◌×◌}
 use Rattle.core_world.specs.declared.heap_call.HeapCall.{HeapCall}
 use Rattle.core_world.specs.declared.heap_call.HeapCall.TheVariants.{Poll, Stop, Resume, Check, Create, StackEnter, StackExit, Request, Reached, Release}
 use Rattle.heap_table.specs.Resting.{MayCall, MayOperate}
 use Rattle.heap_table.specs.Seen.{HeapSeen, PassSeen}
-use Rattle.lock_runtime_c.specs.LogRoom.{Fits, room_for}
 
 -- an operation also that the log has room for it
 abbrev pub MayMake : HeapSeen → PassSeen → HeapCall → Type 0

@@ -6,7 +6,5 @@ returns-clause-made c = (
   c.checked.ensures,
   c.check_stuck.ensures.run.ran,
   c.check_stuck.ensures.says,
-  c.check_stuck.ensures.finds,
-  c.check_stuck.ensures.stands,
-  c.check_stuck.ensures.others,
+  (c.check_stuck.ensures.finds, c.check_stuck.ensures.stands, c.check_stuck.ensures.others),
 )

@@ -6,8 +6,5 @@ returns-clause-made c = (
   c.woke.ensures,
   c.notify.ensures.run.ran,
   c.notify.ensures.says,
-  c.notify.ensures.wakes,
-  c.notify.ensures.stands,
-  c.notify.ensures.others,
-  c.notify.ensures.owner,
+  (c.notify.ensures.wakes, c.notify.ensures.stands, c.notify.ensures.others, c.notify.ensures.owner),
 )

@@ -6,8 +6,5 @@ returns-clause-made c = (
   c.woke_all.ensures,
   c.notify_all.ensures.run.ran,
   c.notify_all.ensures.says,
-  c.notify_all.ensures.wakes,
-  c.notify_all.ensures.stands,
-  c.notify_all.ensures.others,
-  c.notify_all.ensures.owner,
+  (c.notify_all.ensures.wakes, c.notify_all.ensures.stands, c.notify_all.ensures.others, c.notify_all.ensures.owner),
 )

@@ -1,4 +1,4 @@
-use Rattle.std.proofs.Common.{sym, subst}
+use Rattle.std.proofs.Common.{subst}
 use Rattle.lock_runtime_c.specs.Opening.{Opens}
 use Rattle.lock_runtime_c.specs.declared.inner.Inner.{Inner}
 use Rattle.lock_runtime_c.proofs.ByHandle.{put_back}

@@ -13,11 +13,11 @@ use Rattle.run_rounds.proofs.runs.run.Goals as goal
 
 pub serve_until_over-requires-clause-runners : goal.serve_until_over-requires-clause-runners
 serve_until_over-requires-clause-runners g c κs within =
-    subst (AreRunners c.args.heap c.args.program.now c.args.fuel) (sym c.into_vec-runners.ensures) c.requires.runners.runners
+    subst (AreRunners c.args.heap c.args.terms.now.program.now c.args.terms.now.fuel) (sym c.into_vec-runners.ensures) c.requires.runners.runners
 
 pub serve_until_over-requires-clause-timed : goal.serve_until_over-requires-clause-timed
 serve_until_over-requires-clause-timed g c κs within =
-    subst (AreTimed c.args.tick) (sym c.into_vec-runners.ensures) c.requires.runners.timed
+    subst (AreTimed c.args.terms.now.tick) (sym c.into_vec-runners.ensures) c.requires.runners.timed
 
 -- the passes are those of the runners, in their order
 pub close-requires-clause-passes : goal.close-requires-clause-passes
@@ -25,7 +25,7 @@ close-requires-clause-passes g c =
     let done = c.in_ok-runners.ensures in
     let rs = c.in_ok-runners.runners.items in
     let same : c.of.result ≡ passes rs = c.of.ensures ∙ c.into_passes-passes.ensures in
-    subst (All (IsOf c.args.heap)) (sym same) (all_of c.args.heap c.args.program.now c.args.fuel rs done.runners)
+    subst (All (IsOf c.args.heap)) (sym same) (all_of c.args.heap c.args.terms.now.program.now c.args.terms.now.fuel rs done.runners)
 
 pub close-requires-clause-order : goal.close-requires-clause-order
 close-requires-clause-order g c =
@@ -34,7 +34,7 @@ close-requires-clause-order g c =
     let same : c.of.result ≡ passes rs = c.of.ensures ∙ c.into_passes-passes.ensures in
     let many : length rs ≡ c.args.heap.heap.shape.threads = done.many ∙ ap length c.into_vec-runners.ensures ∙ c.requires.runners.count in
     subst (λ (ps : List PassSeen). InOrder 0 (knowns ps) × (length ps ≡ c.args.heap.heap.shape.threads)) (sym same) (
-      ordered c.args.heap c.args.program.now c.args.fuel rs done.runners,
+      ordered c.args.heap c.args.terms.now.program.now c.args.terms.now.fuel rs done.runners,
       length-map rs (λ r. r.pass) ∙ many,
     )
 
@@ -44,7 +44,7 @@ close-requires-clause-stopped g c =
     let rs = c.in_ok-runners.runners.items in
     let same : c.of.result ≡ passes rs = c.of.ensures ∙ c.into_passes-passes.ensures in
     subst (All (λ (p : PassSeen). p.known.running ≡ false)) (sym same)
-    (all_still c.args.heap c.args.program.now c.args.fuel rs done.runners)
+    (all_still c.args.heap c.args.terms.now.program.now c.args.terms.now.fuel rs done.runners)
 
 pub close-requires-clause-quiet : goal.close-requires-clause-quiet
 close-requires-clause-quiet g c =
@@ -52,20 +52,21 @@ close-requires-clause-quiet g c =
     let rs = c.in_ok-runners.runners.items in
     let same : c.of.result ≡ passes rs = c.of.ensures ∙ c.into_passes-passes.ensures in
     subst (λ (ps : List PassSeen). All (λ (p : PassSeen). p.known.requesting ≡ false) ps ⊎ Any (λ (p : PassSeen). p.known.halted ≡ true) ps)
-    (sym same) (quiet c.args.heap c.args.program.now c.args.fuel rs done.runners done.over.0 done.over.1)
+    (sym same) (quiet c.args.heap c.args.terms.now.program.now c.args.terms.now.fuel rs done.runners done.over.0 done.over.1)
 
 pub returns : goal.returns
 returns g c =
     let done = c.in_ok-runners.ensures in
     let rs = c.in_ok-runners.runners.items in
-    let p = c.args.program.now in
+    let terms = c.args.terms.now in
+    let p = terms.program.now in
     let logs = logs_of (passes rs) in
     let same : c.of.result ≡ passes rs = c.of.ensures ∙ c.into_passes-passes.ensures in
     let many : length rs ≡ c.args.heap.heap.shape.threads = done.many ∙ ap length c.into_vec-runners.ensures ∙ c.requires.runners.count in
     let heap = c.args.heap in
     let whole : c.close.result.logs ≡ logs_of c.of.result =
-    c.close.ensures.whole (subst (All (λ (p : PassSeen). p.limit ≡ heap.room)) (sym same)
-    (all_whole heap p c.args.fuel rs done.runners c.requires.runners.room)) in
+    c.close.ensures.whole (subst (All (λ (p : PassSeen). p.limit ≡ heap.room))
+    (sym same) (all_whole heap p terms.fuel rs done.runners c.requires.runners.room)) in
     let closed : IsClosed c.args.heap c.of.result c.close.result = record {
       heap = c.close.ensures.heap;
       law = c.close.ensures.law;
@@ -79,13 +80,13 @@ returns g c =
       biases_stuck = λ nothing.
           subst (λ l. BiasesAtEnd 1 heap.heap c.close.result.words l (knowns c.of.result)) (sym whole) (c.close.ensures.biases_stuck nothing);
     } in
-    let laws : Laws p c.args.fuel logs = record {
-      objects = c.the_machine_is_what_the_logs_make_it.ensures.objects p c.args.fuel logs;
-      threads = c.the_machine_is_what_the_logs_make_it.ensures.threads p c.args.fuel logs;
-      each = λ t m s. c.the_machine_is_what_the_logs_make_it.ensures.each p c.args.fuel t logs m s;
-      waits = λ t o log s. c.a_log_tells_where_its_thread_stands.ensures.waits p c.args.fuel t o log s;
-      ends = λ t log s. c.a_log_tells_where_its_thread_stands.ensures.ends p c.args.fuel t log s;
+    let laws : Laws p terms.fuel logs = record {
+      objects = c.the_machine_is_what_the_logs_make_it.ensures.objects p terms.fuel logs;
+      threads = c.the_machine_is_what_the_logs_make_it.ensures.threads p terms.fuel logs;
+      each = λ t m s. c.the_machine_is_what_the_logs_make_it.ensures.each p terms.fuel t logs m s;
+      waits = λ t o log s. c.a_log_tells_where_its_thread_stands.ensures.waits p terms.fuel t o log s;
+      ends = λ t log s. c.a_log_tells_where_its_thread_stands.ensures.ends p terms.fuel t log s;
       listed = λ objects t o x. c.waits_follow_from_the_own_log.ensures (shape_of p) logs objects t o x;
     } in
-    has_run c.args.heap p c.args.fuel rs done.runners c.requires.program many c.close.result
-    (subst (λ (ps : List PassSeen). IsClosed c.args.heap ps c.close.result) same closed) laws done.over.0 done.over.1 c.args.tick done.timed
+    has_run c.args.heap p terms.fuel rs done.runners c.requires.program many c.close.result
+    (subst (λ (ps : List PassSeen). IsClosed c.args.heap ps c.close.result) same closed) laws done.over.0 done.over.1 terms.tick done.timed

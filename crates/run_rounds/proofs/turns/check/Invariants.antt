@@ -6,7 +6,7 @@ use Rattle.run_rounds.proofs.turns.check.Given as goal
 
 abbrev pub invariant-loop : goal.invariant-loop
 invariant-loop g l = record {
-  runner : IsRunner l.heap l.program l.runner;
+  runner : IsRunner l.run.heap.now l.run.program.now l.runner;
   same : IsSame l.initial.runner l.runner;
   free : l.runner.pass.known.requesting ≡ l.runner.pass.known.checking;
   live : has_ended l.runner.frame ≡ false;

@@ -12,9 +12,10 @@ use Rattle.run_rounds.proofs.workers.serve_all.Goals as goal
 pub new-requires-clause-are : goal.new-requires-clause-are
 new-requires-clause-are g c = λ i r e.
     let h = c.args.heap.now in
-    let p = c.args.program.now in
-    as_course g.C.Course.heap g.C.Course.program g.C.Course.fuel g.C.Course.tick h p c.args.fuel c.args.tick Ready i r c.requires.course
-    (all_lie h p c.args.fuel c.args.tick c.args.runners.items c.requires.runners c.requires.timed i r e)
+    let terms = c.args.terms.now in
+    let p = terms.program.now in
+    as_course g.C.Course.heap g.C.Course.program g.C.Course.fuel g.C.Course.tick h p terms.fuel terms.tick Ready i r c.requires.course
+    (all_lie h p terms.fuel terms.tick c.args.runners.items c.requires.runners c.requires.timed i r e)
 
 -- each worker comes back with its part, and knows that all is over
 pub dismiss-requires-clause-workers : goal.dismiss-requires-clause-workers
@@ -36,12 +37,13 @@ dismiss-requires-clause-workers g c =
 pub returns : goal.returns
 returns g c =
     let h = c.args.heap.now in
-    let p = c.args.program.now in
+    let terms = c.args.terms.now in
+    let p = terms.program.now in
     let rs = c.end.result.items in
     let over = c.end.ensures.over (ap (λ (m : Me RunnerSeen SeatView). m.0.over) c.dismiss.ensures.over) in
-    are_done h p c.args.fuel c.args.tick rs (length c.args.runners.items)
+    are_done h p terms.fuel terms.tick rs (length c.args.runners.items)
     (sym c.end.result.ok.0 ∙ c.end.ensures.count ∙ c.in-Ok.ensures.ok.0 ∙ c.args.runners.ok.0)
     (λ i r e.
     let x = c.end.ensures.are i r e in
-    (x.0, as_called g.C.Course.heap g.C.Course.program g.C.Course.fuel g.C.Course.tick h p c.args.fuel c.args.tick x.0 i r c.requires.course x.1))
-    (over_as_called g.C.Course.heap g.C.Course.program g.C.Course.fuel g.C.Course.tick h p c.args.fuel c.args.tick rs c.requires.course over)
+    (x.0, as_called g.C.Course.heap g.C.Course.program g.C.Course.fuel g.C.Course.tick h p terms.fuel terms.tick x.0 i r c.requires.course x.1))
+    (over_as_called g.C.Course.heap g.C.Course.program g.C.Course.fuel g.C.Course.tick h p terms.fuel terms.tick rs c.requires.course over)

@@ -10,4 +10,4 @@ pub returns-in-Calls-clause-advanced : goal.returns-in-Calls-clause-advanced
 returns-in-Calls-clause-advanced g c = c.in-Calls.ensures.from _ _ _ c.call.ensures.advanced
 
 pub returns-in-Unwinds-clause-timed : goal.returns-in-Unwinds-clause-timed
-returns-in-Unwinds-clause-timed g c = c.unwind-progress.ensures.timed c.args.tick
+returns-in-Unwinds-clause-timed g c = c.unwind-progress.ensures.timed c.args.run.now.tick

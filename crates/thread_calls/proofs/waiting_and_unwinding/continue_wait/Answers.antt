@@ -22,65 +22,73 @@ use Rattle.thread_calls.proofs.waiting_and_unwinding.continue_wait.Goals as goal
 pub wait-requires : goal.wait-requires
 wait-requires g c =
     let a = c.args in
+    let run = a.run.now in
     let r = c.requires in
-    let asks = asks_resume a.heap.now a.program.now a.fuel a.pass.now a.frame.now r.heap r.may a.object r.at in
-    let s = state_by a.heap.now a.program.now a.pass.now a.frame.now in
-    let there = (asked_of a.program.now s (Resumes a.object) (thread_is a.heap.now a.program.now a.fuel a.pass.now a.frame.now r.heap r.may) asks).there in
-    may_wait a.heap.now a.program.now a.fuel a.pass.now a.frame.now r.heap r.may (Resumes a.object) (entry.Resume a.object) a.object c.time_now.result asks
+    let asks = asks_resume run.heap.now run.program.now run.fuel a.pass.now a.frame.now r.heap r.may a.object r.at in
+    let s = state_by run.heap.now run.program.now a.pass.now a.frame.now in
+    let there = (asked_of run.program.now s (Resumes a.object)
+    (thread_is run.heap.now run.program.now run.fuel a.pass.now a.frame.now r.heap r.may) asks).there in
+    may_wait run.heap.now run.program.now run.fuel a.pass.now a.frame.now r.heap r.may
+    (Resumes a.object) (entry.Resume a.object) a.object c.time_now.result asks
     (eq-eqb a.object a.object refl) refl refl there
 
 pub unreachable-requires : goal.unreachable-requires
 unreachable-requires g c =
     let a = c.args in
+    let run = a.run.now in
     let r = c.requires in
-    let p = a.program.now in
+    let p = run.program.now in
     let k = a.pass.now in
     let on = r.may.on in
     let t = k.known.thread in
-    let s = state_by a.heap.now p k a.frame.now in
-    let asks = asks_resume a.heap.now p a.fuel k a.frame.now r.heap r.may a.object r.at in
-    let there = (asked_of p s (Resumes a.object) (thread_is a.heap.now p a.fuel k a.frame.now r.heap r.may) asks).there in
-    let mode = mode_is a.heap.now p a.fuel k a.frame.now r.heap r.may (Waiting a.object) r.at in
-    let one = waits_held p t r.heap.program a.fuel a.object k.known.log s on.values on.follows mode in
-    let told = holds_told p a.fuel t a.object k.known.log s on.follows there in
+    let s = state_by run.heap.now p k a.frame.now in
+    let asks = asks_resume run.heap.now p run.fuel k a.frame.now r.heap r.may a.object r.at in
+    let there = (asked_of p s (Resumes a.object) (thread_is run.heap.now p run.fuel k a.frame.now r.heap r.may) asks).there in
+    let mode = mode_is run.heap.now p run.fuel k a.frame.now r.heap r.may (Waiting a.object) r.at in
+    let one = waits_held p t r.heap.program run.fuel a.object k.known.log s on.values on.follows mode in
+    let told = holds_told p run.fuel t a.object k.known.log s on.follows there in
     let none = c.in-Err.ensures.owner in
     absurd (omega (arith, one, told, none))
 
 pub returns-in-Done-clause-advanced : goal.returns-in-Done-clause-advanced
 returns-in-Done-clause-advanced g c =
     let a = c.args in
+    let run = a.run.now in
     let r = c.requires in
     let q = c.wait.new.pass in
     let e = c.in-Ok.ensures in
-    subst (λ f. HasAdvanced a.heap.now a.program.now a.fuel a.pass.now q a.frame.now f (Done true)) (sym c.follow.ensures)
-    (resume_done a.heap.now a.program.now a.fuel a.pass.now a.frame.now r.heap r.may a.object c.time_now.result q (came e.rests e.run) c.in-Ok.progress
+    subst (λ f. HasAdvanced run.heap.now run.program.now run.fuel a.pass.now q a.frame.now f (Done true)) (sym c.follow.ensures)
+    (resume_done run.heap.now run.program.now run.fuel a.pass.now a.frame.now r.heap r.may a.object c.time_now.result q (came e.rests e.run) c.in-Ok.progress
     e.says e.stands e.run.ran c.in-Done.field-0 r.at c.in-Done.is)
 
 pub returns-in-Pending-clause-advanced : goal.returns-in-Pending-clause-advanced
 returns-in-Pending-clause-advanced g c =
     let a = c.args in
+    let run = a.run.now in
     let r = c.requires in
     let q = c.wait.new.pass in
     let e = c.in-Ok.ensures in
-    resume_left a.heap.now a.program.now a.fuel a.pass.now a.frame.now r.heap r.may a.object c.time_now.result q (came e.rests e.run) c.in-Ok.progress
+    resume_left run.heap.now run.program.now run.fuel a.pass.now a.frame.now r.heap r.may a.object c.time_now.result q (came e.rests e.run) c.in-Ok.progress
     e.says e.stands e.run.ran c.in-Pending.why r.at c.in-Pending.is
 
 pub returns-in-Done-clause-timed : goal.returns-in-Done-clause-timed
 returns-in-Done-clause-timed g c =
     let a = c.args in
-    let h = a.heap.now in
+    let run = a.run.now in
+    let h = run.heap.now in
     let k = a.pass.now in
     let q = c.wait.new.pass in
     let now = c.time_now.result in
-    timed_at a.tick (task.Wait a.object now) k.known q.known now refl c.time_now.ensures
+    timed_at run.tick (task.Wait a.object now) k.known q.known now refl c.time_now.ensures
     (called (wait_named h.heap.shape (start_now h k) a.object now) c.in-Ok.ensures.run.ran)
 
 pub returns-in-Pending-clause-timed : goal.returns-in-Pending-clause-timed
 returns-in-Pending-clause-timed g c =
     let a = c.args in
-    let h = a.heap.now in
+    let run = a.run.now in
+    let h = run.heap.now in
     let k = a.pass.now in
     let q = c.wait.new.pass in
     let now = c.time_now.result in
-    timed_at a.tick (task.Wait a.object now) k.known q.known now refl c.time_now.ensures
+    timed_at run.tick (task.Wait a.object now) k.known q.known now refl c.time_now.ensures
     (called (wait_named h.heap.shape (start_now h k) a.object now) c.in-Ok.ensures.run.ran)

@@ -21,66 +21,72 @@ use Rattle.thread_calls.proofs.OnTime.{timed_still}
 use Rattle.thread_calls.proofs.waiting_and_unwinding.leave.Goals as goal
 
 pub exit-requires : goal.exit-requires
-exit-requires c =
+exit-requires g c =
     let a = c.args in
+    let run = a.run.now in
     let r = c.requires in
-    let asks = asks_leave a.heap.now a.program.now a.fuel a.pass.now a.frame.now r.heap r.may a.ending a.object r.at r.least in
-    let s = state_by a.heap.now a.program.now a.pass.now a.frame.now in
-    let held = (asked_of a.program.now s (Left a.object) (thread_is a.heap.now a.program.now a.fuel a.pass.now a.frame.now r.heap r.may) asks).held in
-    may_leave a.heap.now a.program.now a.fuel a.pass.now a.frame.now r.heap r.may a.object asks held.0
+    let asks = asks_leave run.heap.now run.program.now run.fuel a.pass.now a.frame.now r.heap r.may a.ending a.object r.at r.least in
+    let s = state_by run.heap.now run.program.now a.pass.now a.frame.now in
+    let held = (asked_of run.program.now s (Left a.object) (thread_is run.heap.now run.program.now run.fuel a.pass.now a.frame.now r.heap r.may) asks).held in
+    may_leave run.heap.now run.program.now run.fuel a.pass.now a.frame.now r.heap r.may a.object asks held.0
 
 pub unreachable-requires : goal.unreachable-requires
-unreachable-requires c =
+unreachable-requires g c =
     let a = c.args in
+    let run = a.run.now in
     let r = c.requires in
-    let asks = asks_leave a.heap.now a.program.now a.fuel a.pass.now a.frame.now r.heap r.may a.ending a.object r.at r.least in
-    let s = state_by a.heap.now a.program.now a.pass.now a.frame.now in
-    let held = (asked_of a.program.now s (Left a.object) (thread_is a.heap.now a.program.now a.fuel a.pass.now a.frame.now r.heap r.may) asks).held in
-    let one = held_is a.heap.now a.program.now a.fuel a.pass.now a.frame.now r.heap r.may a.object held in
+    let asks = asks_leave run.heap.now run.program.now run.fuel a.pass.now a.frame.now r.heap r.may a.ending a.object r.at r.least in
+    let s = state_by run.heap.now run.program.now a.pass.now a.frame.now in
+    let held = (asked_of run.program.now s (Left a.object) (thread_is run.heap.now run.program.now run.fuel a.pass.now a.frame.now r.heap r.may) asks).held in
+    let one = held_is run.heap.now run.program.now run.fuel a.pass.now a.frame.now r.heap r.may a.object held in
     let none = c.in-Err.ensures.owner in
     absurd (omega (arith, one, none))
 
 pub returns-in-Done-clause-advanced : goal.returns-in-Done-clause-advanced
-returns-in-Done-clause-advanced c =
+returns-in-Done-clause-advanced g c =
     let a = c.args in
+    let run = a.run.now in
     let r = c.requires in
-    let h = a.heap.now in
+    let h = run.heap.now in
     let k = a.pass.now in
     let q = c.exit.new.pass in
     let e = c.in-Ok.ensures in
     let ran = subst (λ z. RanFrom h (exit_steps (start_now h k) a.object) k q (Ok z)) c.in-Done.is e.run.ran in
     let one = progress_done h k q (came e.rests e.run) (λ ms z. ExitSays (start_now h k) a.object ms (Ok z)) c.in-Ok.progress e.says e.stands
     c.in-Done.field-0 (entry.Exit a.object) c.in-Done.is (λ ms z. z.1) (task.Exit a.object) ran in
-    subst (λ g. HasAdvanced h a.program.now a.fuel k q a.frame.now g (Done false)) (sym c.follow.ensures)
-    (leave_done h a.program.now a.fuel k a.frame.now r.heap r.may q a.ending a.object r.at r.least one)
+    subst (λ g. HasAdvanced h run.program.now run.fuel k q a.frame.now g (Done false)) (sym c.follow.ensures)
+    (leave_done h run.program.now run.fuel k a.frame.now r.heap r.may q a.ending a.object r.at r.least one)
 
 pub returns-in-Pending-clause-advanced : goal.returns-in-Pending-clause-advanced
-returns-in-Pending-clause-advanced c =
+returns-in-Pending-clause-advanced g c =
     let a = c.args in
+    let run = a.run.now in
     let r = c.requires in
-    let h = a.heap.now in
+    let h = run.heap.now in
     let k = a.pass.now in
     let q = c.exit.new.pass in
     let e = c.in-Ok.ensures in
     let why = c.in-Pending.why in
     let ran = subst (λ z. RanFrom h (exit_steps (start_now h k) a.object) k q (Ok z)) c.in-Pending.is e.run.ran in
-    let asks = asks_leave h a.program.now a.fuel k a.frame.now r.heap r.may a.ending a.object r.at r.least in
+    let asks = asks_leave h run.program.now run.fuel k a.frame.now r.heap r.may a.ending a.object r.at r.least in
     let one = progress_left h k q (came e.rests e.run) (λ ms z. ExitSays (start_now h k) a.object ms (Ok z)) c.in-Ok.progress e.says e.stands
     (unfinished_on op.Exit a.object) why c.in-Pending.is (λ ms z. z.1.0)
     (λ ms z. cause_some k.known.thread a.object why ms z.1.1.cause) (task.Exit a.object) ran in
-    still_waits h a.program.now a.fuel k a.frame.now r.heap r.may q why (Unwinding a.ending) (unfinished_on op.Exit a.object) r.at one
+    still_waits h run.program.now run.fuel k a.frame.now r.heap r.may q why (Unwinding a.ending) (unfinished_on op.Exit a.object) r.at one
     (sym (ap unfinished_of asks)) refl
 
 pub returns-in-Done-clause-timed : goal.returns-in-Done-clause-timed
-returns-in-Done-clause-timed c = λ tick.
+returns-in-Done-clause-timed g c = λ tick.
     let a = c.args in
+    let run = a.run.now in
     let k = a.pass.now in
     let q = c.exit.new.pass in
-    timed_still tick (task.Exit a.object) k.known q.known refl (called (exit_named (start_now a.heap.now k) a.object) c.in-Ok.ensures.run.ran)
+    timed_still tick (task.Exit a.object) k.known q.known refl (called (exit_named (start_now run.heap.now k) a.object) c.in-Ok.ensures.run.ran)
 
 pub returns-in-Pending-clause-timed : goal.returns-in-Pending-clause-timed
-returns-in-Pending-clause-timed c = λ tick.
+returns-in-Pending-clause-timed g c = λ tick.
     let a = c.args in
+    let run = a.run.now in
     let k = a.pass.now in
     let q = c.exit.new.pass in
-    timed_still tick (task.Exit a.object) k.known q.known refl (called (exit_named (start_now a.heap.now k) a.object) c.in-Ok.ensures.run.ran)
+    timed_still tick (task.Exit a.object) k.known q.known refl (called (exit_named (start_now run.heap.now k) a.object) c.in-Ok.ensures.run.ran)

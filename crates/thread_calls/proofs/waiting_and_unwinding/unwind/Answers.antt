@@ -18,32 +18,35 @@ use Rattle.thread_calls.proofs.OnTime.{timed_still}
 use Rattle.thread_calls.proofs.waiting_and_unwinding.unwind.Goals as goal
 
 pub finish-requires : goal.finish-requires
-finish-requires c =
+finish-requires g c =
     let a = c.args in
+    let run = a.run.now in
     let r = c.requires in
     let least = sym c.least_held.ensures ∙ c.in-None.is in
-    let asks = asks_end a.heap.now a.program.now a.fuel a.pass.now a.frame.now r.heap r.may a.ending r.at least in
-    let s = state_by a.heap.now a.program.now a.pass.now a.frame.now in
-    let last = asked_of a.program.now s (Ends a.ending) (thread_is a.heap.now a.program.now a.fuel a.pass.now a.frame.now r.heap r.may) asks in
-    may_finish a.heap.now a.program.now a.fuel a.pass.now a.frame.now r.heap r.may (Ends a.ending) asks a.ending (ap unfinished_of asks) last.none
+    let asks = asks_end run.heap.now run.program.now run.fuel a.pass.now a.frame.now r.heap r.may a.ending r.at least in
+    let s = state_by run.heap.now run.program.now a.pass.now a.frame.now in
+    let last = asked_of run.program.now s (Ends a.ending) (thread_is run.heap.now run.program.now run.fuel a.pass.now a.frame.now r.heap r.may) asks in
+    may_finish run.heap.now run.program.now run.fuel a.pass.now a.frame.now r.heap r.may (Ends a.ending) asks a.ending (ap unfinished_of asks) last.none
 
 pub returns-in-None-clause-advanced : goal.returns-in-None-clause-advanced
-returns-in-None-clause-advanced c =
+returns-in-None-clause-advanced g c =
     let a = c.args in
+    let run = a.run.now in
     let r = c.requires in
-    let h = a.heap.now in
+    let h = run.heap.now in
     let k = a.pass.now in
     let q = c.finish.new.pass in
     let e = c.finish.ensures in
     let least = sym c.least_held.ensures ∙ c.in-None.is in
     let moved = c.follow.ensures ∙ ap (λ x. frame_behind a.frame.now (Ends a.ending) x) c.ending_entry.ensures in
     let one = logged h k q (came e.rests e.run) (ending_entry a.ending) e.says e.stands (task.Finish a.ending) e.run.ran in
-    subst (λ f. HasAdvanced h a.program.now a.fuel k q a.frame.now f (Done false)) (sym moved)
-    (end_done h a.program.now a.fuel k a.frame.now r.heap r.may q a.ending r.at least one)
+    subst (λ f. HasAdvanced h run.program.now run.fuel k q a.frame.now f (Done false)) (sym moved)
+    (end_done h run.program.now run.fuel k a.frame.now r.heap r.may q a.ending r.at least one)
 
 pub returns-in-None-clause-timed : goal.returns-in-None-clause-timed
-returns-in-None-clause-timed c = λ tick.
+returns-in-None-clause-timed g c = λ tick.
     let a = c.args in
+    let run = a.run.now in
     let k = a.pass.now in
     let q = c.finish.new.pass in
-    timed_still tick (task.Finish a.ending) k.known q.known refl (called (finish_named (start_now a.heap.now k) a.ending) c.finish.ensures.run.ran)
+    timed_still tick (task.Finish a.ending) k.known q.known refl (called (finish_named (start_now run.heap.now k) a.ending) c.finish.ensures.run.ran)

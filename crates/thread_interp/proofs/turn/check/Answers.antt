@@ -4,71 +4,80 @@ use Rattle.thread_interp.proofs.Turns.{may_check, not_checked, barred_runner, ch
 use Rattle.thread_interp.proofs.turn.check.Goals as goal
 
 pub set_running-requires-clause-on : goal.set_running-requires-clause-on
-set_running-requires-clause-on c = c.requires.runner.on
+set_running-requires-clause-on g c = c.requires.runner.on
 
 pub returns-in-Pending-clause-runner : goal.returns-in-Pending-clause-runner
-returns-in-Pending-clause-runner c =
+returns-in-Pending-clause-runner g c =
     let a = c.args in
-    barred_runner a.heap.now a.program.now a.fuel 0 a.pass.now c.set_running.new.pass a.frame.now c.requires.live c.in-Pending.why c.in-Pending.ensures.ready
+    let run = a.run.now in
+    barred_runner run.heap.now run.program.now run.fuel 0 a.pass.now c.set_running.new.pass
+    a.frame.now c.requires.live c.in-Pending.why c.in-Pending.ensures.ready
 
 pub returns-in-Pending-clause-thread : goal.returns-in-Pending-clause-thread
-returns-in-Pending-clause-thread c = c.set_running.ensures.ready.thread
+returns-in-Pending-clause-thread g c = c.set_running.ensures.ready.thread
 
 pub returns-in-Pending-clause-stands : goal.returns-in-Pending-clause-stands
-returns-in-Pending-clause-stands c =
+returns-in-Pending-clause-stands g c =
     let a = c.args in
-    not_checked a.heap.now a.program.now a.fuel a.pass.now c.set_running.new.pass a.frame.now c.requires.free c.requires.live
+    let run = a.run.now in
+    not_checked run.heap.now run.program.now run.fuel a.pass.now c.set_running.new.pass a.frame.now c.requires.free c.requires.live
     c.in-Pending.why c.in-Pending.ensures.ready
 
 pub check_stuck-stuck-requires : goal.check_stuck-stuck-requires
-check_stuck-stuck-requires c =
+check_stuck-stuck-requires g c =
     let a = c.args in
-    may_check a.heap.now a.program.now a.fuel a.pass.now c.set_running.new.pass a.frame.now c.requires.free c.requires.live
+    let run = a.run.now in
+    may_check run.heap.now run.program.now run.fuel a.pass.now c.set_running.new.pass a.frame.now c.requires.free c.requires.live
     c.set_running.result c.set_running.ensures.ready c.in_default.ensures.ready.stands.goes
 
 pub set_stopped-requires : goal.set_stopped-requires
-set_stopped-requires c =
+set_stopped-requires g c =
     let a = c.args in
+    let run = a.run.now in
     let e = c.check_stuck-stuck.ensures in
     record {
-      on = check_on a.heap.now a.program.now a.fuel c.set_running.new.pass c.check_stuck-stuck.new.pass a.frame.now
+      on = check_on run.heap.now run.program.now run.fuel c.set_running.new.pass c.check_stuck-stuck.new.pass a.frame.now
           c.set_running.ensures.ready.on c.requires.live e.rests c.check_stuck-stuck.result e.run e.says e.stands;
     }
 
 pub returns-clause-runner : goal.returns-clause-runner
-returns-clause-runner c =
+returns-clause-runner g c =
     let a = c.args in
-    is_runner a.heap.now a.program.now a.fuel c.check_stuck-stuck.new.pass c.set_stopped.new.pass a.frame.now c.set_stopped.ensures.still
+    let run = a.run.now in
+    is_runner run.heap.now run.program.now run.fuel c.check_stuck-stuck.new.pass c.set_stopped.new.pass a.frame.now c.set_stopped.ensures.still
 
 pub returns-clause-thread : goal.returns-clause-thread
-returns-clause-thread c =
+returns-clause-thread g c =
     let a = c.args in
+    let run = a.run.now in
     let e = c.check_stuck-stuck.ensures in
     c.set_stopped.ensures.still.thread
-    ∙ check_thread a.heap.now a.program.now a.fuel c.set_running.new.pass c.check_stuck-stuck.new.pass a.frame.now
+    ∙ check_thread run.heap.now run.program.now run.fuel c.set_running.new.pass c.check_stuck-stuck.new.pass a.frame.now
     c.set_running.ensures.ready.on c.requires.live e.rests c.check_stuck-stuck.result e.run e.says e.stands
     ∙ c.set_running.ensures.ready.thread
 
 pub returns-in-Pending-clause-log : goal.returns-in-Pending-clause-log
-returns-in-Pending-clause-log c = c.set_running.ensures.ready.log
+returns-in-Pending-clause-log g c = c.set_running.ensures.ready.log
 
 pub returns-in-Pending-clause-looked : goal.returns-in-Pending-clause-looked
-returns-in-Pending-clause-looked c =
+returns-in-Pending-clause-looked g c =
     let kept = c.in-Pending.ensures.ready.stands in
     inr (kept.free, kept.pended)
 
 pub returns-clause-log : goal.returns-clause-log
-returns-clause-log c =
+returns-clause-log g c =
     let a = c.args in
+    let run = a.run.now in
     let e = c.check_stuck-stuck.ensures in
     c.set_stopped.ensures.still.log
-    ∙ check_log a.heap.now a.program.now a.fuel c.set_running.new.pass c.check_stuck-stuck.new.pass a.frame.now
+    ∙ check_log run.heap.now run.program.now run.fuel c.set_running.new.pass c.check_stuck-stuck.new.pass a.frame.now
     c.set_running.ensures.ready.on c.requires.live e.rests c.check_stuck-stuck.result e.run e.says e.stands
     ∙ c.set_running.ensures.ready.log
 
 pub returns-clause-looked : goal.returns-clause-looked
-returns-clause-looked c =
+returns-clause-looked g c =
     let a = c.args in
+    let run = a.run.now in
     let after = c.check_stuck-stuck in
     inl (record {
       ready = c.set_running.new.pass;
@@ -76,24 +85,25 @@ returns-clause-looked c =
       set_running = c.in_default.ensures.ready.stands.set;
       ran = after.ensures.run.ran;
       finds = after.ensures.finds;
-      set_still = set_still a.heap.now a.program.now a.fuel after.new.pass c.set_stopped.new.pass a.frame.now c.set_stopped.ensures.still;
+      set_still = set_still run.heap.now run.program.now run.fuel after.new.pass c.set_stopped.new.pass a.frame.now c.set_stopped.ensures.still;
     })
 
 pub returns-clause-stands : goal.returns-clause-stands
-returns-clause-stands c =
+returns-clause-stands g c =
     let a = c.args in
+    let run = a.run.now in
     let e = c.check_stuck-stuck.ensures in
     let left =
-    check_left a.heap.now a.program.now a.fuel c.set_running.new.pass c.check_stuck-stuck.new.pass a.frame.now
+    check_left run.heap.now run.program.now run.fuel c.set_running.new.pass c.check_stuck-stuck.new.pass a.frame.now
     c.set_running.ensures.ready.on c.requires.live e.rests c.check_stuck-stuck.result e.run e.says e.stands in
-    has_checked a.heap.now a.program.now a.fuel c.check_stuck-stuck.new.pass c.set_stopped.new.pass a.frame.now c.set_stopped.ensures.still
+    has_checked run.heap.now run.program.now run.fuel c.check_stuck-stuck.new.pass c.set_stopped.new.pass a.frame.now c.set_stopped.ensures.still
     c.check_stuck-stuck.result left e.stands
 
 pub returns-in-Pending-clause-timed : goal.returns-in-Pending-clause-timed
-returns-in-Pending-clause-timed c = c.set_running.ensures.timed
+returns-in-Pending-clause-timed g c = c.set_running.ensures.timed
 
 pub returns-clause-timed : goal.returns-clause-timed
-returns-clause-timed c = λ tick timed.
+returns-clause-timed g c = λ tick timed.
     let e = c.check_stuck-stuck in
     c.set_stopped.ensures.timed tick
-    (check_timed c.args.heap.now c.set_running.new.pass e.new.pass e.result e.ensures.run tick (c.set_running.ensures.timed tick timed))
+    (check_timed c.args.run.now.heap.now c.set_running.new.pass e.new.pass e.result e.ensures.run tick (c.set_running.ensures.timed tick timed))

@@ -24,19 +24,21 @@ poll_and_advance-went-requires-clause-may g c = c.loop-cause.invariant.0.may
 pub returns-in-Pending-clause-gone : goal.returns-in-Pending-clause-gone
 returns-in-Pending-clause-gone g c =
     let a = c.args in
+    let run = a.run.now in
     let l = c.loop-cause in
-    gone_blocked a.heap.now a.program.now a.fuel a.quantum a.pass.now l.pass
+    gone_blocked run.heap.now run.program.now run.fuel run.quantum a.pass.now l.pass
     c.poll_and_advance-went.new.pass a.frame.now l.frame c.poll_and_advance-went.new.frame
     l.instructions l.invariant.0 c.poll_and_advance-went.new.cause c.in-Pending.ensures.polled
 
 pub returns-then-has_ended-clause-gone : goal.returns-then-has_ended-clause-gone
 returns-then-has_ended-clause-gone g c =
     let a = c.args in
+    let run = a.run.now in
     let l = c.loop-cause in
     let w = c.poll_and_advance-went.result in
-    let did = subst (HasPolled a.heap.now a.program.now a.fuel l.pass c.poll_and_advance-went.new.pass l.frame c.poll_and_advance-went.new.frame)
+    let did = subst (HasPolled run.heap.now run.program.now run.fuel l.pass c.poll_and_advance-went.new.pass l.frame c.poll_and_advance-went.new.frame)
     (went_done w c.poll_and_advance-went.new.cause (λ is. c.in_default.not-Pending is)) c.poll_and_advance-went.ensures.polled in
-    gone_ended a.heap.now a.program.now a.fuel a.quantum a.pass.now l.pass
+    gone_ended run.heap.now run.program.now run.fuel run.quantum a.pass.now l.pass
     c.poll_and_advance-went.new.pass a.frame.now l.frame c.poll_and_advance-went.new.frame
     l.instructions l.invariant.0 (is_done w) did c.match-went-2.instructions
     (elim c.match-went-2.branch [
@@ -48,11 +50,13 @@ returns-then-has_ended-clause-gone g c =
 pub returns-then-instructions-quantum-clause-gone : goal.returns-then-instructions-quantum-clause-gone
 returns-then-instructions-quantum-clause-gone g c =
     let a = c.args in
+    let run = a.run.now in
     let l = c.loop-cause in
     let w = c.poll_and_advance-went.result in
-    let did = subst (HasPolled a.heap.now a.program.now a.fuel l.pass c.poll_and_advance-went.new.pass l.frame c.poll_and_advance-went.new.frame)
+    let did = subst (HasPolled run.heap.now run.program.now run.fuel l.pass c.poll_and_advance-went.new.pass l.frame c.poll_and_advance-went.new.frame)
     (went_done w c.poll_and_advance-went.new.cause (λ is. c.in_default.not-Pending is)) c.poll_and_advance-went.ensures.polled in
-    gone_live a.heap.now a.program.now a.fuel a.quantum a.pass.now l.pass c.poll_and_advance-went.new.pass a.frame.now l.frame c.poll_and_advance-went.new.frame
+    gone_live run.heap.now run.program.now run.fuel run.quantum a.pass.now l.pass
+    c.poll_and_advance-went.new.pass a.frame.now l.frame c.poll_and_advance-went.new.frame
     l.instructions l.invariant.0 (is_done w) did c.match-went-2.instructions
     (elim c.match-went-2.branch [
       | in-Done x ↦ inl (ap is_done x.in-Done.is, x.instructions-is)
@@ -63,11 +67,12 @@ returns-then-instructions-quantum-clause-gone g c =
 pub loop-cause-preserved : goal.loop-cause-preserved
 loop-cause-preserved g c =
     let a = c.args in
+    let run = a.run.now in
     let l = c.loop-cause in
     let w = c.poll_and_advance-went.result in
-    let did = subst (HasPolled a.heap.now a.program.now a.fuel l.pass c.poll_and_advance-went.new.pass l.frame c.poll_and_advance-went.new.frame)
+    let did = subst (HasPolled run.heap.now run.program.now run.fuel l.pass c.poll_and_advance-went.new.pass l.frame c.poll_and_advance-went.new.frame)
     (went_done w c.poll_and_advance-went.new.cause (λ is. c.in_default.not-Pending is)) c.poll_and_advance-went.ensures.polled in
-    let goes = goes_on a.heap.now a.program.now a.fuel a.quantum a.pass.now l.pass
+    let goes = goes_on run.heap.now run.program.now run.fuel run.quantum a.pass.now l.pass
     c.poll_and_advance-went.new.pass a.frame.now l.frame c.poll_and_advance-went.new.frame
     l.instructions l.invariant.0 (is_done w) did c.match-went-2.instructions
     (elim c.match-went-2.branch [
@@ -80,9 +85,10 @@ loop-cause-preserved g c =
 pub loop-cause-smaller : goal.loop-cause-smaller
 loop-cause-smaller g c =
     let a = c.args in
+    let run = a.run.now in
     let l = c.loop-cause in
     let w = c.poll_and_advance-went.result in
-    let did = subst (HasPolled a.heap.now a.program.now a.fuel l.pass c.poll_and_advance-went.new.pass l.frame c.poll_and_advance-went.new.frame)
+    let did = subst (HasPolled run.heap.now run.program.now run.fuel l.pass c.poll_and_advance-went.new.pass l.frame c.poll_and_advance-went.new.frame)
     (went_done w c.poll_and_advance-went.new.cause (λ is. c.in_default.not-Pending is)) c.poll_and_advance-went.ensures.polled in
     did.fallen
 

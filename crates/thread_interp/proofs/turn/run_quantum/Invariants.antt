@@ -5,7 +5,7 @@ use Rattle.thread_interp.proofs.turn.run_quantum.Given as goal
 
 abbrev pub invariant-loop-cause : goal.invariant-loop-cause
 invariant-loop-cause g l =
-    IsGoing l.heap l.program l.fuel l.quantum l.fn.pass l.pass l.fn.frame l.frame l.instructions × StaysTimed l.tick l.fn.pass l.pass
+    IsGoing l.run.heap.now l.run.program.now l.run.fuel l.quantum l.fn.pass l.pass l.fn.frame l.frame l.instructions × StaysTimed l.run.tick l.fn.pass l.pass
 
 -- each step makes this fall
 abbrev pub decreases-loop-cause : goal.decreases-loop-cause

@@ -8,7 +8,8 @@ set_running-requires-clause-on g c = c.requires.runner.on
 pub run_quantum-moved-requires-clause-may : goal.run_quantum-moved-requires-clause-may
 run_quantum-moved-requires-clause-may g c =
     let a = c.args in
-    may_go a.heap.now a.program.now a.fuel a.pass.now c.set_running.new.pass a.frame.now c.set_running.result c.requires.unchecked c.requires.live
+    let run = a.run.now in
+    may_go run.heap.now run.program.now run.fuel a.pass.now c.set_running.new.pass a.frame.now c.set_running.result c.requires.unchecked c.requires.live
     c.set_running.ensures.ready c.in_default.ensures.ready.stands.goes
 
 pub set_stopped-requires : goal.set_stopped-requires
@@ -17,8 +18,9 @@ set_stopped-requires g c = record { on = c.run_quantum-moved.ensures.gone.on }
 pub returns-in-Pending-clause-runner : goal.returns-in-Pending-clause-runner
 returns-in-Pending-clause-runner g c =
     let a = c.args in
-    barred_runner a.heap.now a.program.now a.fuel a.quantum a.pass.now c.set_running.new.pass
-    a.frame.now c.requires.live c.in-Pending.why c.in-Pending.ensures.ready
+    let run = a.run.now in
+    barred_runner run.heap.now run.program.now run.fuel run.quantum a.pass.now
+    c.set_running.new.pass a.frame.now c.requires.live c.in-Pending.why c.in-Pending.ensures.ready
 
 pub returns-in-Pending-clause-unchecked : goal.returns-in-Pending-clause-unchecked
 returns-in-Pending-clause-unchecked g c = c.set_running.ensures.ready.checking ∙ c.requires.unchecked
@@ -29,14 +31,17 @@ returns-in-Pending-clause-thread g c = c.set_running.ensures.ready.thread
 pub returns-in-Pending-clause-moved : goal.returns-in-Pending-clause-moved
 returns-in-Pending-clause-moved g c =
     let a = c.args in
-    barred_moved a.heap.now a.program.now a.fuel a.quantum a.pass.now c.set_running.new.pass
-    a.frame.now c.requires.live c.in-Pending.why c.in-Pending.ensures.ready
+    let run = a.run.now in
+    barred_moved run.heap.now run.program.now run.fuel run.quantum a.pass.now
+    c.set_running.new.pass a.frame.now c.requires.live c.in-Pending.why c.in-Pending.ensures.ready
     c.requires.runner.on.rests
 
 pub returns-clause-runner : goal.returns-clause-runner
 returns-clause-runner g c =
     let a = c.args in
-    is_runner a.heap.now a.program.now a.fuel c.run_quantum-moved.new.pass c.set_stopped.new.pass c.run_quantum-moved.new.frame c.set_stopped.ensures.still
+    let run = a.run.now in
+    is_runner run.heap.now run.program.now run.fuel c.run_quantum-moved.new.pass
+    c.set_stopped.new.pass c.run_quantum-moved.new.frame c.set_stopped.ensures.still
 
 pub returns-clause-unchecked : goal.returns-clause-unchecked
 returns-clause-unchecked g c = c.set_stopped.ensures.still.checking ∙ c.run_quantum-moved.ensures.gone.unchecked
@@ -47,13 +52,15 @@ returns-clause-thread g c = c.set_stopped.ensures.still.thread ∙ c.run_quantum
 pub returns-clause-moved : goal.returns-clause-moved
 returns-clause-moved g c =
     let a = c.args in
-    has_moved a.heap.now a.program.now a.fuel c.run_quantum-moved.new.pass c.set_stopped.new.pass c.run_quantum-moved.new.frame c.set_stopped.ensures.still
-    a.quantum a.pass.now c.set_running.new.pass a.frame.now c.in_default.ensures.ready.stands c.set_running.ensures.ready.asking
+    let run = a.run.now in
+    has_moved run.heap.now run.program.now run.fuel c.run_quantum-moved.new.pass
+    c.set_stopped.new.pass c.run_quantum-moved.new.frame c.set_stopped.ensures.still
+    run.quantum a.pass.now c.set_running.new.pass a.frame.now c.in_default.ensures.ready.stands c.set_running.ensures.ready.asking
     c.run_quantum-moved.result c.run_quantum-moved.ensures.gone
 
 pub returns-in-Pending-clause-timed : goal.returns-in-Pending-clause-timed
-returns-in-Pending-clause-timed g c = c.set_running.ensures.timed c.args.tick
+returns-in-Pending-clause-timed g c = c.set_running.ensures.timed c.args.run.now.tick
 
 pub returns-clause-timed : goal.returns-clause-timed
 returns-clause-timed g c = λ timed.
-    c.set_stopped.ensures.timed c.args.tick (c.run_quantum-moved.ensures.timed (c.set_running.ensures.timed c.args.tick timed))
+    c.set_stopped.ensures.timed c.args.run.now.tick (c.run_quantum-moved.ensures.timed (c.set_running.ensures.timed c.args.run.now.tick timed))
