@@ -105,7 +105,7 @@ fn told(alloc: Global, call: &Call) -> Result<String, AllocError> {
     let after = String::from_utf8_lossy(alloc, call.after)?;
     let (from, by) = call.clock;
     let rest = format!(in alloc;
-        " < {program}\n{behind}(empty_lines {}, read_fails {}, write_fails {}, cut {}, clock {from} by {by})",
+        " < {program}\n{after}(empty_lines {}, read_fails {}, write_fails {}, cut {}, clock {from} by {by})",
         call.empty_lines, call.read_fails, call.write_fails, call.cut
     )?;
     line.push_str(rest.as_str())?;

@@ -4,7 +4,7 @@ use Rattle.plain_monitor.specs.Limits.{most_made}
 use Rattle.plain_monitor.specs.declared.entry.Entry.TheVariants as entry
 use Rattle.plain_history.specs.Known.{news}
 use Rattle.heap_table.specs.Resting.{start_now}
-use Rattle.thread_calls.proofs.Behind.{came, logged, tells_so}
+use Rattle.thread_calls.proofs.After.{came, logged, tells_so}
 use Rattle.thread_calls.proofs.Values.{within}
 use Rattle.core_calls.proofs.Called.{called}
 use Rattle.core_calls.proofs.NamedCalls.{create_named}

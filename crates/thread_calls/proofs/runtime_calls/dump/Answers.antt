@@ -9,7 +9,7 @@ use Rattle.core_calls.specs.Paths.{Tells}
 use Rattle.heap_table.specs.Resting.{start_now}
 use Rattle.thread_calls.specs.Advances.{RanFrom}
 use Rattle.thread_calls.specs.Asked.{unfinished_on}
-use Rattle.thread_calls.proofs.Behind.{came_dumped, cause_some, progress_done, progress_left}
+use Rattle.thread_calls.proofs.After.{came_dumped, cause_some, progress_done, progress_left}
 use Rattle.core_calls.proofs.Called.{called}
 use Rattle.core_calls.proofs.NamedCalls.{dump_named}
 use Rattle.thread_calls.proofs.runtime_calls.dump.Goals as goal

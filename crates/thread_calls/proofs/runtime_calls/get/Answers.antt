@@ -3,7 +3,7 @@ use Rattle.std.proofs.lemmas.Bool.{and_from}
 use Rattle.core_world.specs.declared.heap_call.HeapCall.TheVariants as task
 use Rattle.plain_monitor.specs.declared.entry.Entry.TheVariants as entry
 use Rattle.heap_table.specs.Resting.{start_now}
-use Rattle.thread_calls.proofs.Behind.{came, logged, tells_so}
+use Rattle.thread_calls.proofs.After.{came, logged, tells_so}
 use Rattle.thread_calls.proofs.Values.{value_of}
 use Rattle.core_calls.proofs.Called.{called}
 use Rattle.core_calls.proofs.NamedCalls.{get_named}

@@ -6,7 +6,7 @@ use Rattle.plain_monitor.specs.declared.entry.Entry.TheVariants as entry
 use Rattle.core_calls.specs.CallsSay.{HashSays}
 use Rattle.heap_table.specs.Resting.{start_now}
 use Rattle.thread_calls.specs.Asked.{unfinished_on}
-use Rattle.thread_calls.proofs.Behind.{came, cause_some, progress_left, logged, tells_at}
+use Rattle.thread_calls.proofs.After.{came, cause_some, progress_left, logged, tells_at}
 use Rattle.core_calls.proofs.Called.{called}
 use Rattle.core_calls.proofs.NamedCalls.{hash_named}
 use Rattle.thread_calls.proofs.runtime_calls.hash.Goals as goal

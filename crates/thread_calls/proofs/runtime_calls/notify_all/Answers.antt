@@ -8,7 +8,7 @@ use Rattle.core_calls.specs.CallsSay.{NotifyAllSays}
 use Rattle.heap_table.specs.Resting.{start_now}
 use Rattle.thread_calls.specs.Advances.{RanFrom}
 use Rattle.thread_calls.specs.Asked.{unfinished_on}
-use Rattle.thread_calls.proofs.Behind.{came, cause_some, progress_done, progress_left}
+use Rattle.thread_calls.proofs.After.{came, cause_some, progress_done, progress_left}
 use Rattle.core_calls.proofs.Called.{called}
 use Rattle.core_calls.proofs.NamedCalls.{notify_all_call_named}
 use Rattle.thread_calls.proofs.runtime_calls.notify_all.Goals as goal

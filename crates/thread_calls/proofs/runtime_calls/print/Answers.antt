@@ -3,7 +3,7 @@ use Rattle.core_world.specs.declared.heap_call.HeapCall.TheVariants as task
 use Rattle.plain_monitor.specs.declared.entry.Entry.TheVariants as entry
 use Rattle.machine_laws.proofs.ReachedStanding.{same_itself}
 use Rattle.heap_table.specs.Resting.{start_now}
-use Rattle.thread_calls.proofs.Behind.{came, logged}
+use Rattle.thread_calls.proofs.After.{came, logged}
 use Rattle.core_calls.proofs.Called.{called}
 use Rattle.core_calls.proofs.NamedCalls.{print_named}
 use Rattle.thread_calls.proofs.runtime_calls.print.Goals as goal

@@ -4,7 +4,7 @@ use Rattle.core_world.specs.declared.heap_call.HeapCall.TheVariants as task
 use Rattle.plain_monitor.specs.declared.entry.Entry.TheVariants as entry
 use Rattle.machine_laws.proofs.ReachedStanding.{same_itself}
 use Rattle.heap_table.specs.Resting.{start_now}
-use Rattle.thread_calls.proofs.Behind.{came, logged, tells_so}
+use Rattle.thread_calls.proofs.After.{came, logged, tells_so}
 use Rattle.core_calls.proofs.Called.{called}
 use Rattle.core_calls.proofs.NamedCalls.{put_named}
 use Rattle.thread_calls.proofs.runtime_calls.put.Goals as goal

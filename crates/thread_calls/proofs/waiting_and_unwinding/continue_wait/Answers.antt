@@ -11,7 +11,7 @@ use Rattle.machine_laws.proofs.ReachedAsked.{asked_of}
 use Rattle.thread_calls.specs.Advances.{HasAdvanced}
 use Rattle.thread_calls.specs.Between.{state_by}
 use Rattle.thread_calls.proofs.Advanced.{asks_resume, mode_is}
-use Rattle.thread_calls.proofs.Behind.{came}
+use Rattle.thread_calls.proofs.After.{came}
 use Rattle.thread_calls.proofs.Kept.{waits_held}
 use Rattle.thread_logs.proofs.Standing.{holds_told}
 use Rattle.thread_calls.proofs.May.{may_wait, thread_is}

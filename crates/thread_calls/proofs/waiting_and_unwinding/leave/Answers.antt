@@ -15,7 +15,7 @@ use Rattle.thread_calls.specs.Advances.{RanFrom, HasAdvanced}
 use Rattle.thread_calls.specs.Asked.{unfinished_of, unfinished_on}
 use Rattle.thread_calls.specs.Between.{state_by}
 use Rattle.thread_calls.proofs.Advanced.{asks_leave, leave_done, still_waits}
-use Rattle.thread_calls.proofs.Behind.{came, cause_some, progress_done, progress_left}
+use Rattle.thread_calls.proofs.After.{came, cause_some, progress_done, progress_left}
 use Rattle.thread_calls.proofs.May.{may_leave, held_is, thread_is}
 use Rattle.thread_calls.proofs.OnTime.{timed_still}
 use Rattle.thread_calls.proofs.waiting_and_unwinding.leave.Goals as goal

@@ -7,12 +7,12 @@ use Rattle.core_world.specs.declared.answer.Progress.TheVariants.{Done}
 use Rattle.plain_monitor.specs.Endings.{ending_entry}
 use Rattle.plain_machine.specs.declared.monitor_call.NextEntry.TheVariants.{Ends}
 use Rattle.machine_laws.proofs.ReachedAsked.{asked_of}
-use Rattle.thread_frame.specs.Frames.{frame_behind}
+use Rattle.thread_frame.specs.Frames.{frame_after}
 use Rattle.thread_calls.specs.Advances.{HasAdvanced}
 use Rattle.thread_calls.specs.Asked.{unfinished_of}
 use Rattle.thread_calls.specs.Between.{state_by}
 use Rattle.thread_calls.proofs.Advanced.{asks_end, end_done}
-use Rattle.thread_calls.proofs.Behind.{came, logged}
+use Rattle.thread_calls.proofs.After.{came, logged}
 use Rattle.thread_calls.proofs.May.{may_finish, thread_is}
 use Rattle.thread_calls.proofs.OnTime.{timed_still}
 use Rattle.thread_calls.proofs.waiting_and_unwinding.unwind.Goals as goal
@@ -38,7 +38,7 @@ returns-in-None-clause-advanced g c =
     let q = c.finish.new.pass in
     let e = c.finish.ensures in
     let least = sym c.least_held.ensures ∙ c.in-None.is in
-    let moved = c.follow.ensures ∙ ap (λ x. frame_behind a.frame.now (Ends a.ending) x) c.ending_entry.ensures in
+    let moved = c.follow.ensures ∙ ap (λ x. frame_after a.frame.now (Ends a.ending) x) c.ending_entry.ensures in
     let one = logged h k q (came e.rests e.run) (ending_entry a.ending) e.says e.stands (task.Finish a.ending) e.run.ran in
     subst (λ f. HasAdvanced h run.program.now run.fuel k q a.frame.now f (Done false)) (sym moved)
     (end_done h run.program.now run.fuel k a.frame.now r.heap r.may q a.ending r.at least one)
