@@ -45,7 +45,7 @@ typedef struct biasrun_answer {
 enum biasrun_kind {
     BIASRUN_DONE = 0,
     /* Nothing is done yet, but for a wait that let go. The same call is to be made again; `detail` is the biasrun_cause, and `word` the
-       word that was found. Until it is done no other operation may begin. */
+       word that was found. Until a pending operation is done the thread may begin no other one; a biasrun_check_stuck it may. */
     BIASRUN_PENDING = 1,
     /* The runtime refuses the call; `detail` is the biasrun_refusal. Nothing has changed. */
     BIASRUN_REFUSED = 2,
@@ -115,7 +115,7 @@ enum biasrun_misuse {
     BIASRUN_NO_ENTRY = 11,
     /* The thread has ended. */
     BIASRUN_ENDED = 12,
-    /* A biasrun_check_stuck is pending. */
+    /* A biasrun_check_stuck is pending for BIASRUN_STOPPING. */
     BIASRUN_CHECK_UNFINISHED = 13,
     /* Another operation is pending: `word` says which, as a biasrun_operation. biasrun_unfinished says the object, too. */
     BIASRUN_UNFINISHED = 14,
@@ -222,7 +222,7 @@ biasrun_answer biasrun_open(biasrun_handle *plan);
 /* The pass of this thread, from 0, in `out`. The thread is stopped. One that was given back is as it was then. */
 biasrun_answer biasrun_pass(biasrun_handle *heap, uint32_t thread, biasrun_handle *out);
 /* Closes the heap, of which no thread has a pass: what is left of it takes its place in the handle. A call that is answered otherwise leaves the
-   heap as it was. */
+   heap as it was, but for BIASRUN_PASS_LOST: nothing is left then. */
 biasrun_answer biasrun_close(biasrun_handle *heap);
 /* Gives a plan, a heap or a closed heap back; its handle is empty then. Passes that were taken stay good. */
 biasrun_answer biasrun_free(biasrun_handle *other_than_pass);
