@@ -50,10 +50,10 @@ told_not : (h : HeapSeen) (p q : PassSeen) (o : ℕ) (out : Outcome) (by : Optio
     → ToldBy by h (Exit o) p q out → kind out ≡ 4 → ⊥
 told_not h p q o out (Some why) by room told full =
     barred_not (is_full p (Exit o)) (first_reason h.heap.shape p.known (Exit o)) out room (by ∙ ap Some (sym told.0)) full
-told_not h p q o out None by room told full = made_not out told.0 told.1 full
+told_not h p q o out None by room told full = made_not out told.1.0 told.1.1 full
 
 pub never_full : (before after : Slot) (o : ℕ) (out : Outcome) → ByHandle before after (Exit o) out → IsNeverFull before (answered out)
 never_full before after o out by s live held some full =
     let w = (by.had (inner.Seat s) live held).3 in
-    let room = ap not (roomy _ s.lent.thing w.3 some) in
-    told_not s.room.value.heap s.lent.thing w.0.lent.thing o out _ refl room w.4 full
+    let room = ap not (roomy _ s.lent.thing w.4 some) in
+    told_not s.room.value.heap s.lent.thing w.0.lent.thing o out _ refl room w.5 full

@@ -48,7 +48,7 @@ module _ (h : HeapSeen) (p q : PassSeen) (out : Outcome) where
 
   told_by : (why : Option Outcome) (t : HeapCall) → ToldBy why h t p q out → q.known.thread ≡ p.known.thread
   told_by (Some why) t told = ap (λ (x : PassSeen). x.known.thread) told.1
-  told_by None t told = made_thread t told
+  told_by None t told = made_thread t told.1
 
   pub told_thread : (t : HeapCall) → Told h t p q out → q.known.thread ≡ p.known.thread
   told_thread t told = told_by (barred h p t) t told

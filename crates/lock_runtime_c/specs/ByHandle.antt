@@ -14,19 +14,21 @@ use Rattle.lock_runtime_c.specs.LogRoom.{KeepsRoom}
 use Rattle.lock_runtime_c.specs.Numbers.{answered}
 use Rattle.lock_runtime_c.specs.Told.{Told}
 
--- Of a thread's pass: it stays one of the same heap, and this is what became of it. Its log had room for an exit of each hold: so an exit is full only
+-- Of a thread's pass: it stays one of the same heap, with the same page, and this is what
+-- became of it. Its log had room for an exit of each hold: so an exit is full only
 -- where nothing is held. Of anything else: nothing could begin, and it stays so.
 abbrev pub Within : Inner → Inner → HeapCall → Outcome → Type 0
 Within (inner.Seat s) after task out =
-    (z : Seat) × (after ≡ inner.Seat z) × (z.room ≡ s.room) × KeepsRoom s.lent.thing
+    (z : Seat) × (after ≡ inner.Seat z) × (z.room ≡ s.room) × (z.page.items ≡ s.page.items) × KeepsRoom s.lent.thing
     × Told s.room.value.heap task s.lent.thing z.lent.thing out
 Within before after task out = (after ≡ before) × (out ≡ Misused OtherKind)
 
--- By a handle that has something: it has still something, and that is told of it. By an empty one nothing could begin: this is the answer.
+-- By a handle that has something: it has still something, and that is told of it. By an empty one nothing could begin: this is the answer, and it is as
+-- it was.
 pub record ByHandleOf {R : Type 0} (Became : Inner → Inner → R → Type 0) (none : R) (before after : Slot) (out : R) : Type 0 where
   pub had : (x : Inner) → before.live ≡ 1 → before.handle.held ≡ Some x
       → (y : Inner) × (after.live ≡ 1) × (after.handle.held ≡ Some y) × Became x y out
-  pub empty : (before.live ≡ 1 → ⊥) → out ≡ none
+  pub empty : (before.live ≡ 1 → ⊥) → (out ≡ none) × (after ≡ before)
 
 -- the same of the answer that C gets
 pub record AnswersOf (Became : Inner → Inner → Outcome → Type 0) (before after : Slot) (a : Answer) : Type 0 where
@@ -44,7 +46,7 @@ Answers before after task a = AnswersOf (λ x y o. Within x y task o) before aft
 -- what the handle has is looked at, and stays: this is the answer
 pub record Reads (answer : Inner → Answer) (before after : Slot) (a : Answer) : Type 0 where
   pub had : (x : Inner) → before.live ≡ 1 → before.handle.held ≡ Some x → (after.live ≡ 1) × (after.handle.held ≡ Some x) × (a ≡ answer x)
-  pub empty : (before.live ≡ 1 → ⊥) → a ≡ answered (Misused Empty)
+  pub empty : (before.live ≡ 1 → ⊥) → (a ≡ answered (Misused Empty)) × (after ≡ before)
 
 -- the same where something is written, which is as it was where nothing is found
 pub record ReadsInto {R : Type 0} (answer : Inner → Answer) (found : Inner → Option R) (before after : Slot) (old new : R) (a : Answer) : Type 0 where

@@ -39,8 +39,8 @@ not_freed _ = None
 -- the handle is empty then, or keeps what it has
 abbrev pub EmptiesBy : Option Misuse → Inner → Slot → Answer → Type 0
 EmptiesBy (Some why) x after a = (after.live ≡ 1) × (after.handle.held ≡ Some x) × (a ≡ answered (Misused why))
-EmptiesBy None x after a = (after.live ≡ 0) × (a ≡ answered (Done Nothing))
+EmptiesBy None x after a = (after.live ≡ 0) × (after.handle.held ≡ None) × (a ≡ answered (Done Nothing))
 
 pub record Empties (why : Inner → Option Misuse) (before after : Slot) (a : Answer) : Type 0 where
   pub had : (x : Inner) → before.live ≡ 1 → before.handle.held ≡ Some x → EmptiesBy (why x) x after a
-  pub empty : (before.live ≡ 1 → ⊥) → a ≡ answered (Misused misuse.Empty)
+  pub empty : (before.live ≡ 1 → ⊥) → (a ≡ answered (Misused misuse.Empty)) × (after ≡ before)

@@ -1,5 +1,5 @@
 -- A page of a thread's log, as it is handed out.
-use Rattle.std.specs.Prelude.{◌≡◌, ◌⊎◌, ℕ, ◌+◌, List, length, Option, Some, None}
+use Rattle.std.specs.Prelude.{◌≡◌, ◌⊎◌, ℕ, ◌+◌, List, length, Option, Some, None, []}
 use Rattle.core_world.specs.declared.heap_call.Unfinished.{Unfinished}
 use Rattle.plain_monitor.specs.declared.entry.Logged.{Logged}
 use Rattle.heap_table.specs.Seen.{PassSeen, page_of}
@@ -21,12 +21,12 @@ pub record HandsOut (p q : PassSeen) (entries : List Logged) (many : ℕ) : Type
   pub pass : q ≡ record p { limit = p.limit + length (page_of p) }
   pub count : many ≡ length entries
 
--- a thread's page is handed out and lies in its handle; or memory is wanting, and its log is as it was
+-- a thread's page is handed out and lies in its handle; or memory is wanting, and its log is as it was, and the page before is gone
 abbrev pub TakesPage : Inner → Inner → Outcome → Type 0
 TakesPage (inner.Seat s) after out =
     (z : Seat) × (after ≡ inner.Seat z) × (z.room ≡ s.room)
     × (((count : ℕ) × (out ≡ Done (Handed count)) × HandsOut s.lent.thing z.lent.thing z.page.items count)
-    ⊎ ((out ≡ NoMemory) × (z.lent.thing ≡ s.lent.thing)))
+    ⊎ ((out ≡ NoMemory) × (z.lent.thing ≡ s.lent.thing) × (z.page.items ≡ [])))
 TakesPage before after out = (after ≡ before) × (out ≡ Misused OtherKind)
 
 -- how many entries the thread's log has

@@ -109,10 +109,10 @@ IsMade h Check p q out =
     (of_progress said.Stuck) p q out
 IsMade h t p q out = ⊥
 
--- the call was made, or could not begin, and the pass is as it was
+-- the call was made, and no page was handed out; or it could not begin, and the pass is as it was
 abbrev pub ToldBy : Option Outcome → HeapSeen → HeapCall → PassSeen → PassSeen → Outcome → Type 0
 ToldBy (Some why) h t p q out = (out ≡ why) × (q ≡ p)
-ToldBy None h t p q out = IsMade h t p q out
+ToldBy None h t p q out = (q.limit ≡ p.limit) × IsMade h t p q out
 
 abbrev pub Told : HeapSeen → HeapCall → PassSeen → PassSeen → Outcome → Type 0
 Told h t p q out = ToldBy (barred h p t) h t p q out

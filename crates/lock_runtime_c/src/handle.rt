@@ -81,15 +81,15 @@ impl Slot {
         self.live != 0
     }
 
-    /// What it has. It is empty then.
+    /// What it has. It is empty then. An empty one stays as it is.
     pub fn take(&mut self, alloc: Global) -> Option<Box<Inner>>
-        ensures live { self.new.live ≡ 0 }
+        ensures live { IfSome result (λ _. self.new.live ≡ 0) }
+        ensures gone { IfSome result (λ _. self.new.handle.held ≡ None) }
         ensures rests { IfSome result (λ b. RestsWithin b.value) }
         ensures held { IfSome result (λ b. (self.old.live ≡ 1) × (self.old.handle.held ≡ Some b.value)) }
-        ensures empty { result ≡ None → self.old.live ≡ 1 → ⊥ }
+        ensures empty { result ≡ None → (self.old.live ≡ 1 → ⊥) × (self.new ≡ self.old) }
     {
         if self.live != 1 {
-            self.live = 0;
             return None;
         }
         self.live = 0;

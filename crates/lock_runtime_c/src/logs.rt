@@ -1,5 +1,5 @@
 //! The pages of a thread's log, and what is left of a heap's logs, as C reads them.
-ghost use Rattle.std.specs.Prelude.{◌≡◌, IfErr, IfOk, unwrap_or};
+ghost use Rattle.std.specs.Prelude.{◌≡◌, [], IfErr, IfOk, unwrap_or};
 ghost use Rattle.lock_runtime_c.specs.Left.{entry_answer, entry_row};
 ghost use Rattle.lock_runtime_c.specs.Pages.{HandsOut};
 ghost use Rattle.lock_runtime_c.specs.Rest.{IsSeated};
@@ -20,7 +20,7 @@ pub fn take_page(alloc: Global, seat: &mut Seat) -> Result<u64, NoMemory>
     ensures seated { IsSeated seat.new.room.value.heap seat.new.lent.place seat.new.lent.thing }
     ensures room { seat.new.room ≡ seat.old.room }
     ensures page { IfOk result (λ count. HandsOut seat.old.lent.thing seat.new.lent.thing seat.new.page.items count) }
-    ensures same { IfErr result (λ _. seat.new.lent.thing ≡ seat.old.lent.thing) }
+    ensures same { IfErr result (λ _. (seat.new.lent.thing ≡ seat.old.lent.thing) × (seat.new.page.items ≡ [])) }
 {
     let mut empty = mem::replace(&mut seat.page, Vec::new(alloc));
     empty.clear();

@@ -1,5 +1,5 @@
 -- Whether a thread gets its pass.
-use Rattle.std.specs.Prelude.{◌≡◌, ◌⊎◌, ◌≤◌, ℕ, Result, Ok, Err}
+use Rattle.std.specs.Prelude.{◌≡◌, ◌⊎◌, ◌<◌, ◌≤◌, ℕ, Result, Ok, Err}
 use Rattle.heap_table.specs.Seen.{HeapSeen}
 use Rattle.lock_runtime_c.specs.declared.inner.Seat.{Seat}
 use Rattle.lock_runtime_c.specs.declared.outcome.Misuse.TheVariants.{NoThread, PassTaken}
@@ -11,4 +11,4 @@ use Rattle.lock_runtime_c.specs.Opening.{IsPassOf}
 abbrev pub SeatOf : HeapSeen → ℕ → Result Seat Outcome → Type 0
 SeatOf h thread (Ok s) = IsPassOf h thread s
 SeatOf h thread (Err out) =
-    ((out ≡ Misused NoThread) × (h.heap.shape.threads ≤ thread)) ⊎ (out ≡ Misused PassTaken) ⊎ (out ≡ NoMemory)
+    ((out ≡ Misused NoThread) × (h.heap.shape.threads ≤ thread)) ⊎ ((out ≡ Misused PassTaken) × (thread < h.heap.shape.threads)) ⊎ (out ≡ NoMemory)

@@ -24,4 +24,4 @@ returns-in-Seat-clause-told c =
     let seated : IsSeated s.room.value.heap s.lent.place s.lent.thing = subst RestsWithin c.in-Seat.is c.requires in
     let heap = ap (λ (r : Room). r.heap) c.deref.ensures in
     let told = subst (λ h. Told h c.args.task s.lent.thing c.make.new.pass c.make.result) heap c.make.ensures.told in
-    told_within _ s _ _ _ c.in-Seat.is refl seated.kept.room told
+    told_within _ s _ _ _ c.in-Seat.is refl refl seated.kept.room told

@@ -1,6 +1,8 @@
-use Rattle.std.proofs.Common.{◌≡◌, ◌⊎◌, List, length, false, true, None, sym, ap, ◌∙◌, subst, arith, All, Any}
+use Rattle.std.proofs.Common.{◌≡◌, ◌⊎◌, List, length, false, true, None, sym, ap, ◌∙◌, subst, arith, All, Any, ℕ}
 use Rattle.plain_monitor.specs.History.{LegalObjects}
 use Rattle.plain_history.specs.ExactStamps.{StampsAreExact}
+use Rattle.core_world.specs.declared.heap_call.Operation.TheVariants as op
+use Rattle.core_world.specs.Clauses.Safepoints.{IsUnfinished}
 use Rattle.heap_table.specs.BiasesAtEnd.{BiasesAtEnd}
 use Rattle.heap_table.specs.Seen.{HeapSeen, PassSeen, IsOf, InOrder, LastWorld, knowns, logs_of, pages_of, shots_of, counts_of_all}
 use Rattle.lending.specs.Lending.{AreAt}
@@ -63,6 +65,11 @@ returns-in-Ok-clause-left c =
       counts = e.counts ∙ ap counts_of_all same;
       legal = subst (λ (l : List PassSeen). LegalObjects h.heap.shape.objects (logs_of l)) same e.legal;
       stamps = subst (λ (l : List PassSeen). StampsAreExact (logs_of l)) same e.stamps;
+      biases_stuck = subst
+          (λ (l : List PassSeen). All (λ (p : PassSeen). (o : ℕ) → IsUnfinished p.known.unfinished op.Hash o → ⊥) l
+          → BiasesAtEnd 1 h.heap left.words (logs_of l) (knowns l)) same e.biases_stuck;
+      law = e.law;
+      still = e.still;
       biases = subst (λ (l : List PassSeen). All (λ (p : PassSeen). p.known.unfinished ≡ None) l
           → BiasesAtEnd 0 h.heap left.words (logs_of l) (knowns l)) same e.biases;
     }
