@@ -9,8 +9,9 @@ use Rattle.plain_monitor.specs.Objects.{new_objects}
 use Rattle.plain_monitor.specs.History.{take_all}
 use Rattle.plain_monitor.specs.Monitor.{free_monitor}
 use Rattle.object_program.specs.Program.{ProgramText, objects_total, shape_of}
+use Rattle.plain_machine.specs.Sound.{monitor_in}
 use Rattle.wait_report.specs.declared.tallies.Tally.{Tally}
-use Rattle.wait_report.specs.Handovers.{monitor_at, handovers}
+use Rattle.wait_report.specs.Handovers.{handovers}
 use Rattle.wait_report.specs.Counts.{paths, enters_by, is_entered, count_of, counts_of}
 use Rattle.wait_report.specs.inner.Tallies.{new_tally, tally_at, after_entries, is_counted, count_in, counts_from}
 use Rattle.wait_report.proofs.Tallied.{tally_through, through_at, none_yet}
@@ -43,7 +44,7 @@ listed p xs a (y ∷ ys) all = by_test (is_entered xs a) here.counted (listed p 
   by_test false e rest = rw e rest
 
 -- each monitor is free at first
-first_free : (p : List (ℕ × ℕ)) (o : ℕ) → monitor_at (new_objects p) o ≡ free_monitor
+first_free : (p : List (ℕ × ℕ)) (o : ℕ) → monitor_in (new_objects p) o ≡ free_monitor
 first_free [] o = refl
 first_free (s ∷ ss) zero = refl
 first_free (s ∷ ss) (suc o) = first_free ss o

@@ -9,8 +9,9 @@ use Rattle.plain_monitor.specs.declared.entry.Logged.{Logged}
 use Rattle.plain_monitor.specs.Monitor.{PlainMonitor}
 use Rattle.plain_monitor.specs.Objects.{PlainObject, take_entry}
 use Rattle.plain_monitor.specs.History.{take_all}
+use Rattle.plain_machine.specs.Sound.{monitor_in}
 use Rattle.wait_report.specs.declared.tallies.Tally.{Tally}
-use Rattle.wait_report.specs.Handovers.{monitor_at, is_taking, takers_on, takers_from, is_handover, handovers_from}
+use Rattle.wait_report.specs.Handovers.{is_taking, takers_on, takers_from, is_handover, handovers_from}
 use Rattle.wait_report.specs.inner.Tallies.{had_by, entered_by}
 use Rattle.wait_report.proofs.Tallied.{tally_on, tally_through}
 use Rattle.wait_report.proofs.Turns.{Keeps, Enters, TurnOf, Turns, named_turns, unnamed_turns}
@@ -63,43 +64,43 @@ untouched t m n y taker keeps = record { handovers = λ ts. refl; taker = λ u o
 
 -- an enter of object k
 enter_tallied : (o t k : ℕ) (path : Path) (objects after : List PlainObject) (y : Tally)
-    → IsTaker (monitor_at objects o) y.taker → Turns objects o t k (Enter k path) after
-    → IsTallied t (is_taking o (monitor_at after o).count (Enter k path)) (monitor_at after o) y (tally_on o y t (Enter k path))
+    → IsTaker (monitor_in objects o) y.taker → Turns objects o t k (Enter k path) after
+    → IsTallied t (is_taking o (monitor_in after o).count (Enter k path)) (monitor_in after o) y (tally_on o y t (Enter k path))
 enter_tallied o t k path objects after y taker turns = by_object (k == o) refl where
   by_object : (b : Bool) → (k == o) ≡ b
-      → IsTallied t (b && ((monitor_at after o).count == 1)) (monitor_at after o) y (if b then entered_by (had_by y t) path else y)
+      → IsTallied t (b && ((monitor_in after o).count == 1)) (monitor_in after o) y (if b then entered_by (had_by y t) path else y)
   by_object true e =
       let enters = turns.here (eqb-true k o e) in
       record {
-        handovers = entered_at o t path (monitor_at objects o) (monitor_at after o) y taker enters;
-        taker = owner_only (monitor_at after o) t enters.owns;
+        handovers = entered_at o t path (monitor_in objects o) (monitor_in after o) y taker enters;
+        taker = owner_only (monitor_in after o) t enters.owns;
       }
   by_object false e =
-      untouched t (monitor_at objects o) (monitor_at after o) y taker
+      untouched t (monitor_in objects o) (monitor_in after o) y taker
       (turns.elsewhere (λ h. absurd (let same : (k == o) ≡ true = eq-eqb k o h in cc (same, e))))
 
 -- a resume of object k
-resume_tallied : (o t k : ℕ) (objects after : List PlainObject) (y : Tally) → IsTaker (monitor_at objects o) y.taker → Turns objects o t k (Resume k) after
-    → IsTallied t (is_taking o (monitor_at after o).count (Resume k)) (monitor_at after o) y (tally_on o y t (Resume k))
+resume_tallied : (o t k : ℕ) (objects after : List PlainObject) (y : Tally) → IsTaker (monitor_in objects o) y.taker → Turns objects o t k (Resume k) after
+    → IsTallied t (is_taking o (monitor_in after o).count (Resume k)) (monitor_in after o) y (tally_on o y t (Resume k))
 resume_tallied o t k objects after y taker turns = by_object (k == o) refl where
-  by_object : (b : Bool) → (k == o) ≡ b → IsTallied t b (monitor_at after o) y (if b then had_by y t else y)
-  by_object true e = record { handovers = has_taken y.taker y.handovers t; taker = owner_only (monitor_at after o) t (turns.here (eqb-true k o e)) }
+  by_object : (b : Bool) → (k == o) ≡ b → IsTallied t b (monitor_in after o) y (if b then had_by y t else y)
+  by_object true e = record { handovers = has_taken y.taker y.handovers t; taker = owner_only (monitor_in after o) t (turns.here (eqb-true k o e)) }
   by_object false e =
-      untouched t (monitor_at objects o) (monitor_at after o) y taker
+      untouched t (monitor_in objects o) (monitor_in after o) y taker
       (turns.elsewhere (λ h. absurd (let same : (k == o) ≡ true = eq-eqb k o h in cc (same, e))))
 
 -- another entry, of object k
-other_tallied : (o t k : ℕ) (e : Entry) (objects after : List PlainObject) (y : Tally) → IsTaker (monitor_at objects o) y.taker → Turns objects o t k e after
-    → (TurnOf e (monitor_at objects o) (monitor_at after o) t → Keeps (monitor_at objects o) (monitor_at after o)) → IsTallied t false (monitor_at after o) y y
-other_tallied o t k e objects after y taker turns keeps = untouched t (monitor_at objects o) (monitor_at after o) y taker (by_object (k == o) refl) where
-  by_object : (b : Bool) → (k == o) ≡ b → Keeps (monitor_at objects o) (monitor_at after o)
+other_tallied : (o t k : ℕ) (e : Entry) (objects after : List PlainObject) (y : Tally) → IsTaker (monitor_in objects o) y.taker → Turns objects o t k e after
+    → (TurnOf e (monitor_in objects o) (monitor_in after o) t → Keeps (monitor_in objects o) (monitor_in after o)) → IsTallied t false (monitor_in after o) y y
+other_tallied o t k e objects after y taker turns keeps = untouched t (monitor_in objects o) (monitor_in after o) y taker (by_object (k == o) refl) where
+  by_object : (b : Bool) → (k == o) ≡ b → Keeps (monitor_in objects o) (monitor_in after o)
   by_object true at = keeps (turns.here (eqb-true k o at))
   by_object false at = turns.elsewhere (λ h. absurd (let same : (k == o) ≡ true = eq-eqb k o h in cc (same, at)))
 
 -- an entry that the objects take
 entry_tallied : (o t : ℕ) (e : Entry) (objects after : List PlainObject) (y : Tally)
-    → IsTaker (monitor_at objects o) y.taker → take_entry objects t e ≡ Some after
-    → IsTallied t (is_taking o (monitor_at after o).count e) (monitor_at after o) y (tally_on o y t e)
+    → IsTaker (monitor_in objects o) y.taker → take_entry objects t e ≡ Some after
+    → IsTallied t (is_taking o (monitor_in after o).count e) (monitor_in after o) y (tally_on o y t e)
 entry_tallied o t (Enter k path) objects after y taker h = enter_tallied o t k path objects after y taker (named_turns objects o t k (Enter k path) after h)
 entry_tallied o t (Resume k) objects after y taker h = resume_tallied o t k objects after y taker (named_turns objects o t k (Resume k) after h)
 entry_tallied o t (Exit k) objects after y taker h =
@@ -116,23 +117,23 @@ entry_tallied o t (Put k i v) objects after y taker h =
     other_tallied o t k (Put k i v) objects after y taker (named_turns objects o t k (Put k i v) after h) (λ turn. turn)
 entry_tallied o t (Hash k v d) objects after y taker h =
     other_tallied o t k (Hash k v d) objects after y taker (named_turns objects o t k (Hash k v d) after h) (λ turn. turn)
-entry_tallied o t (New k c) objects after y taker h = untouched t (monitor_at objects o) (monitor_at after o) y taker (unnamed_turns objects o after h)
-entry_tallied o t (Print v) objects after y taker h = untouched t (monitor_at objects o) (monitor_at after o) y taker (unnamed_turns objects o after h)
-entry_tallied o t (Dump k) objects after y taker h = untouched t (monitor_at objects o) (monitor_at after o) y taker (unnamed_turns objects o after h)
-entry_tallied o t (Trap f i) objects after y taker h = untouched t (monitor_at objects o) (monitor_at after o) y taker (unnamed_turns objects o after h)
-entry_tallied o t Spent objects after y taker h = untouched t (monitor_at objects o) (monitor_at after o) y taker (unnamed_turns objects o after h)
-entry_tallied o t Done objects after y taker h = untouched t (monitor_at objects o) (monitor_at after o) y taker (unnamed_turns objects o after h)
+entry_tallied o t (New k c) objects after y taker h = untouched t (monitor_in objects o) (monitor_in after o) y taker (unnamed_turns objects o after h)
+entry_tallied o t (Print v) objects after y taker h = untouched t (monitor_in objects o) (monitor_in after o) y taker (unnamed_turns objects o after h)
+entry_tallied o t (Dump k) objects after y taker h = untouched t (monitor_in objects o) (monitor_in after o) y taker (unnamed_turns objects o after h)
+entry_tallied o t (Trap f i) objects after y taker h = untouched t (monitor_in objects o) (monitor_in after o) y taker (unnamed_turns objects o after h)
+entry_tallied o t Spent objects after y taker h = untouched t (monitor_in objects o) (monitor_in after o) y taker (unnamed_turns objects o after h)
+entry_tallied o t Done objects after y taker h = untouched t (monitor_in objects o) (monitor_in after o) y taker (unnamed_turns objects o after h)
 
 -- the handovers that are counted are those of the takings
 pub through_handovers : (o : ℕ) (xs : List (ℕ × Logged)) (objects : List PlainObject) (y : Tally)
-    → IsSome (take_all objects xs) → ((u : ℕ) → (monitor_at objects o).owner ≡ Some u → y.taker ≡ Some u)
+    → IsSome (take_all objects xs) → ((u : ℕ) → (monitor_in objects o).owner ≡ Some u → y.taker ≡ Some u)
     → (tally_through o y xs).handovers ≡ y.handovers + handovers_from y.taker (takers_from objects o xs)
 through_handovers o [] objects y taken taker = omega arith
 through_handovers o (x ∷ xs) objects y taken taker =
     by_taking (take_entry objects x.0 x.1.entry) refl taken (λ after. through_handovers o xs after (tally_on o y x.0 x.1.entry))
   where
     by_taking : (r : Option (List PlainObject)) → take_entry objects x.0 x.1.entry ≡ r → IsSome (option_and_then (λ after. take_all after xs) r)
-        → ((after : List PlainObject) → IsSome (take_all after xs) → IsTaker (monitor_at after o) (tally_on o y x.0 x.1.entry).taker
+        → ((after : List PlainObject) → IsSome (take_all after xs) → IsTaker (monitor_in after o) (tally_on o y x.0 x.1.entry).taker
         → (tally_through o (tally_on o y x.0 x.1.entry) xs).handovers
         ≡ (tally_on o y x.0 x.1.entry).handovers + handovers_from (tally_on o y x.0 x.1.entry).taker (takers_from after o xs))
         → (tally_through o (tally_on o y x.0 x.1.entry) xs).handovers ≡ y.handovers + handovers_from y.taker (takers_on o x r (λ after. takers_from after o xs))

@@ -9,9 +9,9 @@ use Rattle.plain_monitor.specs.declared.entry.Entry.TheVariants.{Hash, New, Prin
 use Rattle.plain_monitor.specs.Monitor.{PlainMonitor, owns, is_thread, is_outside, only_if, enter, exit}
 use Rattle.plain_monitor.specs.Monitor.{wait, resume, resumed, count_of, calls, notify, notify_all}
 use Rattle.plain_monitor.specs.Objects.{PlainObject, new_object, take_at, take_named, with_monitor, with_hash, hashed}
+use Rattle.plain_machine.specs.Sound.{monitor_in}
 use Rattle.plain_machine.proofs.Counted.{owner-calls}
 use Rattle.machine_laws.proofs.ReachedAsked.{taken_at}
-use Rattle.wait_report.specs.Handovers.{monitor_at}
 
 -- who owns the monitor afterwards owned it before
 abbrev pub Keeps : PlainMonitor → PlainMonitor → Type 0
@@ -102,8 +102,8 @@ object_turns x y t Done h = stays x y h
 
 -- what an entry does to the owner of object o, by the object that it names
 pub record Turns (objects : List PlainObject) (o t k : ℕ) (e : Entry) (after : List PlainObject) : Type 0 where
-  pub here : k ≡ o → TurnOf e (monitor_at objects o) (monitor_at after o) t
-  pub elsewhere : k ≢ o → Keeps (monitor_at objects o) (monitor_at after o)
+  pub here : k ≡ o → TurnOf e (monitor_in objects o) (monitor_in after o) t
+  pub elsewhere : k ≢ o → Keeps (monitor_in objects o) (monitor_in after o)
 
 pub named_turns : (objects : List PlainObject) (o t k : ℕ) (e : Entry) (after : List PlainObject)
     → take_named objects t e (Some k) ≡ Some after → Turns objects o t k e after
@@ -114,11 +114,11 @@ named_turns objects o t k e after h =
     ∙ get_or-set_same objects k r.y (new_object 0) (slice_get_within objects k r.x r.there) in
     record {
       here = λ same.
-          let old : TurnOf e (monitor_at objects k) r.y.monitor t =
+          let old : TurnOf e (monitor_in objects k) r.y.monitor t =
           subst (λ (x : PlainObject). TurnOf e x.monitor r.y.monitor t) (sym before) (object_turns r.x r.y t e r.takes) in
-          let turn : TurnOf e (monitor_at objects k) (monitor_at after k) t =
-          subst (λ (y : PlainObject). TurnOf e (monitor_at objects k) y.monitor t) (sym written) old in
-          subst (λ (j : ℕ). TurnOf e (monitor_at objects j) (monitor_at after j) t) same turn;
+          let turn : TurnOf e (monitor_in objects k) (monitor_in after k) t =
+          subst (λ (y : PlainObject). TurnOf e (monitor_in objects k) y.monitor t) (sym written) old in
+          subst (λ (j : ℕ). TurnOf e (monitor_in objects j) (monitor_in after j) t) same turn;
       elsewhere = λ other.
           let there : slice_index_or after o (new_object 0) ≡ slice_index_or objects o (new_object 0) =
           ap (λ (xs : List PlainObject). slice_index_or xs o (new_object 0)) (sym r.is)
@@ -128,5 +128,5 @@ named_turns objects o t k e after h =
 
 -- an entry that names no object does nothing to any
 pub unnamed_turns : (objects : List PlainObject) (o : ℕ) (after : List PlainObject)
-    → Some objects ≡ Some after → Keeps (monitor_at objects o) (monitor_at after o)
-unnamed_turns objects o after h = subst (λ (xs : List PlainObject). Keeps (monitor_at objects o) (monitor_at xs o)) (same_Some objects after h) (λ u e. e)
+    → Some objects ≡ Some after → Keeps (monitor_in objects o) (monitor_in after o)
+unnamed_turns objects o after h = subst (λ (xs : List PlainObject). Keeps (monitor_in objects o) (monitor_in xs o)) (same_Some objects after h) (λ u e. e)

@@ -1,14 +1,11 @@
 -- Who took an object's monitor, one after the other, and how often it went from one thread to another.
-use Rattle.std.specs.Prelude.{ℕ, ◌+◌, Bool, false, not, ◌&&◌, ◌==◌, if◌then◌else◌, List, [], ◌∷◌, slice_index_or, Option, Some, None}
+use Rattle.std.specs.Prelude.{ℕ, ◌+◌, Bool, false, not, ◌&&◌, ◌==◌, if◌then◌else◌, List, [], ◌∷◌, Option, Some, None}
 use Rattle.plain_monitor.specs.declared.entry.Entry.{Entry}
 use Rattle.plain_monitor.specs.declared.entry.Entry.TheVariants.{Enter, Resume}
 use Rattle.plain_monitor.specs.declared.entry.Logged.{Logged}
-use Rattle.plain_monitor.specs.Monitor.{PlainMonitor}
-use Rattle.plain_monitor.specs.Objects.{PlainObject, new_object, new_objects, take_entry}
+use Rattle.plain_monitor.specs.Objects.{PlainObject, new_objects, take_entry}
 use Rattle.object_program.specs.Program.{ProgramText, shape_of}
-
-abbrev pub monitor_at : List PlainObject → ℕ → PlainMonitor
-monitor_at objects o = (slice_index_or objects o (new_object 0)).monitor
+use Rattle.plain_machine.specs.Sound.{monitor_in}
 
 -- the entry takes object o, whose count is n after it: a resume, or an enter that makes the count 1
 abbrev pub is_taking : ℕ → ℕ → Entry → Bool
@@ -20,7 +17,7 @@ is_taking o n e = false
 abbrev pub takers_on : ℕ → ℕ × Logged → Option (List PlainObject) → (List PlainObject → List ℕ) → List ℕ
 takers_on o x None others = []
 takers_on o x (Some objects) others =
-    if is_taking o (monitor_at objects o).count x.1.entry then x.0 ∷ others objects else others objects
+    if is_taking o (monitor_in objects o).count x.1.entry then x.0 ∷ others objects else others objects
 
 -- the threads that take object o, one for each taking, where these are the objects before the entries
 abbrev pub takers_from : List PlainObject → ℕ → List (ℕ × Logged) → List ℕ
