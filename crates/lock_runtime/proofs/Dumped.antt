@@ -1,5 +1,5 @@
 -- Dumps: runs whatever became of the pass's draft of a shot.
-use Rattle.std.proofs.Common.{◌≡◌, ℕ, zero, suc, ◌+◌, ◌==◌, Bool, true, false, [], length, Result, Ok, Err, refl}
+use Rattle.std.proofs.Common.{ℕ, zero, suc, ◌+◌, ◌==◌, Bool, true, false, [], length, Result, Ok, Err, refl}
 use Rattle.mark_word.specs.Mark.{read_mark}
 use Rattle.core_world.specs.declared.answer.TooManyDumps.{TooManyDumps}
 use Rattle.core_world.specs.declared.answer.Progress.{Progress}
@@ -17,9 +17,8 @@ use Rattle.core_world.specs.Words.Shape.{Shape, monitor_count}
 use Rattle.safepoint_work.specs.ShotParts.{HasShot}
 use Rattle.heap_table.specs.Parts.{HasMadeSteps}
 use Rattle.heap_table.specs.Seen.{HeapSeen, PassSeen, IsOf}
-use Rattle.heap_table.specs.Resting.{MayCall, Rests, start_now}
-use Rattle.heap_table.proofs.Resting.{IsCallOf, rests_after}
-use Rattle.core_world.specs.Trees.Calls.{steps_of, end}
+use Rattle.heap_table.specs.Resting.{MayCall, Rests}
+use Rattle.heap_table.proofs.Resting.{IsCallOf}
 use Rattle.core_world.specs.Due.{Ran}
 use Rattle.core_calls.proofs.shot.ShotsKept.{dump_shoots, dump_pends, dump_refuses}
 use Rattle.lock_runtime.specs.LookParts.{HasDumped}
@@ -31,68 +30,49 @@ use Rattle.lock_runtime.proofs.After.{first_then, arm_first}
 abbrev pub bare : PassSeen → PassSeen
 bare p = record p { cut = []; cells = [] }
 
-module _ {A : Type 0} (h : HeapSeen) (d : StepTree A) (p q : PassSeen) (a : A) where
+-- of which heap a pass is, does not go by its draft
+bare_of : (h : HeapSeen) (p : PassSeen) → IsOf h p → IsOf h (bare p)
+bare_of h p i = record {
+  table = i.table;
+  room = i.room;
+  within = i.within;
+  classes = i.classes;
+  first = i.first;
+  threads = i.threads;
+  objects = i.objects;
+  real = i.real;
+}
+
+of_bare : (h : HeapSeen) (p : PassSeen) → IsOf h (bare p) → IsOf h p
+of_bare h p i = record {
+  table = i.table;
+  room = i.room;
+  within = i.within;
+  classes = i.classes;
+  first = i.first;
+  threads = i.threads;
+  objects = i.objects;
+  real = i.real;
+}
+
+pub bare_call : (h : HeapSeen) (p : PassSeen) (t : HeapCall) → MayCall h p t → MayCall h (bare p) t
+bare_call h p t c = record { rests = record { is_of = bare_of h p c.rests.is_of; over = c.rests.over }; may = c.may }
+
+pub of_bare_rests : (h : HeapSeen) (p : PassSeen) → Rests h (bare p) → Rests h p
+of_bare_rests h p rests = record { is_of = of_bare h p rests.is_of; over = rests.over }
+
+module _ {A : Type 0} {h : HeapSeen} {d : StepTree A} {p q : PassSeen} {a : A} where
   pub dumped_of : HasMadeSteps h d (bare p) (bare q) a → HasDumped h d p q a
-  dumped_of run = record {
-    heap = record {
-      table = run.heap.table;
-      room = run.heap.room;
-      within = run.heap.within;
-      classes = run.heap.classes;
-      first = run.heap.first;
-      threads = run.heap.threads;
-      objects = run.heap.objects;
-      real = run.heap.real;
-    };
-    limit = run.limit;
-    ran = run.ran;
-  }
+  dumped_of run = record { heap = of_bare h q run.heap; limit = run.limit; ran = run.ran }
 
   pub run_of : HasDumped h d p q a → HasMadeSteps h d (bare p) (bare q) a
-  run_of run = record {
-    heap = record {
-      table = run.heap.table;
-      room = run.heap.room;
-      within = run.heap.within;
-      classes = run.heap.classes;
-      first = run.heap.first;
-      threads = run.heap.threads;
-      objects = run.heap.objects;
-      real = run.heap.real;
-    };
-    limit = run.limit;
-    cut = refl;
-    cells = refl;
-    ran = run.ran;
-  }
+  run_of run = record { heap = bare_of h q run.heap; limit = run.limit; cut = refl; cells = refl; ran = run.ran }
 
   pub bare_run : HasMadeSteps h d p q a → HasMadeSteps h d (bare p) (bare q) a
   bare_run run = run_of (record { heap = run.heap; limit = run.limit; ran = run.ran })
 
-pub of_shot : (h : HeapSeen) (d : StepTree (Unit {0})) (p q : PassSeen) → HasShot h d p q → HasMadeSteps h d (bare p) (bare q) tt
-of_shot h d p q run = run_of h d p q tt (record { heap = run.heap; limit = run.limit; ran = run.ran })
-
--- and after such a run of a whole call its thread rests
-pub dumped_rests : {A : Type 0} (h : HeapSeen) (p q : PassSeen) (t : HeapCall) (c : MayCall h p t) (d : StepTree A) (a : A)
-    → steps_of h.heap.shape t (start_now h p) ≡ (d >>= end) → IsCallOf t d
-    → HasDumped h d p q a → Rests h q
-dumped_rests h p q t c d a is first run =
-    let i = c.rests.is_of in
-    let bare_of : IsOf h (bare p) = record {
-      table = i.table;
-      room = i.room;
-      within = i.within;
-      classes = i.classes;
-      first = i.first;
-      threads = i.threads;
-      objects = i.objects;
-      real = i.real;
-    } in
-    let over = (rests_after h (bare p) t (record {
-      rests = record { is_of = bare_of; over = c.rests.over };
-      may = c.may;
-    }) d is first (bare q) a (run_of h d p q a run)).over in
-    record { is_of = run.heap; over = over }
+pub of_shot : {h : HeapSeen} {d : StepTree (Unit {0})} {p q : PassSeen} → HasShot h d p q → HasMadeSteps h d (bare p) (bare q) tt
+of_shot {p = p} {q = q} run = run_of {p = p} {q = q} (record { heap = run.heap; limit = run.limit; ran = run.ran })
 
 -- FIRST STEPS
 all_first : (t : HeapCall) (i n : ℕ) (f : ℕ → StepTree (Unit {0})) → ((j : ℕ) → IsCallOf t (f j)) → IsCallOf t (all_from i n f)

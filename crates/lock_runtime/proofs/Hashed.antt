@@ -1,23 +1,14 @@
 -- Hashes: the next draw of a thread is what its call takes.
-use Rattle.std.proofs.Common.{◌≡◌, ℕ, ◌+◌, ◌≤◌, List, [], ◌∷◌, Option, Some, None, length, refl, sym, subst, arith, inl, inr}
-use Rattle.plain_monitor.specs.Objects.{PlainObject}
-use Rattle.plain_monitor.specs.declared.entry.Logged.{Logged}
-use Rattle.core_world.specs.Clauses.Lengths.{log_limit}
+use Rattle.std.proofs.Common.{◌≡◌, ℕ, ◌+◌, refl, sym}
 use Rattle.core_world.specs.declared.answer.Progress.{Progress}
 use Rattle.core_world.specs.declared.answer.Progress.TheVariants.{Done, Pending}
-use Rattle.core_world.specs.Clauses.Draws.{Draw, draw_in, drawn_by, draws_in}
-use Rattle.core_world.specs.Threads.ThreadView.{ThreadView, Start, draw_of}
+use Rattle.core_world.specs.Threads.ThreadView.{Start, draw_of}
 use Rattle.core_world.specs.Trees.HashSteps.{hash_header_steps}
 use Rattle.core_world.specs.Trees.Operations.{and_then, no_bias, unbias_steps}
 use Rattle.core_world.specs.Trees.Plans.{CallContext}
-use Rattle.core_world.specs.Valid.{Fits, IsValid}
-use Rattle.core_world.specs.World.{World}
 use Rattle.core_world.specs.Words.Shape.{Shape}
-use Rattle.core_world.proofs.KnowledgeParts.{by_equal}
-use Rattle.core_law.specs.Logic.{SoundWorldWith}
-use Rattle.core_law.proofs.Standing.{home, valid_here}
 use Rattle.heap_table.specs.Resting.{start_now}
-use Rattle.heap_table.specs.Seen.{HeapSeen, PassSeen, IsOf}
+use Rattle.heap_table.specs.Seen.{HeapSeen, PassSeen}
 use Rattle.heap_table.proofs.Aside.{StartsAlike}
 use Rattle.heap_table.proofs.Resting.{IsCallOf}
 use Rattle.lock_runtime.specs.inner.HashParts.{hash_unbiased, hash_going}

@@ -1,6 +1,8 @@
 pub mod Begins
 pub mod LeftNothing
 pub mod After
+pub mod PartMade
+pub mod Goes
 pub mod Entered
 pub mod Asides
 pub mod Revoked

@@ -1,5 +1,5 @@
 -- A call is refused exactly where by its own log the thread has no hold: its hold words follow from its log.
-use Rattle.std.proofs.Common.{◌≡◌, ℕ, zero, suc, ◌<◌, ◌≤◌, ◌==◌, false, sym, ◌∙◌, subst, ne_eqb, arith}
+use Rattle.std.proofs.Common.{◌≡◌, ℕ, zero, suc, ◌<◌, ◌≤◌, ◌==◌, true, false, sym, ap, ◌∙◌, subst, eq-eqb, ne_eqb, arith}
 use Rattle.plain_history.specs.HeldByLog.{held_by, nothing_held}
 use Rattle.core_world.specs.Locks.{hold_count}
 use Rattle.heap_table.specs.Resting.{Rests}
@@ -9,6 +9,13 @@ use Rattle.own_logs.proofs.OwnHolds.{own_number}
 some_held : (n : ℕ) → (n == 0) ≡ false → 1 ≤ n
 some_held zero e = absurd (cc e)
 some_held (suc n) e = omega arith
+
+-- the code has seen n, and compared it
+pub differs : {seen n m : ℕ} → seen ≡ n → (seen ≡ m → ⊥) → (n == m) ≡ false
+differs {m = m} same other = ap (λ x. x == m) (sym same) ∙ ne_eqb _ _ other
+
+pub equals : {seen n m : ℕ} → seen ≡ n → seen ≡ m → (n == m) ≡ true
+equals same is = eq-eqb _ _ (sym same ∙ is)
 
 module _ (h : HeapSeen) (p : PassSeen) (rests : Rests h p) (o : ℕ) where
   pub unheld : hold_count o p.known.holds ≡ 0 → held_by nothing_held p.known.log o ≡ 0

@@ -1,18 +1,14 @@
 -- A thread that lets go logs one entry. By which marks no notify comes to an end, and what whole waits and notifies begin with.
-use Rattle.std.proofs.Common.{◌≡◌, ℕ, ◌+◌, Bool, true, false, cond, if◌then◌else◌, List, [], ◌∷◌, Some, Err, length, length-append, refl, ap, ◌∙◌}
+use Rattle.std.proofs.Common.{◌≡◌, ℕ, ◌+◌, Bool, true, if◌then◌else◌, List, [], ◌∷◌, Some, Err, length, length-append, refl, ap, ◌∙◌}
 use Rattle.mark_word.specs.declared.mark.MarkForm.{MarkForm}
 use Rattle.mark_word.specs.declared.mark.MarkForm.TheVariants.{Inflating, Neutral, Anonymous, Biased, Locked, Inflated, Marked}
 use Rattle.plain_monitor.specs.declared.entry.Entry.TheVariants as entry
 use Rattle.plain_monitor.specs.declared.entry.Logged.{Logged}
-use Rattle.core_world.specs.declared.plan.StepPlan.{StepPlan}
-use Rattle.core_world.specs.Due.{Runs}
-use Rattle.core_world.specs.Steps.{known_after, known_hit, known_miss}
-use Rattle.core_world.specs.Threads.ThreadView.{ThreadView, Local, Start}
+use Rattle.core_world.specs.Threads.ThreadView.{Local, Start}
 use Rattle.core_world.specs.Trees.Operations.{answer, no_bias, wait_going, wait_beginning, notify_at, notify_going, notify_all_at, notify_all_going}
 use Rattle.core_world.specs.Trees.Plans.{CallContext}
-use Rattle.core_world.specs.Trees.StepTree.{StepTree, done, unreachable, step, ◌>>=◌}
+use Rattle.core_world.specs.Trees.StepTree.{StepTree, done, unreachable, ◌>>=◌}
 use Rattle.core_world.specs.Trees.WaitSteps.{monitor_wait_steps, monitor_resume_steps}
-use Rattle.core_world.specs.Words.Acts.{hits}
 use Rattle.core_world.specs.Words.Forms.{waits_on}
 use Rattle.core_world.specs.Words.Shape.{Shape}
 use Rattle.core_calls.specs.Paths.{Says}
@@ -34,22 +30,6 @@ logs_wait h e k o m p q saved run =
     let says : Says (monitor_wait_steps e k o m) (LetGo e k o) = record { by = monitor_wait_says e k o m [] (record { are = refl }) } in
     let one = did_one (entry.Wait o) e.unfinished e.check p.known q.known (did (entry.Wait o ∷ []) e.unfinished e.check p.known q.known (tells says run.ran)) in
     ap (λ (l : List Logged). length l) one.1 ∙ length-append p.known.log (record { stamp = one.0; entry = entry.Wait o } ∷ [])
-
--- no step is another thread's
-step_thread : (s : Shape) (start : ℕ) (plan : StepPlan) (n : ℕ) (k : ThreadView) → (known_after s start plan n k).thread ≡ k.thread
-step_thread s start plan n k = cases (hits plan.act n)
-  where
-    cases : (b : Bool) → (cond b (known_hit s start plan n k) (known_miss s start plan n k)).thread ≡ k.thread
-    cases true = refl
-    cases false = refl
-
-run_thread : {A : Type 0} (s : Shape) (start : ℕ) (d : StepTree A) (k l : ThreadView) (a : A) → Runs s start d k l a → l.thread ≡ k.thread
-run_thread s start (done b) k l a run = ap (λ (x : ThreadView). x.thread) run.0
-run_thread s start unreachable k l a run = absurd run
-run_thread s start (step plan f) k l a run = run_thread s start (f run.0) (known_after s start plan run.0 k) l a run.1 ∙ step_thread s start plan run.0 k
-
-pub same_thread : {A : Type 0} (h : HeapSeen) (d : StepTree A) (p q : PassSeen) (a : A) → HasMadeSteps h d p q a → q.known.thread ≡ p.known.thread
-same_thread h d p q a run = run_thread h.heap.shape h.heap.start d p.known q.known a run.ran.by
 
 -- NOTIFIES
 pub never_notified : (f : MarkForm) (s : Shape) (e : CallContext) (k : Local) (o : ℕ)

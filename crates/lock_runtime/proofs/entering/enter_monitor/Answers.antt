@@ -1,68 +1,37 @@
-use Rattle.std.proofs.Common.{ℕ, refl, sym, subst}
-use Rattle.plain_monitor.specs.declared.entry.Path.{Path}
-use Rattle.core_world.specs.declared.answer.Progress.{Progress}
-use Rattle.core_world.specs.declared.answer.Progress.TheVariants.{Done, Pending}
+use Rattle.std.proofs.Common.{refl, sym, ap}
 use Rattle.core_world.specs.Threads.ThreadView.{Local, local_of}
 use Rattle.core_world.specs.Trees.MonitorSteps.{inflate_steps, monitor_enter_steps}
 use Rattle.core_world.specs.Trees.Operations.{and_then}
-use Rattle.core_world.specs.Trees.StepTree.{StepTree}
-use Rattle.core_world.proofs.CallRests.{part_due}
-use Rattle.heap_table.specs.Parts.{IsDueOn, HasMadeSteps}
-use Rattle.heap_table.proofs.Parts.{in_turn, ends}
-use Rattle.lock_runtime.proofs.After.{next_part, room_kept}
+use Rattle.lock_runtime.proofs.PartMade.{PartMade, first_due, next_due, next_made, last_made, room_after}
 use Rattle.lock_runtime.proofs.entering.enter_monitor.Goals as goal
+use Rattle.lock_runtime.proofs.entering.enter_monitor.Goals.{After-inflate}
 
 pub inflate-requires-clause-due : goal.inflate-requires-clause-due
 inflate-requires-clause-due c =
     let a = c.args in
-    let h = a.heap.now in
-    let e = a.context.now in
-    let k = a.pass.now.known in
-    let next : Progress ℕ → StepTree (Progress Path) = λ progress. and_then progress (λ m. monitor_enter_steps e (local_of k) a.object m) in
-    part_due h.heap.shape h.heap.start h.heap.biasing k e.task (inflate_steps h.heap.shape e k.kept a.object) next c.requires.due
+    first_due (λ progress. and_then progress (λ m. monitor_enter_steps a.context.now (local_of a.pass.now.known) a.object m)) c.requires.due
+
+-- the object is inflated
+inflated : (c : After-inflate) → let a = c.args in let h = a.heap.now in let k = a.pass.now.known in
+    PartMade h a.pass.now c.inflate.new.pass a.context.now.task (inflate_steps h.heap.shape a.context.now k.kept a.object)
+    (λ progress. and_then progress (λ m. monitor_enter_steps a.context.now (local_of k) a.object m)) c.inflate.result
+inflated c = record { due = c.requires.due; first = refl; made = c.inflate.ensures.run }
 
 pub monitor_enter-requires-clause-due : goal.monitor_enter-requires-clause-due
 monitor_enter-requires-clause-due c =
     let a = c.args in
-    let h = a.heap.now in
-    let e = a.context.now in
-    let k = a.pass.now.known in
-    let q = c.inflate.new.pass in
-    let m = c.in-Done.monitor in
-    let next : Progress ℕ → StepTree (Progress Path) = λ progress. and_then progress (λ m. monitor_enter_steps e (local_of k) a.object m) in
-    let ran = subst (λ (t : Progress ℕ). HasMadeSteps h (inflate_steps h.heap.shape e k.kept a.object) a.pass.now q t) c.in-Done.is c.inflate.ensures.run in
-    subst (λ (x : Local). IsDueOn h q e.task (monitor_enter_steps e x a.object m)) (sym c.inflate.ensures.local)
-    (next_part h a.pass.now q e.task (inflate_steps h.heap.shape e k.kept a.object) next (Done m) c.requires.due refl ran)
+    next_due (inflated (goal.at.monitor_enter-requires-clause-due c).After-inflate) c.in-Done.is
+    (ap (λ (l : Local). monitor_enter_steps a.context.now l a.object c.in-Done.monitor) (sym c.inflate.ensures.local))
 
 pub monitor_enter-requires-clause-room : goal.monitor_enter-requires-clause-room
 monitor_enter-requires-clause-room c =
-    let a = c.args in
-    room_kept a.heap.now (inflate_steps a.heap.now.heap.shape a.context.now a.pass.now.known.kept a.object)
-    a.pass.now c.inflate.new.pass c.inflate.result c.inflate.ensures.local c.inflate.ensures.run c.requires.room
+    room_after (inflated (goal.at.monitor_enter-requires-clause-room c).After-inflate) c.inflate.ensures.local c.requires.room
 
 pub returns-in-Done : goal.returns-in-Done
 returns-in-Done c =
     let a = c.args in
-    let h = a.heap.now in
-    let e = a.context.now in
-    let k = a.pass.now.known in
-    let q = c.inflate.new.pass in
-    let r = c.monitor_enter.new.pass in
-    let m = c.in-Done.monitor in
-    let next : Progress ℕ → StepTree (Progress Path) = λ progress. and_then progress (λ m. monitor_enter_steps e (local_of k) a.object m) in
-    let ran = subst (λ (t : Progress ℕ). HasMadeSteps h (inflate_steps h.heap.shape e k.kept a.object) a.pass.now q t) c.in-Done.is c.inflate.ensures.run in
-    let rest = subst (λ (x : Local). HasMadeSteps h (monitor_enter_steps e x a.object m) q r c.monitor_enter.result)
-    c.inflate.ensures.local c.monitor_enter.ensures in
-    in_turn h a.pass.now q r (inflate_steps h.heap.shape e k.kept a.object) next (Done m) c.monitor_enter.result ran rest
+    next_made (inflated (goal.at.returns-in-Done c).After-inflate) c.in-Done.is
+    (ap (λ (l : Local). monitor_enter_steps a.context.now l a.object c.in-Done.monitor) (sym c.inflate.ensures.local)) c.monitor_enter.ensures
 
 pub returns-in-Pending : goal.returns-in-Pending
-returns-in-Pending c =
-    let a = c.args in
-    let h = a.heap.now in
-    let e = a.context.now in
-    let k = a.pass.now.known in
-    let q = c.inflate.new.pass in
-    let out : Progress Path = Pending c.in-Pending.cause in
-    let next : Progress ℕ → StepTree (Progress Path) = λ progress. and_then progress (λ m. monitor_enter_steps e (local_of k) a.object m) in
-    let ran = subst (λ (t : Progress ℕ). HasMadeSteps h (inflate_steps h.heap.shape e k.kept a.object) a.pass.now q t) c.in-Pending.is c.inflate.ensures.run in
-    in_turn h a.pass.now q q (inflate_steps h.heap.shape e k.kept a.object) next (Pending c.in-Pending.cause) out ran (ends h q out ran.heap)
+returns-in-Pending c = last_made (inflated (goal.at.returns-in-Pending c).After-inflate) c.in-Pending.is refl

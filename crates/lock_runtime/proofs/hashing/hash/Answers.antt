@@ -1,4 +1,4 @@
-use Rattle.std.proofs.Common.{refl, sym, subst}
+use Rattle.std.proofs.Common.{refl, subst}
 use Rattle.core_world.specs.declared.heap_call.Operation.TheVariants as op
 use Rattle.core_world.specs.declared.heap_call.HeapCall.TheVariants.{Hash}
 use Rattle.core_world.specs.Trees.Calls.{steps_of}
@@ -6,9 +6,9 @@ use Rattle.core_world.specs.Trees.Operations.{hash_steps}
 use Rattle.core_world.specs.Trees.Plans.{CallContext, call_context}
 use Rattle.core_calls.proofs.Runs.{tells}
 use Rattle.core_calls.proofs.wait.WaitCallsSay.{hash_says}
-use Rattle.heap_table.specs.Parts.{IsDueOn, HasMadeSteps}
+use Rattle.heap_table.specs.Parts.{HasMadeSteps}
 use Rattle.heap_table.specs.Resting.{start_now}
-use Rattle.heap_table.proofs.Resting.{whole_due, rests_after}
+use Rattle.heap_table.proofs.Resting.{due_as, rests_after}
 use Rattle.lock_runtime.specs.inner.HashParts.{hash_going}
 use Rattle.lock_runtime.proofs.Begins.{object_there, room_one}
 use Rattle.lock_runtime.proofs.Hashed.{first_hash}
@@ -26,47 +26,28 @@ unfolding steps_of
 hash_going-requires-clause-due c =
     let a = c.args in
     let h = a.heap.now in
-    let p = a.pass.now in
-    let k = start_now h p in
-    let s = h.heap.shape in
-    let due = whole_due h p (Hash a.object a.now) c.requires.call (hash_steps s k a.object a.now) refl in
-    subst (λ (x : CallContext). IsDueOn h p x.task (hash_going s x k a.object a.now)) (sym c.unfinished-context.ensures) due
+    let e = call_context (Hash a.object a.now) op.Hash a.object in
+    due_as h a.pass.now c.requires.call.rests _ e (λ (x : CallContext). hash_going h.heap.shape x (start_now h a.pass.now) a.object a.now)
+    c.unfinished-context.ensures c.requires.call.may refl
 
-pub returns-clause-run : goal.returns-clause-run
-returns-clause-run c =
+pub returns : goal.returns
+unfolding steps_of
+returns c =
     let a = c.args in
     let h = a.heap.now in
     let p = a.pass.now in
     let q = c.hash_going.new.pass in
-    subst (λ (x : CallContext). HasMadeSteps h (hash_going h.heap.shape x (start_now h p) a.object a.now) p q c.hash_going.result)
-    c.unfinished-context.ensures c.hash_going.ensures
-
-pub returns-clause-rests : goal.returns-clause-rests
-unfolding steps_of
-returns-clause-rests c =
-    let a = c.args in
-    let h = a.heap.now in
-    let p = a.pass.now in
-    let k = start_now h p in
     let s = h.heap.shape in
-    let e = call_context (Hash a.object a.now) op.Hash a.object in
-    rests_after h p (Hash a.object a.now) c.requires.call (hash_steps s k a.object a.now) refl
-    (first_hash s e k a.object a.now) c.hash_going.new.pass c.hash_going.result (returns-clause-run c)
-
-pub returns-clause-says : goal.returns-clause-says
-returns-clause-says c =
-    let a = c.args in
-    let h = a.heap.now in
-    tells (hash_says h.heap.shape (start_now h a.pass.now) a.object a.now) (HasMadeSteps.ran (returns-clause-run c))
-
-pub returns-clause-stands : goal.returns-clause-stands
-returns-clause-stands c =
-    let a = c.args in
-    let run = returns-clause-run c in
-    (hash_leaves a.heap.now a.pass.now c.hash_going.new.pass run.heap c.requires.call.rests a.object a.now c.hash_going.result c.requires.call.may run.ran).0
-
-pub returns-clause-others : goal.returns-clause-others
-returns-clause-others c =
-    let a = c.args in
-    let run = returns-clause-run c in
-    (hash_leaves a.heap.now a.pass.now c.hash_going.new.pass run.heap c.requires.call.rests a.object a.now c.hash_going.result c.requires.call.may run.ran).1
+    let k = start_now h p in
+    let t = Hash a.object a.now in
+    let run = subst (λ (x : CallContext). HasMadeSteps h (hash_going s x k a.object a.now) p q c.hash_going.result)
+    c.unfinished-context.ensures c.hash_going.ensures in
+    let leaves = hash_leaves h p q run.heap c.requires.call.rests a.object a.now c.hash_going.result c.requires.call.may run.ran in
+    record {
+      rests = rests_after h p t c.requires.call (hash_steps s k a.object a.now) refl (first_hash s (call_context t op.Hash a.object) k a.object a.now) q
+          c.hash_going.result run;
+      run = run;
+      says = tells (hash_says s k a.object a.now) run.ran;
+      stands = leaves.0;
+      others = leaves.1;
+    }

@@ -1,36 +1,29 @@
-use Rattle.std.proofs.Common.{◌<◌, Bool, true, false, if◌then◌else◌, sym, subst}
-use Rattle.core_world.specs.declared.answer.Progress.TheVariants.{Done}
+use Rattle.std.proofs.Common.{◌<◌, if◌then◌else◌, refl, sym, ap, subst}
 use Rattle.core_world.specs.Locks.{hold_count}
 use Rattle.core_world.specs.Threads.ThreadView.{Local, local_of}
 use Rattle.core_world.specs.Trees.BiasSteps.{bias_exit_steps}
 use Rattle.core_world.specs.Trees.Plans.{done_with}
-use Rattle.core_world.proofs.CallRests.{part_due}
-use Rattle.heap_table.specs.Parts.{IsDueOn, HasMadeSteps}
-use Rattle.heap_table.proofs.Parts.{in_turn, ends}
 use Rattle.lock_runtime.specs.inner.Parts.{exit_unbiased}
-use Rattle.lock_runtime.proofs.After.{next_part, room_kept}
 use Rattle.lock_runtime.proofs.LeftNothing.{first_under_bias}
+use Rattle.lock_runtime.proofs.PartMade.{PartMade, first_due, next_due, next_made, last_made, room_after}
 use Rattle.lock_runtime.proofs.leaving.leave_held.Goals as goal
+use Rattle.lock_runtime.proofs.leaving.leave_held.Goals.{After-bias_exit}
 
 pub bias_exit-requires-clause-due : goal.bias_exit-requires-clause-due
 bias_exit-requires-clause-due c =
     let a = c.args in
-    let h = a.heap.now in
-    let e = a.context.now in
-    let l = local_of a.pass.now.known in
-    part_due h.heap.shape h.heap.start h.heap.biasing a.pass.now.known e.task (bias_exit_steps e l a.object)
-    (λ b. if b then done_with (tt {0}) else exit_unbiased e l a.object) c.requires.due
+    first_due (λ biased. if biased then done_with (tt {0}) else exit_unbiased a.context.now (local_of a.pass.now.known) a.object) c.requires.due
+
+-- the exit under a bias
+left : (c : After-bias_exit) → let a = c.args in let l = local_of a.pass.now.known in
+    PartMade a.heap.now a.pass.now c.bias_exit.new.pass a.context.now.task (bias_exit_steps a.context.now l a.object)
+    (λ biased. if biased then done_with (tt {0}) else exit_unbiased a.context.now l a.object) c.bias_exit.result
+left c =
+    let a = c.args in
+    record { due = c.requires.due; first = first_under_bias a.context.now (local_of a.pass.now.known) a.object; made = c.bias_exit.ensures.run }
 
 pub returns-then-bias_exit : goal.returns-then-bias_exit
-returns-then-bias_exit c =
-    let a = c.args in
-    let h = a.heap.now in
-    let e = a.context.now in
-    let l = local_of a.pass.now.known in
-    let q = c.bias_exit.new.pass in
-    let out = bias_exit_steps e l a.object in
-    let ran = subst (λ (b : Bool). HasMadeSteps h out a.pass.now q b) c.if-bias_exit.true c.bias_exit.ensures.run in
-    in_turn h a.pass.now q q out (λ b. if b then done_with (tt {0}) else exit_unbiased e l a.object) true (Done tt) ran (ends h q (Done tt) ran.heap)
+returns-then-bias_exit c = last_made (left (goal.at.returns-then-bias_exit c).After-bias_exit) c.if-bias_exit.true refl
 
 pub leave_unbiased-requires-clause-held : goal.leave_unbiased-requires-clause-held
 leave_unbiased-requires-clause-held c =
@@ -38,33 +31,14 @@ leave_unbiased-requires-clause-held c =
 
 pub leave_unbiased-requires-clause-due : goal.leave_unbiased-requires-clause-due
 leave_unbiased-requires-clause-due c =
-    let a = c.args in
-    let h = a.heap.now in
-    let e = a.context.now in
-    let l = local_of a.pass.now.known in
-    let q = c.bias_exit.new.pass in
-    let out = bias_exit_steps e l a.object in
-    let ran = subst (λ (b : Bool). HasMadeSteps h out a.pass.now q b) c.if-bias_exit.false c.bias_exit.ensures.run in
-    subst (λ (x : Local). IsDueOn h q e.task (exit_unbiased e x a.object)) (sym (c.bias_exit.ensures.kept c.if-bias_exit.false))
-    (next_part h a.pass.now q e.task out (λ b. if b then done_with (tt {0}) else exit_unbiased e l a.object) false c.requires.due
-    (first_under_bias e l a.object) ran)
+    next_due (left (goal.at.leave_unbiased-requires-clause-due c).After-bias_exit) c.if-bias_exit.false
+    (ap (λ (l : Local). exit_unbiased c.args.context.now l c.args.object) (sym (c.bias_exit.ensures.kept c.if-bias_exit.false)))
 
 pub leave_unbiased-requires-clause-room : goal.leave_unbiased-requires-clause-room
 leave_unbiased-requires-clause-room c =
-    let a = c.args in
-    room_kept a.heap.now (bias_exit_steps a.context.now (local_of a.pass.now.known) a.object) a.pass.now c.bias_exit.new.pass c.bias_exit.result
-    (c.bias_exit.ensures.kept c.if-bias_exit.false) c.bias_exit.ensures.run c.requires.room
+    room_after (left (goal.at.leave_unbiased-requires-clause-room c).After-bias_exit) (c.bias_exit.ensures.kept c.if-bias_exit.false) c.requires.room
 
 pub returns : goal.returns
 returns c =
-    let a = c.args in
-    let h = a.heap.now in
-    let e = a.context.now in
-    let l = local_of a.pass.now.known in
-    let q = c.bias_exit.new.pass in
-    let r = c.leave_unbiased.new.pass in
-    let out = bias_exit_steps e l a.object in
-    let ran = subst (λ (b : Bool). HasMadeSteps h out a.pass.now q b) c.if-bias_exit.false c.bias_exit.ensures.run in
-    let rest = subst (λ (x : Local). HasMadeSteps h (exit_unbiased e x a.object) q r c.leave_unbiased.result)
-    (c.bias_exit.ensures.kept c.if-bias_exit.false) c.leave_unbiased.ensures in
-    in_turn h a.pass.now q r out (λ b. if b then done_with (tt {0}) else exit_unbiased e l a.object) false c.leave_unbiased.result ran rest
+    next_made (left (goal.at.returns c).After-bias_exit) c.if-bias_exit.false
+    (ap (λ (l : Local). exit_unbiased c.args.context.now l c.args.object) (sym (c.bias_exit.ensures.kept c.if-bias_exit.false))) c.leave_unbiased.ensures

@@ -1,103 +1,62 @@
-use Rattle.std.proofs.Common.{◌<◌, sym, subst}
-use Rattle.core_world.specs.declared.answer.StackOut.{StackOut}
-use Rattle.core_world.specs.declared.answer.StackOut.TheVariants.{Left, Monitor, Not}
-use Rattle.core_world.specs.declared.answer.Progress.{Progress}
-use Rattle.core_world.specs.declared.answer.Progress.TheVariants.{Done, Pending}
+use Rattle.std.proofs.Common.{◌≡◌, ℕ, ◌<◌, refl, sym, ap, subst}
+use Rattle.core_world.specs.declared.answer.StackOut.TheVariants.{Monitor}
 use Rattle.core_world.specs.Locks.{hold_count}
 use Rattle.core_world.specs.Threads.ThreadView.{Local, local_of}
 use Rattle.core_world.specs.Trees.LockSteps.{stack_exit_steps}
 use Rattle.core_world.specs.Trees.MonitorSteps.{monitor_exit_steps}
 use Rattle.core_world.specs.Trees.Operations.{exit_at}
 use Rattle.core_world.specs.Trees.Plans.{done_with}
-use Rattle.core_world.proofs.CallRests.{part_due}
-use Rattle.heap_table.specs.Parts.{IsDueOn, HasMadeSteps}
-use Rattle.heap_table.proofs.Parts.{in_turn, ends}
-use Rattle.lock_runtime.proofs.After.{next_part, room_kept}
+use Rattle.core_world.specs.Trees.StepTree.{◌>>=◌}
 use Rattle.lock_runtime.proofs.LeftNothing.{first_out, left_nothing}
+use Rattle.lock_runtime.proofs.PartMade.{PartMade, first_due, next_due, next_made, last_made, then_ends, room_after}
 use Rattle.lock_runtime.proofs.leaving.leave_unbiased.Goals as goal
+use Rattle.lock_runtime.proofs.leaving.leave_unbiased.Goals.{After-stack_exit}
 
 pub stack_exit-requires-clause-due : goal.stack_exit-requires-clause-due
 stack_exit-requires-clause-due c =
+    let a = c.args in first_due (λ out. exit_at out a.context.now (local_of a.pass.now.known) a.object) c.requires.due
+
+-- the exit by the lock record
+left : (c : After-stack_exit) → let a = c.args in let l = local_of a.pass.now.known in
+    PartMade a.heap.now a.pass.now c.stack_exit.new.pass a.context.now.task (stack_exit_steps a.context.now l a.object)
+    (λ out. exit_at out a.context.now l a.object) c.stack_exit.result
+left c =
     let a = c.args in
-    let h = a.heap.now in
-    let e = a.context.now in
-    let l = local_of a.pass.now.known in
-    part_due h.heap.shape h.heap.start h.heap.biasing a.pass.now.known e.task (stack_exit_steps e l a.object) (λ out. exit_at out e l a.object) c.requires.due
+    record { due = c.requires.due; first = first_out a.context.now (local_of a.pass.now.known) a.object; made = c.stack_exit.ensures }
+
+-- which has left nothing where it found a monitor
+same : (c : After-stack_exit) (m : ℕ) → c.stack_exit.result ≡ Monitor m → local_of c.stack_exit.new.pass.known ≡ local_of c.args.pass.now.known
+same c m is =
+    let a = c.args in
+    left_nothing a.heap.now a.context.now (local_of a.pass.now.known) a.object m a.pass.now c.stack_exit.new.pass (rw is at c.stack_exit.ensures)
+
+-- so the monitor is left as the tree says
+by_monitor : (c : After-stack_exit) (m : ℕ) → c.stack_exit.result ≡ Monitor m → let a = c.args in
+    exit_at (Monitor m) a.context.now (local_of a.pass.now.known) a.object
+    ≡ (monitor_exit_steps a.context.now (local_of c.stack_exit.new.pass.known) a.object m >>= (λ _. done_with (tt {0})))
+by_monitor c m is = ap (λ (l : Local). exit_at (Monitor m) c.args.context.now l c.args.object) (sym (same c m is))
 
 pub monitor_exit-requires-clause-held : goal.monitor_exit-requires-clause-held
 monitor_exit-requires-clause-held c =
-    let a = c.args in
-    let h = a.heap.now in
-    let e = a.context.now in
-    let k = a.pass.now.known in
-    let q = c.stack_exit.new.pass in
-    let out = stack_exit_steps e (local_of k) a.object in
-    let ran = subst (λ (o : StackOut). HasMadeSteps h out a.pass.now q o) c.in-Monitor.is c.stack_exit.ensures in
-    let same = left_nothing h e (local_of k) a.object c.in-Monitor.number a.pass.now q ran in
-    subst (λ (x : Local). 0 < hold_count a.object x.holds) (sym same) c.requires.held
+    let z = (goal.at.monitor_exit-requires-clause-held c).After-stack_exit in
+    subst (λ (l : Local). 0 < hold_count c.args.object l.holds) (sym (same z _ c.in-Monitor.is)) c.requires.held
 
 pub monitor_exit-requires-clause-due : goal.monitor_exit-requires-clause-due
 monitor_exit-requires-clause-due c =
-    let a = c.args in
-    let h = a.heap.now in
-    let e = a.context.now in
-    let k = a.pass.now.known in
-    let q = c.stack_exit.new.pass in
-    let m = c.in-Monitor.number in
-    let out = stack_exit_steps e (local_of k) a.object in
-    let ran = subst (λ (o : StackOut). HasMadeSteps h out a.pass.now q o) c.in-Monitor.is c.stack_exit.ensures in
-    let same = left_nothing h e (local_of k) a.object m a.pass.now q ran in
-    let due = next_part h a.pass.now q e.task out (λ o. exit_at o e (local_of k) a.object) (Monitor m) c.requires.due (first_out e (local_of k) a.object) ran in
-    subst (λ (x : Local). IsDueOn h q e.task (monitor_exit_steps e x a.object m)) (sym same)
-    (part_due h.heap.shape h.heap.start h.heap.biasing q.known e.task (monitor_exit_steps e (local_of k) a.object m) (λ _. done_with tt) due)
+    let z = (goal.at.monitor_exit-requires-clause-due c).After-stack_exit in
+    first_due (λ _. done_with (tt {0})) (next_due (left z) c.in-Monitor.is (by_monitor z _ c.in-Monitor.is))
 
 pub monitor_exit-requires-clause-room : goal.monitor_exit-requires-clause-room
 monitor_exit-requires-clause-room c =
-    let a = c.args in
-    let h = a.heap.now in
-    let e = a.context.now in
-    let k = a.pass.now.known in
-    let q = c.stack_exit.new.pass in
-    let out = stack_exit_steps e (local_of k) a.object in
-    let ran = subst (λ (o : StackOut). HasMadeSteps h out a.pass.now q o) c.in-Monitor.is c.stack_exit.ensures in
-    let same = left_nothing h e (local_of k) a.object c.in-Monitor.number a.pass.now q ran in
-    room_kept h out a.pass.now q (Monitor c.in-Monitor.number) same ran c.requires.room
+    let z = (goal.at.monitor_exit-requires-clause-room c).After-stack_exit in room_after (left z) (same z _ c.in-Monitor.is) c.requires.room
 
 pub returns-in-Left : goal.returns-in-Left
-returns-in-Left c =
-    let a = c.args in
-    let h = a.heap.now in
-    let e = a.context.now in
-    let k = a.pass.now.known in
-    let q = c.stack_exit.new.pass in
-    let out = stack_exit_steps e (local_of k) a.object in
-    let ran = subst (λ (o : StackOut). HasMadeSteps h out a.pass.now q o) c.in-Left.is c.stack_exit.ensures in
-    in_turn h a.pass.now q q out (λ o. exit_at o e (local_of k) a.object) Left (Done tt) ran (ends h q (Done tt) ran.heap)
+returns-in-Left c = last_made (left (goal.at.returns-in-Left c).After-stack_exit) c.in-Left.is refl
 
 pub returns-in-Not : goal.returns-in-Not
-returns-in-Not c =
-    let a = c.args in
-    let h = a.heap.now in
-    let e = a.context.now in
-    let k = a.pass.now.known in
-    let q = c.stack_exit.new.pass in
-    let out = stack_exit_steps e (local_of k) a.object in
-    let ran = subst (λ (o : StackOut). HasMadeSteps h out a.pass.now q o) c.in-Not.is c.stack_exit.ensures in
-    let answer : Progress (Unit {0}) = Pending c.in-Not.cause in
-    in_turn h a.pass.now q q out (λ o. exit_at o e (local_of k) a.object) (Not c.in-Not.cause) answer ran (ends h q answer ran.heap)
+returns-in-Not c = last_made (left (goal.at.returns-in-Not c).After-stack_exit) c.in-Not.is refl
 
 pub returns-in-Monitor : goal.returns-in-Monitor
 returns-in-Monitor c =
-    let a = c.args in
-    let h = a.heap.now in
-    let e = a.context.now in
-    let k = a.pass.now.known in
-    let q = c.stack_exit.new.pass in
-    let r = c.monitor_exit.new.pass in
-    let m = c.in-Monitor.number in
-    let out = stack_exit_steps e (local_of k) a.object in
-    let ran = subst (λ (o : StackOut). HasMadeSteps h out a.pass.now q o) c.in-Monitor.is c.stack_exit.ensures in
-    let same = left_nothing h e (local_of k) a.object m a.pass.now q ran in
-    let left = subst (λ (x : Local). HasMadeSteps h (monitor_exit_steps e x a.object m) q r tt) same c.monitor_exit.ensures in
-    in_turn h a.pass.now q r out (λ o. exit_at o e (local_of k) a.object) (Monitor m) (Done tt) ran
-    (in_turn h q r r (monitor_exit_steps e (local_of k) a.object m) (λ _. done_with tt) tt (Done tt) left (ends h r (Done tt) left.heap))
+    let z = (goal.at.returns-in-Monitor c).After-stack_exit in
+    next_made (left z) c.in-Monitor.is (by_monitor z _ c.in-Monitor.is) (then_ends (λ _. done_with (tt {0})) refl c.monitor_exit.ensures)

@@ -1,76 +1,58 @@
-use Rattle.std.proofs.Common.{◌≡◌, Bool, sym, ap, ◌∙◌, subst}
-use Rattle.core_world.specs.declared.answer.Progress.{Progress}
+use Rattle.std.proofs.Common.{◌≡◌, refl, sym, ap, ◌∙◌}
 use Rattle.core_world.specs.declared.stage.Stage.TheVariants.{Settled}
 use Rattle.core_world.specs.Threads.ThreadView.{Local}
 use Rattle.core_world.specs.Trees.DeflateSteps.{deflate_steps}
 use Rattle.core_world.specs.Trees.LookSteps.{stands_still_steps}
 use Rattle.core_world.specs.Trees.Operations.{check_ending}
-use Rattle.core_world.specs.Trees.StepTree.{StepTree, ◌>>=◌}
-use Rattle.core_world.proofs.CallRests.{part_due}
-use Rattle.heap_table.specs.Parts.{IsDueOn, HasMadeSteps}
-use Rattle.heap_table.proofs.Parts.{in_turn}
-use Rattle.lock_runtime.proofs.After.{next_part}
+use Rattle.core_world.specs.Trees.StepTree.{◌>>=◌}
 use Rattle.lock_runtime.proofs.Dumped.{first_deflation}
 use Rattle.lock_runtime.proofs.Looked.{run_thread, first_look}
+use Rattle.lock_runtime.proofs.PartMade.{PartMade, first_due, next_due, next_made}
 use Rattle.lock_runtime.proofs.looking.check_reached.Goals as goal
+use Rattle.lock_runtime.proofs.looking.check_reached.Goals.{After-stands_still-still, After-deflate_idle}
 
 pub stands_still-still-requires-clause-due : goal.stands_still-still-requires-clause-due
 stands_still-still-requires-clause-due c =
     let a = c.args in
-    let h = a.heap.now in
     let e = a.context.now in
-    let t = a.pass.now.known.thread in
-    let next : Bool → StepTree (Progress Bool) = λ still. deflate_steps h.heap.shape e Settled >>= (λ _. check_ending still e t) in
-    part_due h.heap.shape h.heap.start h.heap.biasing a.pass.now.known e.task (stands_still_steps e h.heap.shape) next c.requires.due
+    first_due (λ still. deflate_steps a.heap.now.heap.shape e Settled >>= (λ _. check_ending still e a.pass.now.known.thread)) c.requires.due
+
+-- the thread looked at all others
+looked : (c : After-stands_still-still) → let a = c.args in let s = a.heap.now.heap.shape in let e = a.context.now in
+    PartMade a.heap.now a.pass.now c.stands_still-still.new.pass e.task (stands_still_steps e s)
+    (λ still. deflate_steps s e Settled >>= (λ _. check_ending still e a.pass.now.known.thread)) c.stands_still-still.result
+looked c = record { due = c.requires.due; first = first_look c.args.context.now c.args.heap.now.heap.shape; made = c.stands_still-still.ensures }
 
 pub deflate_idle-requires-clause-due : goal.deflate_idle-requires-clause-due
 deflate_idle-requires-clause-due c =
     let a = c.args in
-    let h = a.heap.now in
-    let e = a.context.now in
-    let p = a.pass.now in
-    let t = p.known.thread in
-    let q = c.stands_still-still.new.pass in
-    let still = c.stands_still-still.result in
-    let d = stands_still_steps e h.heap.shape in
-    let next : Bool → StepTree (Progress Bool) = λ still. deflate_steps h.heap.shape e Settled >>= (λ _. check_ending still e t) in
-    let rest = next_part h p q e.task d next still c.requires.due (first_look e h.heap.shape) c.stands_still-still.ensures in
-    part_due h.heap.shape h.heap.start h.heap.biasing q.known e.task (deflate_steps h.heap.shape e Settled) (λ _. check_ending still e t) rest
+    first_due (λ _. check_ending c.stands_still-still.result a.context.now a.pass.now.known.thread)
+    (next_due (looked (goal.at.deflate_idle-requires-clause-due c).After-stands_still-still) refl refl)
+
+-- and gave idle monitors back
+deflated : (c : After-deflate_idle) → let a = c.args in let e = a.context.now in
+    PartMade a.heap.now c.stands_still-still.new.pass c.deflate_idle.new.pass e.task (deflate_steps a.heap.now.heap.shape e Settled)
+    (λ _. check_ending c.stands_still-still.result e a.pass.now.known.thread) tt
+deflated c = record {
+  due = next_due (looked c.before.before) refl refl;
+  first = first_deflation c.args.heap.now.heap.shape c.args.context.now Settled;
+  made = c.deflate_idle.ensures.run;
+}
+
+-- it is the same thread still
+ending : (c : After-deflate_idle) → let e = c.args.context.now in
+    check_ending c.stands_still-still.result e c.args.pass.now.known.thread
+    ≡ check_ending c.stands_still-still.result e c.deflate_idle.new.pass.known.thread
+ending c =
+    let a = c.args in
+    let thread = run_thread a.heap.now _ a.pass.now c.stands_still-still.new.pass c.stands_still-still.result c.stands_still-still.ensures in
+    ap (check_ending c.stands_still-still.result a.context.now) (sym (ap (λ (l : Local). l.thread) c.deflate_idle.ensures.local ∙ thread))
 
 pub end_check-requires-clause-due : goal.end_check-requires-clause-due
 end_check-requires-clause-due c =
-    let a = c.args in
-    let h = a.heap.now in
-    let e = a.context.now in
-    let p = a.pass.now in
-    let t = p.known.thread in
-    let q = c.stands_still-still.new.pass in
-    let r = c.deflate_idle.new.pass in
-    let still = c.stands_still-still.result in
-    let d = stands_still_steps e h.heap.shape in
-    let next : Bool → StepTree (Progress Bool) = λ still. deflate_steps h.heap.shape e Settled >>= (λ _. check_ending still e t) in
-    let ran = c.stands_still-still.ensures in
-    let rest = next_part h p q e.task d next still c.requires.due (first_look e h.heap.shape) ran in
-    let last = next_part h q r e.task (deflate_steps h.heap.shape e Settled)
-    (λ _. check_ending still e t) tt rest (first_deflation h.heap.shape e Settled) c.deflate_idle.ensures.run in
-    let thread : r.known.thread ≡ t = ap (λ (x : Local). x.thread) c.deflate_idle.ensures.local ∙ run_thread h d p q still ran in
-    subst (λ u. IsDueOn h r e.task (check_ending still e u)) (sym thread) last
+    let z = (goal.at.end_check-requires-clause-due c).After-deflate_idle in next_due (deflated z) refl (ending z)
 
 pub returns : goal.returns
 returns c =
-    let a = c.args in
-    let h = a.heap.now in
-    let e = a.context.now in
-    let p = a.pass.now in
-    let t = p.known.thread in
-    let q = c.stands_still-still.new.pass in
-    let r = c.deflate_idle.new.pass in
-    let z = c.end_check.new.pass in
-    let still = c.stands_still-still.result in
-    let d = stands_still_steps e h.heap.shape in
-    let next : Bool → StepTree (Progress Bool) = λ still. deflate_steps h.heap.shape e Settled >>= (λ _. check_ending still e t) in
-    let ran = c.stands_still-still.ensures in
-    let thread : r.known.thread ≡ t = ap (λ (x : Local). x.thread) c.deflate_idle.ensures.local ∙ run_thread h d p q still ran in
-    let last = subst (λ u. HasMadeSteps h (check_ending still e u) r z c.end_check.result) thread c.end_check.ensures in
-    in_turn h p q z d next still c.end_check.result ran
-    (in_turn h q r z (deflate_steps h.heap.shape e Settled) (λ _. check_ending still e t) tt c.end_check.result c.deflate_idle.ensures.run last)
+    let z = (goal.at.returns c).After-deflate_idle in
+    next_made (looked (goal.at.returns c).After-stands_still-still) refl refl (next_made (deflated z) refl (ending z) c.end_check.ensures)

@@ -1,86 +1,61 @@
-use Rattle.std.proofs.Common.{◌≡◌, ℕ, sym, ◌∙◌, subst}
-use Rattle.core_world.specs.declared.answer.Progress.{Progress}
+use Rattle.std.proofs.Common.{◌≡◌, refl, sym, ap, ◌∙◌}
 use Rattle.core_world.specs.declared.stage.Stage.TheVariants.{Settled}
 use Rattle.core_world.specs.Threads.ThreadView.{Local, local_of}
 use Rattle.core_world.specs.Trees.DeflateSteps.{deflate_steps}
 use Rattle.core_world.specs.Trees.LookSteps.{take_shot_steps}
-use Rattle.core_world.specs.Trees.StepTree.{StepTree, ◌>>=◌}
-use Rattle.core_world.proofs.CallRests.{part_due}
-use Rattle.heap_table.specs.Parts.{IsDueOn, HasMadeSteps}
-use Rattle.heap_table.proofs.Parts.{in_turn}
-use Rattle.lock_runtime.specs.inner.LookParts.{told_dump, reached_dump}
-use Rattle.lock_runtime.proofs.After.{next_part, room_kept}
+use Rattle.core_world.specs.Trees.StepTree.{◌>>=◌}
+use Rattle.lock_runtime.specs.inner.LookParts.{told_dump}
 use Rattle.lock_runtime.proofs.Dumped.{bare, bare_run, dumped_of, of_shot, first_shot, first_deflation}
+use Rattle.lock_runtime.proofs.PartMade.{PartMade, first_due, next_due, next_made, room_after}
 use Rattle.lock_runtime.proofs.looking.dump_reached.Goals as goal
+use Rattle.lock_runtime.proofs.looking.dump_reached.Goals.{After-take_shot, After-deflate_idle}
 
 pub take_shot-requires-clause-due : goal.take_shot-requires-clause-due
 take_shot-requires-clause-due c =
     let a = c.args in
-    let h = a.heap.now in
     let e = a.context.now in
-    let l = local_of a.pass.now.known in
-    let next : Unit {0} → StepTree (Progress ℕ) = λ _. deflate_steps h.heap.shape e Settled >>= (λ _. told_dump e l a.number) in
-    part_due h.heap.shape h.heap.start h.heap.biasing a.pass.now.known e.task (take_shot_steps e h.heap.shape) next c.requires.due
+    first_due (λ _. deflate_steps a.heap.now.heap.shape e Settled >>= (λ _. told_dump e (local_of a.pass.now.known) a.number)) c.requires.due
+
+-- the shot is taken
+shot : (c : After-take_shot) → let a = c.args in let e = a.context.now in let s = a.heap.now.heap.shape in
+    PartMade a.heap.now (bare a.pass.now) (bare c.take_shot.new.pass) e.task (take_shot_steps e s)
+    (λ _. deflate_steps s e Settled >>= (λ _. told_dump e (local_of a.pass.now.known) a.number)) tt
+shot c = record { due = c.requires.due; first = first_shot c.args.context.now c.args.heap.now.heap.shape; made = of_shot c.take_shot.ensures.run }
 
 pub deflate_idle-requires-clause-due : goal.deflate_idle-requires-clause-due
 deflate_idle-requires-clause-due c =
     let a = c.args in
-    let h = a.heap.now in
-    let e = a.context.now in
-    let p = a.pass.now in
-    let l = local_of p.known in
-    let q = c.take_shot.new.pass in
-    let d = take_shot_steps e h.heap.shape in
-    let next : Unit {0} → StepTree (Progress ℕ) = λ _. deflate_steps h.heap.shape e Settled >>= (λ _. told_dump e l a.number) in
-    let rest = next_part h (bare p) (bare q) e.task d next tt c.requires.due (first_shot e h.heap.shape) (of_shot h d p q c.take_shot.ensures.run) in
-    part_due h.heap.shape h.heap.start h.heap.biasing q.known e.task (deflate_steps h.heap.shape e Settled) (λ _. told_dump e l a.number) rest
+    first_due (λ _. told_dump a.context.now (local_of a.pass.now.known) a.number)
+    (next_due (shot (goal.at.deflate_idle-requires-clause-due c).After-take_shot) refl refl)
+
+-- and idle monitors are given back
+deflated : (c : After-deflate_idle) → let a = c.args in let e = a.context.now in
+    PartMade a.heap.now (bare c.take_shot.new.pass) (bare c.deflate_idle.new.pass) e.task (deflate_steps a.heap.now.heap.shape e Settled)
+    (λ _. told_dump e (local_of a.pass.now.known) a.number) tt
+deflated c = record {
+  due = next_due (shot c.before.before) refl refl;
+  first = first_deflation c.args.heap.now.heap.shape c.args.context.now Settled;
+  made = bare_run c.deflate_idle.ensures.run;
+}
+
+-- the thread's log and own words are as before
+telling : (c : After-deflate_idle) → let a = c.args in
+    told_dump a.context.now (local_of a.pass.now.known) a.number ≡ told_dump a.context.now (local_of c.deflate_idle.new.pass.known) a.number
+telling c =
+    ap (λ (l : Local). told_dump c.args.context.now l c.args.number) (sym (c.deflate_idle.ensures.local ∙ c.take_shot.ensures.local))
 
 pub tell_dump-requires-clause-due : goal.tell_dump-requires-clause-due
 tell_dump-requires-clause-due c =
-    let a = c.args in
-    let h = a.heap.now in
-    let e = a.context.now in
-    let p = a.pass.now in
-    let l = local_of p.known in
-    let q = c.take_shot.new.pass in
-    let r = c.deflate_idle.new.pass in
-    let d = take_shot_steps e h.heap.shape in
-    let next : Unit {0} → StepTree (Progress ℕ) = λ _. deflate_steps h.heap.shape e Settled >>= (λ _. told_dump e l a.number) in
-    let rest = next_part h (bare p) (bare q) e.task d next tt c.requires.due (first_shot e h.heap.shape) (of_shot h d p q c.take_shot.ensures.run) in
-    let local : local_of r.known ≡ l = c.deflate_idle.ensures.local ∙ c.take_shot.ensures.local in
-    subst (λ (x : Local). IsDueOn h r e.task (told_dump e x a.number)) (sym local)
-    (next_part h q r e.task (deflate_steps h.heap.shape e Settled) (λ _. told_dump e l a.number) tt rest
-    (first_deflation h.heap.shape e Settled) c.deflate_idle.ensures.run)
+    let z = (goal.at.tell_dump-requires-clause-due c).After-deflate_idle in next_due (deflated z) refl (telling z)
 
 pub tell_dump-requires-clause-room : goal.tell_dump-requires-clause-room
 tell_dump-requires-clause-room c =
-    let a = c.args in
-    let h = a.heap.now in
-    let e = a.context.now in
-    let p = a.pass.now in
-    let q = c.take_shot.new.pass in
-    let d = take_shot_steps e h.heap.shape in
-    room_kept h (deflate_steps h.heap.shape e Settled) q c.deflate_idle.new.pass tt c.deflate_idle.ensures.local c.deflate_idle.ensures.run
-    (room_kept h d (bare p) (bare q) tt c.take_shot.ensures.local (of_shot h d p q c.take_shot.ensures.run) c.requires.room)
+    let z = goal.at.tell_dump-requires-clause-room c in
+    room_after (deflated z.After-deflate_idle) c.deflate_idle.ensures.local
+    (room_after (shot z.After-take_shot) c.take_shot.ensures.local c.requires.room)
 
 pub returns : goal.returns
 returns c =
-    let a = c.args in
-    let h = a.heap.now in
-    let e = a.context.now in
-    let p = a.pass.now in
-    let l = local_of p.known in
-    let q = c.take_shot.new.pass in
-    let r = c.deflate_idle.new.pass in
-    let z = c.tell_dump.new.pass in
-    let out = c.tell_dump.result in
-    let d = take_shot_steps e h.heap.shape in
-    let told : Unit {0} → StepTree (Progress ℕ) = λ _. told_dump e l a.number in
-    let next : Unit {0} → StepTree (Progress ℕ) = λ _. deflate_steps h.heap.shape e Settled >>= told in
-    let local : local_of r.known ≡ l = c.deflate_idle.ensures.local ∙ c.take_shot.ensures.local in
-    let rest = subst (λ (x : Local). HasMadeSteps h (told_dump e x a.number) r z out) local c.tell_dump.ensures in
-    dumped_of h (reached_dump h.heap.shape e l a.number) p z out
-    (in_turn h (bare p) (bare q) (bare z) d next tt out (of_shot h d p q c.take_shot.ensures.run)
-    (in_turn h (bare q) (bare r) (bare z) (deflate_steps h.heap.shape e Settled) told tt out
-    (bare_run h (deflate_steps h.heap.shape e Settled) q r tt c.deflate_idle.ensures.run)
-    (bare_run h (told_dump e l a.number) r z out rest)))
+    let z = goal.at.returns c in
+    let last = next_made (deflated z.After-deflate_idle) refl (telling z.After-deflate_idle) (bare_run c.tell_dump.ensures) in
+    dumped_of (next_made (shot z.After-take_shot) refl refl last)

@@ -1,55 +1,36 @@
-use Rattle.std.proofs.Common.{◌≡◌, Bool, sym, ap, subst}
-use Rattle.core_world.specs.declared.answer.Progress.{Progress}
-use Rattle.core_world.specs.declared.answer.Progress.TheVariants.{Done}
+use Rattle.std.proofs.Common.{refl, sym, ap}
 use Rattle.core_world.specs.Threads.ThreadView.{Local}
 use Rattle.core_world.specs.Trees.DeflateSteps.{deflate_steps}
 use Rattle.core_world.specs.Trees.Plans.{done_with}
 use Rattle.core_world.specs.Trees.SafepointSteps.{release_to}
-use Rattle.core_world.specs.Trees.StepTree.{StepTree, ◌>>=◌}
-use Rattle.core_world.proofs.CallRests.{part_due}
-use Rattle.heap_table.specs.Parts.{IsDueOn, HasMadeSteps}
-use Rattle.heap_table.proofs.Parts.{in_turn, ends}
-use Rattle.lock_runtime.proofs.After.{next_part}
+use Rattle.core_world.specs.Trees.StepTree.{◌>>=◌}
 use Rattle.lock_runtime.proofs.Dumped.{first_deflation}
+use Rattle.lock_runtime.proofs.PartMade.{PartMade, first_due, next_due, next_made, then_ends}
 use Rattle.lock_runtime.proofs.revoking.end_revocation.Goals as goal
+use Rattle.lock_runtime.proofs.revoking.end_revocation.Goals.{After-deflate_idle}
 
 pub deflate_idle-requires-clause-due : goal.deflate_idle-requires-clause-due
 deflate_idle-requires-clause-due c =
     let a = c.args in
-    let h = a.heap.now in
-    let e = a.context.now in
-    let t = a.pass.now.known.thread in
-    let next : Unit {0} → StepTree (Progress Bool) = λ _. release_to a.stage e t >>= (λ _. done_with a.took) in
-    part_due h.heap.shape h.heap.start h.heap.biasing a.pass.now.known e.task (deflate_steps h.heap.shape e a.stage) next c.requires.due
+    first_due (λ _. release_to a.stage a.context.now a.pass.now.known.thread >>= (λ _. done_with a.took)) c.requires.due
+
+-- idle monitors are given back
+deflated : (c : After-deflate_idle) → let a = c.args in
+    PartMade a.heap.now a.pass.now c.deflate_idle.new.pass a.context.now.task (deflate_steps a.heap.now.heap.shape a.context.now a.stage)
+    (λ _. release_to a.stage a.context.now a.pass.now.known.thread >>= (λ _. done_with a.took)) tt
+deflated c =
+    let a = c.args in
+    record { due = c.requires.due; first = first_deflation a.heap.now.heap.shape a.context.now a.stage; made = c.deflate_idle.ensures.run }
 
 pub release_to-requires-clause-due : goal.release_to-requires-clause-due
 release_to-requires-clause-due c =
     let a = c.args in
-    let h = a.heap.now in
-    let e = a.context.now in
-    let p = a.pass.now in
-    let t = p.known.thread in
-    let q = c.deflate_idle.new.pass in
-    let d = deflate_steps h.heap.shape e a.stage in
-    let next : Unit {0} → StepTree (Progress Bool) = λ _. release_to a.stage e t >>= (λ _. done_with a.took) in
-    let rest = next_part h p q e.task d next tt c.requires.due (first_deflation h.heap.shape e a.stage) c.deflate_idle.ensures.run in
-    let thread : q.known.thread ≡ t = ap (λ (x : Local). x.thread) c.deflate_idle.ensures.local in
-    subst (λ u. IsDueOn h q e.task (release_to a.stage e u)) (sym thread)
-    (part_due h.heap.shape h.heap.start h.heap.biasing q.known e.task (release_to a.stage e t) (λ _. done_with a.took) rest)
+    first_due (λ _. done_with a.took) (next_due (deflated (goal.at.release_to-requires-clause-due c).After-deflate_idle) refl
+    (ap (λ (l : Local). release_to a.stage a.context.now l.thread >>= (λ _. done_with a.took)) (sym c.deflate_idle.ensures.local)))
 
 pub returns : goal.returns
 returns c =
     let a = c.args in
-    let h = a.heap.now in
-    let e = a.context.now in
-    let p = a.pass.now in
-    let t = p.known.thread in
-    let q = c.deflate_idle.new.pass in
-    let r = c.release_to.new.pass in
-    let d = deflate_steps h.heap.shape e a.stage in
-    let next : Unit {0} → StepTree (Progress Bool) = λ _. release_to a.stage e t >>= (λ _. done_with a.took) in
-    let thread : q.known.thread ≡ t = ap (λ (x : Local). x.thread) c.deflate_idle.ensures.local in
-    let released = subst (λ u. HasMadeSteps h (release_to a.stage e u) q r tt) thread c.release_to.ensures in
-    let out : Progress Bool = Done a.took in
-    in_turn h p q r d next tt out c.deflate_idle.ensures.run
-    (in_turn h q r r (release_to a.stage e t) (λ _. done_with a.took) tt out released (ends h r out released.heap))
+    next_made (deflated (goal.at.returns c).After-deflate_idle) refl
+    (ap (λ (l : Local). release_to a.stage a.context.now l.thread >>= (λ _. done_with a.took)) (sym c.deflate_idle.ensures.local))
+    (then_ends (λ _. done_with a.took) refl c.release_to.ensures)

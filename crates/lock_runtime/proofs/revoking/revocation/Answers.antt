@@ -1,70 +1,43 @@
-use Rattle.std.proofs.Common.{◌≡◌, Bool, sym, ap, subst}
-use Rattle.core_world.specs.declared.answer.Progress.{Progress}
-use Rattle.core_world.specs.declared.answer.Progress.TheVariants.{Done, Pending}
+use Rattle.std.proofs.Common.{◌≡◌, refl, sym, ap}
 use Rattle.core_world.specs.Threads.ThreadView.{Local}
 use Rattle.core_world.specs.Trees.Operations.{and_then}
 use Rattle.core_world.specs.Trees.SafepointSteps.{safepoint_steps}
-use Rattle.core_world.specs.Trees.StepTree.{StepTree}
-use Rattle.core_world.proofs.CallRests.{part_due}
-use Rattle.heap_table.specs.Parts.{IsDueOn, HasMadeSteps}
-use Rattle.heap_table.proofs.Aside.{aside}
-use Rattle.heap_table.proofs.Parts.{in_turn, ends}
 use Rattle.lock_runtime.specs.inner.Parts.{reached_revocation}
 use Rattle.lock_runtime.proofs.Asides.{safepoint_aside}
-use Rattle.lock_runtime.proofs.After.{next_part}
+use Rattle.lock_runtime.proofs.PartMade.{PartMade, first_due, next_due, next_made, last_made, alike_after}
 use Rattle.lock_runtime.proofs.Revoked.{first_safepoint}
 use Rattle.lock_runtime.proofs.revoking.revocation.Goals as goal
+use Rattle.lock_runtime.proofs.revoking.revocation.Goals.{After-safepoint}
 
 pub safepoint-requires-clause-due : goal.safepoint-requires-clause-due
 safepoint-requires-clause-due c =
     let a = c.args in
-    let h = a.heap.now in
-    let e = a.context.now in
     let t = a.pass.now.known.thread in
-    let next : Progress (Unit {0}) → StepTree (Progress Bool) = λ progress. and_then progress (λ _. reached_revocation h.heap.shape t e a.revocation.now) in
-    part_due h.heap.shape h.heap.start h.heap.biasing a.pass.now.known e.task (safepoint_steps e t a.requesting) next c.requires.due
+    first_due (λ progress. and_then progress (λ _. reached_revocation a.heap.now.heap.shape t a.context.now a.revocation.now)) c.requires.due
+
+-- the thread asked for its safepoint
+asked : (c : After-safepoint) → let a = c.args in let h = a.heap.now in let t = a.pass.now.known.thread in
+    PartMade h a.pass.now c.safepoint.new.pass a.context.now.task (safepoint_steps a.context.now t a.requesting)
+    (λ progress. and_then progress (λ _. reached_revocation h.heap.shape t a.context.now a.revocation.now)) c.safepoint.result
+asked c =
+    let a = c.args in
+    record { due = c.requires.due; first = first_safepoint a.context.now a.pass.now.known.thread a.requesting; made = c.safepoint.ensures }
+
+-- after it the thread is the same
+reached : (c : After-safepoint) → let a = c.args in let s = a.heap.now.heap.shape in
+    reached_revocation s a.pass.now.known.thread a.context.now a.revocation.now
+    ≡ reached_revocation s c.safepoint.new.pass.known.thread a.context.now a.revocation.now
+reached c =
+    let a = c.args in
+    let alike = alike_after (asked c) (safepoint_aside a.context.now a.pass.now.known.thread a.requesting) in
+    ap (λ (l : Local). reached_revocation a.heap.now.heap.shape l.thread a.context.now a.revocation.now) (sym alike.local)
 
 pub revoke_reached-requires-clause-due : goal.revoke_reached-requires-clause-due
 revoke_reached-requires-clause-due c =
-    let a = c.args in
-    let h = a.heap.now in
-    let e = a.context.now in
-    let p = a.pass.now in
-    let t = p.known.thread in
-    let q = c.safepoint.new.pass in
-    let d = safepoint_steps e t a.requesting in
-    let next : Progress (Unit {0}) → StepTree (Progress Bool) = λ progress. and_then progress (λ _. reached_revocation h.heap.shape t e a.revocation.now) in
-    let ran = subst (λ (x : Progress (Unit {0})). HasMadeSteps h d p q x) c.in-Done.is c.safepoint.ensures in
-    let thread : q.known.thread ≡ t = ap (λ (x : Local). x.thread) (aside h d p q (Done tt) (safepoint_aside e t a.requesting) ran).local in
-    subst (λ u. IsDueOn h q e.task (reached_revocation h.heap.shape u e a.revocation.now)) (sym thread)
-    (next_part h p q e.task d next (Done tt) c.requires.due (first_safepoint e t a.requesting) ran)
+    let z = (goal.at.revoke_reached-requires-clause-due c).After-safepoint in next_due (asked z) c.in-Done.is (reached z)
 
 pub returns-in-Done : goal.returns-in-Done
-returns-in-Done c =
-    let a = c.args in
-    let h = a.heap.now in
-    let e = a.context.now in
-    let p = a.pass.now in
-    let t = p.known.thread in
-    let q = c.safepoint.new.pass in
-    let r = c.revoke_reached.new.pass in
-    let d = safepoint_steps e t a.requesting in
-    let next : Progress (Unit {0}) → StepTree (Progress Bool) = λ progress. and_then progress (λ _. reached_revocation h.heap.shape t e a.revocation.now) in
-    let ran = subst (λ (x : Progress (Unit {0})). HasMadeSteps h d p q x) c.in-Done.is c.safepoint.ensures in
-    let thread : q.known.thread ≡ t = ap (λ (x : Local). x.thread) (aside h d p q (Done tt) (safepoint_aside e t a.requesting) ran).local in
-    let rest = subst (λ u. HasMadeSteps h (reached_revocation h.heap.shape u e a.revocation.now) q r c.revoke_reached.result) thread c.revoke_reached.ensures in
-    in_turn h p q r d next (Done tt) c.revoke_reached.result ran rest
+returns-in-Done c = let z = (goal.at.returns-in-Done c).After-safepoint in next_made (asked z) c.in-Done.is (reached z) c.revoke_reached.ensures
 
 pub returns-in-Pending : goal.returns-in-Pending
-returns-in-Pending c =
-    let a = c.args in
-    let h = a.heap.now in
-    let e = a.context.now in
-    let p = a.pass.now in
-    let t = p.known.thread in
-    let q = c.safepoint.new.pass in
-    let d = safepoint_steps e t a.requesting in
-    let out : Progress Bool = Pending c.in-Pending.cause in
-    let next : Progress (Unit {0}) → StepTree (Progress Bool) = λ progress. and_then progress (λ _. reached_revocation h.heap.shape t e a.revocation.now) in
-    let ran = subst (λ (x : Progress (Unit {0})). HasMadeSteps h d p q x) c.in-Pending.is c.safepoint.ensures in
-    in_turn h p q q d next (Pending c.in-Pending.cause) out ran (ends h q out ran.heap)
+returns-in-Pending c = last_made (asked (goal.at.returns-in-Pending c).After-safepoint) c.in-Pending.is refl

@@ -15,29 +15,22 @@ use Rattle.lock_runtime.proofs.running.stop.Goals as goal
 pub stop-requires-clause-due : goal.stop-requires-clause-due
 unfolding steps_of
 stop-requires-clause-due c =
-    let e = side_context Stop (start_now c.args.heap.now c.args.pass.now) in
-    due_as c.args.heap.now c.args.pass.now c.requires.rests _ e
-    (λ (x : CallContext). stop_steps x (local_of c.args.pass.now.known)) c.aside-context.ensures c.requires.may refl
+    let h = c.args.heap.now in
+    let p = c.args.pass.now in
+    due_as h p c.requires.rests _ (side_context Stop (start_now h p)) (λ (x : CallContext). stop_steps x (local_of p.known)) c.aside-context.ensures
+    c.requires.may refl
 
-pub returns-clause-rests : goal.returns-clause-rests
+pub returns : goal.returns
 unfolding steps_of
-returns-clause-rests c =
-    let e = side_context Stop (start_now c.args.heap.now c.args.pass.now) in
-    rests_as c.args.heap.now c.args.pass.now c.requires.rests _ e
-    (λ (x : CallContext). stop_steps x (local_of c.args.pass.now.known)) c.aside-context.ensures c.requires.may refl refl _ _ c.stop.ensures
-
-pub returns-clause-run : goal.returns-clause-run
-returns-clause-run c = subst (λ (x : CallContext). HasMadeSteps c.args.heap.now
-    (stop_steps x (local_of c.args.pass.now.known)) c.args.pass.now c.stop.new.pass c.stop.result) c.aside-context.ensures c.stop.ensures
-
-pub returns-clause-says : goal.returns-clause-says
-returns-clause-says c =
-    let run = subst (λ (x : CallContext). HasMadeSteps c.args.heap.now
-    (stop_steps x (local_of c.args.pass.now.known)) c.args.pass.now c.stop.new.pass c.stop.result) c.aside-context.ensures c.stop.ensures in
-    tells (stop_call_says (start_now c.args.heap.now c.args.pass.now)) run.ran
-
-pub returns-clause-stands : goal.returns-clause-stands
-returns-clause-stands c =
-    let a = c.args in
-    let run = returns-clause-run c in
-    stop_leaves a.heap.now a.pass.now c.stop.new.pass run.heap c.requires.rests c.requires.may run.ran
+returns c =
+    let h = c.args.heap.now in
+    let p = c.args.pass.now in
+    let q = c.stop.new.pass in
+    let run = subst (λ (x : CallContext). HasMadeSteps h (stop_steps x (local_of p.known)) p q c.stop.result) c.aside-context.ensures c.stop.ensures in
+    record {
+      rests = rests_as h p c.requires.rests _ (side_context Stop (start_now h p)) (λ (x : CallContext). stop_steps x (local_of p.known))
+          c.aside-context.ensures c.requires.may refl refl _ _ c.stop.ensures;
+      run = run;
+      says = tells (stop_call_says (start_now h p)) run.ran;
+      stands = stop_leaves h p q run.heap c.requires.rests c.requires.may run.ran;
+    }

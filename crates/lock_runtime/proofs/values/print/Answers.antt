@@ -20,37 +20,24 @@ pub publish-requires-clause-due : goal.publish-requires-clause-due
 unfolding steps_of
 publish-requires-clause-due c =
     let a = c.args in
-    let h = a.heap.now in
-    let p = a.pass.now in
-    let e = lone_context (Print a.value) in
-    due_as h p c.requires.call.rests _ e
-    (λ (x : CallContext). publish_steps (entry.Print a.value) x (local_of p.known)) c.alone-context.ensures c.requires.call.may refl
+    due_as a.heap.now a.pass.now c.requires.call.rests _ (lone_context (Print a.value))
+    (λ (x : CallContext). publish_steps (entry.Print a.value) x (local_of a.pass.now.known)) c.alone-context.ensures c.requires.call.may refl
 
-pub returns-clause-rests : goal.returns-clause-rests
+pub returns : goal.returns
 unfolding steps_of
-returns-clause-rests c =
+returns c =
     let a = c.args in
     let h = a.heap.now in
     let p = a.pass.now in
-    let e = lone_context (Print a.value) in
-    rests_as h p c.requires.call.rests _ e (λ (x : CallContext). publish_steps (entry.Print a.value) x (local_of p.known))
-    c.alone-context.ensures c.requires.call.may refl refl _ _ c.publish.ensures
-
-pub returns-clause-says : goal.returns-clause-says
-returns-clause-says c =
-    let a = c.args in
-    let h = a.heap.now in
-    let p = a.pass.now in
-    let run = subst (λ (x : CallContext). HasMadeSteps h
-    (publish_steps (entry.Print a.value) x (local_of p.known)) p c.publish.new.pass c.publish.result) c.alone-context.ensures c.publish.ensures in
-    tells (print_says (start_now h p) a.value) run.ran
-
-pub returns-clause-stands : goal.returns-clause-stands
-returns-clause-stands c =
-    let a = c.args in
-    let h = a.heap.now in
-    let p = a.pass.now in
-    let run = subst (λ (x : CallContext). HasMadeSteps h
-    (publish_steps (entry.Print a.value) x (local_of p.known)) p c.publish.new.pass c.publish.result) c.alone-context.ensures c.publish.ensures in
+    let q = c.publish.new.pass in
+    let rests = c.requires.call.rests in
+    let run = subst (λ (x : CallContext). HasMadeSteps h (publish_steps (entry.Print a.value) x (local_of p.known)) p q c.publish.result)
+    c.alone-context.ensures c.publish.ensures in
     let may = second_of (has_value h.heap.shape p.known a.value) (may_act p.known) c.requires.call.may in
-    print_leaves h p c.publish.new.pass run.heap c.requires.call.rests may a.value run.ran
+    record {
+      rests = rests_as h p rests _ (lone_context (Print a.value)) (λ (x : CallContext). publish_steps (entry.Print a.value) x (local_of p.known))
+          c.alone-context.ensures c.requires.call.may refl refl _ _ c.publish.ensures;
+      run = run;
+      says = tells (print_says (start_now h p) a.value) run.ran;
+      stands = print_leaves h p q run.heap rests may a.value run.ran;
+    }

@@ -1,123 +1,79 @@
-use Rattle.std.proofs.Common.{◌≡◌, ◌==◌, true, false, Ok, refl, sym, ap, ◌∙◌, subst, eq-eqb, ne_eqb}
+use Rattle.std.proofs.Common.{◌==◌, Ok, Err, refl, sym, ◌∙◌}
+use Rattle.core_world.specs.declared.answer.IllegalMonitorState.{IllegalMonitorState}
 use Rattle.core_world.specs.declared.heap_call.Operation.TheVariants as op
 use Rattle.core_world.specs.declared.heap_call.HeapCall.TheVariants.{NotifyAll}
 use Rattle.core_world.specs.Locks.{hold_count}
 use Rattle.core_world.specs.Trees.Calls.{steps_of}
 use Rattle.core_world.specs.Trees.Operations.{notify_all_going, notify_all_steps}
-use Rattle.core_world.specs.Trees.Plans.{CallContext, call_context}
+use Rattle.core_world.specs.Trees.Plans.{call_context}
+use Rattle.core_world.specs.Trees.StepTree.{done}
 use Rattle.core_calls.proofs.Runs.{tells}
 use Rattle.core_calls.proofs.wait.WaitCallsSay.{notify_all_says}
 use Rattle.core_calls.specs.Woken.{WakesEach}
-use Rattle.heap_table.specs.Parts.{IsDueOn, HasMadeSteps}
 use Rattle.heap_table.specs.Resting.{start_now}
-use Rattle.heap_table.proofs.Resting.{whole_due, rests_after}
-use Rattle.lock_runtime.proofs.After.{going_due, going_run, going_first}
-use Rattle.lock_runtime.proofs.Waits.{first_to_notify_all, refused_run}
-use Rattle.lock_runtime.proofs.StandsCalls.{notify_all_leaves}
+use Rattle.lock_runtime.proofs.Goes.{Goes, goes_due, goes_made, goes_rests}
 use Rattle.lock_runtime.proofs.LockedPaths.{notify_all_paths}
 use Rattle.lock_runtime.proofs.Looked.{run_thread}
 use Rattle.lock_runtime.proofs.OwnLocks.{notify_all_goes, owner_tells}
-use Rattle.lock_runtime.proofs.Refused.{unheld, held}
+use Rattle.lock_runtime.proofs.Refused.{differs, equals, unheld, held}
+use Rattle.lock_runtime.proofs.StandsCalls.{notify_all_leaves}
+use Rattle.lock_runtime.proofs.Waits.{first_to_notify_all, refused_run}
 use Rattle.lock_runtime.proofs.waiting.notify_all.Goals as goal
+use Rattle.lock_runtime.proofs.waiting.notify_all.Goals.{After-unfinished-context}
+
+pub returns-then-held-eq0-clause-owner : goal.returns-then-held-eq0-clause-owner
+returns-then-held-eq0-clause-owner c =
+    let a = c.args in unheld a.heap.now a.pass.now c.requires.call.rests a.object (sym c.held.ensures.held ∙ c.if-held-eq0.true)
 
 pub returns-then-held-eq0-clause-wakes : goal.returns-then-held-eq0-clause-wakes
 returns-then-held-eq0-clause-wakes c =
     let a = c.args in
     let h = a.heap.now in
     let p = a.pass.now in
-    let s = h.heap.shape in
     let k = start_now h p in
-    let e = call_context (NotifyAll a.object a.now) op.NotifyAll a.object in
-    let none = hold_count a.object p.known.holds == 0 in
-    let without : none ≡ true = eq-eqb _ _ (sym c.held.ensures.held ∙ c.if-held-eq0.true) in
-    tells (notify_all_paths s k a.object a.now)
-    (refused_run h p none (record {}) (notify_all_going s e k a.object a.now) without c.requires.call.rests.is_of).ran
+    let going = notify_all_going h.heap.shape (call_context (NotifyAll a.object a.now) op.NotifyAll a.object) k a.object a.now in
+    tells (notify_all_paths h.heap.shape k a.object a.now)
+    (refused_run h p (hold_count a.object p.known.holds == 0) (record {}) going (equals c.held.ensures.held c.if-held-eq0.true)
+    c.requires.call.rests.is_of).ran
+
+-- the thread has a hold on the object, so the call goes on
+goes : (c : After-unfinished-context) → let a = c.args in let h = a.heap.now in let p = a.pass.now in
+    Goes {E = IllegalMonitorState} h p (hold_count a.object p.known.holds == 0) (done (Err (record {})))
+    (λ e. notify_all_going h.heap.shape e (start_now h p) a.object a.now) (call_context (NotifyAll a.object a.now) op.NotifyAll a.object) c.unfinished-context.result
+unfolding steps_of
+goes c = record {
+  call = c.requires.call;
+  steps = refl;
+  goes = differs c.held.ensures.held c.if-held-eq0.false;
+  context = c.unfinished-context.ensures;
+}
 
 pub notify_all_held-requires-clause-due : goal.notify_all_held-requires-clause-due
-unfolding steps_of
-notify_all_held-requires-clause-due c =
-    let a = c.args in
-    let h = a.heap.now in
-    let p = a.pass.now in
-    let s = h.heap.shape in
-    let k = start_now h p in
-    let t = NotifyAll a.object a.now in
-    let none = hold_count a.object p.known.holds == 0 in
-    let no : none ≡ false = ap (λ n. n == 0) (sym c.held.ensures.held) ∙ ne_eqb _ _ c.if-held-eq0.false in
-    let due = whole_due h p t c.requires.call (notify_all_steps s k a.object a.now) refl in
-    subst (λ (x : CallContext). IsDueOn h p x.task (notify_all_going s x k a.object a.now)) (sym c.unfinished-context.ensures)
-    (going_due h p none (record {}) (notify_all_going s (call_context t op.NotifyAll a.object) k a.object a.now) no t due)
+notify_all_held-requires-clause-due c = goes_due (goes (goal.at.notify_all_held-requires-clause-due c).After-unfinished-context)
 
-pub returns-clause-run : goal.returns-clause-run
-returns-clause-run c =
+pub returns : goal.returns
+returns c =
     let a = c.args in
     let h = a.heap.now in
     let p = a.pass.now in
     let q = c.notify_all_held.new.pass in
+    let out = c.notify_all_held.result in
     let s = h.heap.shape in
     let k = start_now h p in
+    let rests = c.requires.call.rests in
     let e = call_context (NotifyAll a.object a.now) op.NotifyAll a.object in
-    let none = hold_count a.object p.known.holds == 0 in
-    let no : none ≡ false = ap (λ n. n == 0) (sym c.held.ensures.held) ∙ ne_eqb _ _ c.if-held-eq0.false in
-    let run = subst (λ (x : CallContext). HasMadeSteps h (notify_all_going s x k a.object a.now) p q c.notify_all_held.result)
-    c.unfinished-context.ensures c.notify_all_held.ensures in
-    going_run h p none (record {}) (notify_all_going s e k a.object a.now) no q c.notify_all_held.result run
-
-pub returns-clause-rests : goal.returns-clause-rests
-unfolding steps_of
-returns-clause-rests c =
-    let a = c.args in
-    let h = a.heap.now in
-    let p = a.pass.now in
-    let s = h.heap.shape in
-    let k = start_now h p in
-    let t = NotifyAll a.object a.now in
-    let e = call_context t op.NotifyAll a.object in
-    let none = hold_count a.object p.known.holds == 0 in
-    rests_after h p t c.requires.call (notify_all_steps s k a.object a.now) refl
-    (going_first t none (record {}) (notify_all_going s e k a.object a.now)
-    (first_to_notify_all s e k a.object a.now)) c.notify_all_held.new.pass (Ok c.notify_all_held.result)
-    (returns-clause-run c)
-
-pub returns-clause-says : goal.returns-clause-says
-returns-clause-says c =
-    let a = c.args in
-    tells (notify_all_says a.heap.now.heap.shape (start_now a.heap.now a.pass.now) a.object a.now) (HasMadeSteps.ran (returns-clause-run c))
-
-pub returns-clause-stands : goal.returns-clause-stands
-returns-clause-stands c =
-    let a = c.args in
-    let run = returns-clause-run c in
-    (notify_all_leaves a.heap.now a.pass.now c.notify_all_held.new.pass run.heap c.requires.call.rests a.object a.now
-    (Ok c.notify_all_held.result) c.requires.call.may run.ran).0
-
-pub returns-clause-others : goal.returns-clause-others
-returns-clause-others c =
-    let a = c.args in
-    let run = returns-clause-run c in
-    (notify_all_leaves a.heap.now a.pass.now c.notify_all_held.new.pass run.heap c.requires.call.rests a.object a.now
-    (Ok c.notify_all_held.result) c.requires.call.may run.ran).1
-
-pub returns-then-held-eq0-clause-owner : goal.returns-then-held-eq0-clause-owner
-returns-then-held-eq0-clause-owner c =
-    let a = c.args in
-    unheld a.heap.now a.pass.now c.requires.call.rests a.object (sym c.held.ensures.held ∙ c.if-held-eq0.true)
-
-pub returns-clause-owner : goal.returns-clause-owner
-returns-clause-owner c =
-    let a = c.args in
-    held a.heap.now a.pass.now c.requires.call.rests a.object (ap (λ n. n == 0) (sym c.held.ensures.held) ∙ ne_eqb _ _ c.if-held-eq0.false)
-
-pub returns-clause-wakes : goal.returns-clause-wakes
-returns-clause-wakes c =
-    let a = c.args in
-    let h = a.heap.now in
-    let p = a.pass.now in
-    let s = h.heap.shape in
-    let k = start_now h p in
-    let run = returns-clause-run c in
-    owner_tells h p c.notify_all_held.new.pass c.requires.call.rests.is_of run.heap
-    (run_thread h (notify_all_steps s k a.object a.now) p c.notify_all_held.new.pass (Ok c.notify_all_held.result) run) a.object (returns-clause-owner c)
-    (call_context (NotifyAll a.object a.now) op.NotifyAll a.object) (notify_all_goes a.object) 0 (WakesEach s a.object)
-    c.notify_all_held.result (returns-clause-stands c)
-    (tells (notify_all_paths s k a.object a.now) run.ran)
+    let g = goes (goal.at.returns c).After-unfinished-context in
+    let run = goes_made g c.notify_all_held.ensures in
+    let leaves = notify_all_leaves h p q run.heap rests a.object a.now (Ok out) c.requires.call.may run.ran in
+    let owner = held h p rests a.object g.goes in
+    let thread = run_thread h (notify_all_steps s k a.object a.now) p q (Ok out) run in
+    record {
+      rests = goes_rests g tt (first_to_notify_all s e k a.object a.now) c.notify_all_held.ensures;
+      run = run;
+      says = tells (notify_all_says s k a.object a.now) run.ran;
+      stands = leaves.0;
+      others = leaves.1;
+      owner = owner;
+      wakes = owner_tells h p q rests.is_of run.heap thread a.object owner e (notify_all_goes a.object) 0 (WakesEach s a.object) out leaves.0
+          (tells (notify_all_paths s k a.object a.now) run.ran);
+    }

@@ -1,68 +1,56 @@
-use Rattle.std.proofs.Common.{ℕ, Option, sym, subst}
-use Rattle.core_world.specs.declared.answer.Progress.{Progress}
-use Rattle.core_world.specs.declared.answer.Progress.TheVariants.{Done}
-use Rattle.core_world.specs.Threads.ThreadView.{local_of}
-use Rattle.core_world.specs.Trees.Operations.{unbias_steps, no_bias}
-use Rattle.core_world.specs.Trees.StepTree.{StepTree}
-use Rattle.heap_table.specs.Parts.{IsDueOn, HasMadeSteps}
+use Rattle.std.proofs.Common.{◌≡◌, refl, sym, ap}
+use Rattle.core_world.specs.Threads.ThreadView.{Local, local_of}
+use Rattle.core_world.specs.Trees.Operations.{and_then, no_bias, unbias_steps}
 use Rattle.heap_table.specs.Resting.{start_now}
-use Rattle.heap_table.proofs.Aside.{room_aside}
 use Rattle.lock_runtime.specs.inner.WaitParts.{marked_notify}
-use Rattle.lock_runtime.proofs.Unbiased.{unbias_due, after_due, after_run, pending_run, alike_after}
+use Rattle.lock_runtime.proofs.Asides.{unbias_aside}
+use Rattle.lock_runtime.proofs.PartMade.{PartMade, first_due, next_due, next_made, last_made, alike_after, room_after}
+use Rattle.lock_runtime.proofs.Unbiased.{first_unbias}
 use Rattle.lock_runtime.proofs.waiting.notify_held.Goals as goal
+use Rattle.lock_runtime.proofs.waiting.notify_held.Goals.{After-unbias}
 
 pub unbias-requires-clause-due : goal.unbias-requires-clause-due
 unbias-requires-clause-due c =
     let a = c.args in
+    first_due (λ progress. and_then progress (λ _. marked_notify a.heap.now.heap.shape a.context.now (local_of a.pass.now.known) a.object)) c.requires.due
+
+-- the end of the bias
+unbiased : (c : After-unbias) → let a = c.args in let h = a.heap.now in
+    PartMade h a.pass.now c.unbias.new.pass a.context.now.task
+    (unbias_steps h.heap.shape a.context.now (start_now h a.pass.now) (no_bias a.object a.now))
+    (λ progress. and_then progress (λ _. marked_notify h.heap.shape a.context.now (local_of a.pass.now.known) a.object)) c.unbias.result
+unbiased c =
+    let a = c.args in
     let h = a.heap.now in
-    let p = a.pass.now in
-    unbias_due h p a.context.now (no_bias a.object a.now) (marked_notify h.heap.shape a.context.now (local_of p.known) a.object) c.requires.due
+    record {
+      due = c.requires.due;
+      first = first_unbias h.heap.shape a.context.now (start_now h a.pass.now) (no_bias a.object a.now);
+      made = c.unbias.ensures;
+    }
+
+-- after it the thread's log and own words are as before
+same : (c : After-unbias) → local_of c.unbias.new.pass.known ≡ local_of c.args.pass.now.known
+same c =
+    let a = c.args in
+    let h = a.heap.now in
+    (alike_after (unbiased c) (unbias_aside h.heap.shape a.context.now (start_now h a.pass.now) (no_bias a.object a.now))).local
 
 pub notify_marked-requires-clause-due : goal.notify_marked-requires-clause-due
 notify_marked-requires-clause-due c =
     let a = c.args in
-    let h = a.heap.now in
-    let e = a.context.now in
-    let p = a.pass.now in
-    let q = c.unbias.new.pass in
-    let b = no_bias a.object a.now in
-    let g = marked_notify h.heap.shape e (local_of p.known) a.object in
-    let ran = subst (λ (x : Progress (Unit {0})). HasMadeSteps h (unbias_steps h.heap.shape e (start_now h p) b) p q x) c.in-Done.is c.unbias.ensures in
-    let alike = alike_after h p q e b (Done tt) ran in
-    subst (IsDueOn h q e.task) (λ i. marked_notify h.heap.shape e (sym alike.local i) a.object) (after_due h p e b g q c.requires.due ran)
+    let z = (goal.at.notify_marked-requires-clause-due c).After-unbias in
+    next_due (unbiased z) c.in-Done.is (ap (λ (l : Local). marked_notify a.heap.now.heap.shape a.context.now l a.object) (sym (same z)))
 
 pub notify_marked-requires-clause-room : goal.notify_marked-requires-clause-room
 notify_marked-requires-clause-room c =
-    let a = c.args in
-    let b = no_bias a.object a.now in
-    room_aside a.pass.now c.unbias.new.pass
-    (alike_after a.heap.now a.pass.now c.unbias.new.pass a.context.now b c.unbias.result c.unbias.ensures) c.unbias.ensures.limit c.requires.room
+    let z = (goal.at.notify_marked-requires-clause-room c).After-unbias in room_after (unbiased z) (same z) c.requires.room
 
 pub returns-in-Done : goal.returns-in-Done
 returns-in-Done c =
     let a = c.args in
-    let h = a.heap.now in
-    let e = a.context.now in
-    let p = a.pass.now in
-    let q = c.unbias.new.pass in
-    let r = c.notify_marked.new.pass in
-    let out = c.notify_marked.result in
-    let b = no_bias a.object a.now in
-    let g = marked_notify h.heap.shape e (local_of p.known) a.object in
-    let ran = subst (λ (x : Progress (Unit {0})). HasMadeSteps h (unbias_steps h.heap.shape e (start_now h p) b) p q x) c.in-Done.is c.unbias.ensures in
-    let alike = alike_after h p q e b (Done tt) ran in
-    let rest = subst (λ (x : StepTree (Progress (Option ℕ))). HasMadeSteps h x q r out)
-    (λ i. marked_notify h.heap.shape e (alike.local i) a.object) c.notify_marked.ensures in
-    after_run h p e b g q r out ran rest
+    let z = (goal.at.returns-in-Done c).After-unbias in
+    next_made (unbiased z) c.in-Done.is (ap (λ (l : Local). marked_notify a.heap.now.heap.shape a.context.now l a.object) (sym (same z)))
+    c.notify_marked.ensures
 
 pub returns-in-Pending : goal.returns-in-Pending
-returns-in-Pending c =
-    let a = c.args in
-    let h = a.heap.now in
-    let e = a.context.now in
-    let p = a.pass.now in
-    let q = c.unbias.new.pass in
-    let b = no_bias a.object a.now in
-    let g = marked_notify h.heap.shape e (local_of p.known) a.object in
-    let ran = subst (λ (x : Progress (Unit {0})). HasMadeSteps h (unbias_steps h.heap.shape e (start_now h p) b) p q x) c.in-Pending.is c.unbias.ensures in
-    pending_run h p e b g q c.in-Pending.cause ran
+returns-in-Pending c = last_made (unbiased (goal.at.returns-in-Pending c).After-unbias) c.in-Pending.is refl

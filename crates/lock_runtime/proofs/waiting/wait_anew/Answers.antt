@@ -1,70 +1,57 @@
-use Rattle.std.proofs.Common.{sym, subst}
-use Rattle.core_world.specs.declared.answer.Progress.{Progress}
-use Rattle.core_world.specs.declared.answer.Progress.TheVariants.{Done}
+use Rattle.std.proofs.Common.{◌≡◌, refl, sym}
 use Rattle.core_world.specs.Threads.ThreadView.{local_of}
-use Rattle.core_world.specs.Trees.Operations.{unbias_steps, no_bias}
-use Rattle.core_world.specs.Trees.StepTree.{StepTree}
-use Rattle.heap_table.specs.Parts.{IsDueOn, HasMadeSteps}
+use Rattle.core_world.specs.Trees.Operations.{and_then, no_bias, unbias_steps}
 use Rattle.heap_table.specs.Resting.{start_now}
+use Rattle.heap_table.proofs.Aside.{StartsAlike}
 use Rattle.lock_runtime.specs.inner.WaitParts.{inflated_wait}
-use Rattle.lock_runtime.proofs.Unbiased.{unbias_due, after_due, after_run, pending_run, alike_after, room_for_two}
+use Rattle.lock_runtime.proofs.Asides.{unbias_aside}
+use Rattle.lock_runtime.proofs.PartMade.{PartMade, first_due, next_due, next_made, last_made, alike_after}
+use Rattle.lock_runtime.proofs.Unbiased.{first_unbias, room_for_two}
 use Rattle.lock_runtime.proofs.waiting.wait_anew.Goals as goal
+use Rattle.lock_runtime.proofs.waiting.wait_anew.Goals.{After-unbias}
 
 pub unbias-requires-clause-due : goal.unbias-requires-clause-due
 unbias-requires-clause-due c =
     let a = c.args in
+    let k = a.pass.now.known in
+    first_due (λ progress. and_then progress (λ _. inflated_wait a.heap.now.heap.shape a.context.now k.kept (local_of k) a.object)) c.requires.due
+
+-- the end of the bias
+unbiased : (c : After-unbias) → let a = c.args in let h = a.heap.now in let k = a.pass.now.known in
+    PartMade h a.pass.now c.unbias.new.pass a.context.now.task
+    (unbias_steps h.heap.shape a.context.now (start_now h a.pass.now) (no_bias a.object a.now))
+    (λ progress. and_then progress (λ _. inflated_wait h.heap.shape a.context.now k.kept (local_of k) a.object)) c.unbias.result
+unbiased c =
+    let a = c.args in
     let h = a.heap.now in
-    let e = a.context.now in
-    let p = a.pass.now in
-    let b = no_bias a.object a.now in
-    let g = inflated_wait h.heap.shape e p.known.kept (local_of p.known) a.object in
-    unbias_due h p e b g c.requires.due
+    record {
+      due = c.requires.due;
+      first = first_unbias h.heap.shape a.context.now (start_now h a.pass.now) (no_bias a.object a.now);
+      made = c.unbias.ensures;
+    }
+
+-- after it a wait would begin as before
+alike : (c : After-unbias) → StartsAlike c.args.pass.now.known c.unbias.new.pass.known
+alike c =
+    let a = c.args in
+    let h = a.heap.now in
+    alike_after (unbiased c) (unbias_aside h.heap.shape a.context.now (start_now h a.pass.now) (no_bias a.object a.now))
+
+waiting : (c : After-unbias) → let a = c.args in let s = a.heap.now.heap.shape in let k = a.pass.now.known in let l = c.unbias.new.pass.known in
+    inflated_wait s a.context.now k.kept (local_of k) a.object ≡ inflated_wait s a.context.now l.kept (local_of l) a.object
+waiting c = λ i. inflated_wait c.args.heap.now.heap.shape c.args.context.now (sym (alike c).kept i) (sym (alike c).local i) c.args.object
 
 pub wait_inflated-requires-clause-due : goal.wait_inflated-requires-clause-due
 wait_inflated-requires-clause-due c =
-    let a = c.args in
-    let h = a.heap.now in
-    let e = a.context.now in
-    let p = a.pass.now in
-    let q = c.unbias.new.pass in
-    let b = no_bias a.object a.now in
-    let g = inflated_wait h.heap.shape e p.known.kept (local_of p.known) a.object in
-    let ran = subst (λ (x : Progress (Unit {0})). HasMadeSteps h (unbias_steps h.heap.shape e (start_now h p) b) p q x) c.in-Done.is c.unbias.ensures in
-    let alike = alike_after h p q e b (Done tt) ran in
-    subst (IsDueOn h q e.task) (λ i. inflated_wait h.heap.shape e (sym alike.kept i) (sym alike.local i) a.object) (after_due h p e b g q c.requires.due ran)
+    let z = (goal.at.wait_inflated-requires-clause-due c).After-unbias in next_due (unbiased z) c.in-Done.is (waiting z)
 
 pub wait_inflated-requires-clause-room : goal.wait_inflated-requires-clause-room
 wait_inflated-requires-clause-room c =
-    let a = c.args in
-    let b = no_bias a.object a.now in
-    room_for_two a.pass.now c.unbias.new.pass
-    (alike_after a.heap.now a.pass.now c.unbias.new.pass a.context.now b c.unbias.result c.unbias.ensures) c.unbias.ensures.limit c.requires.room
+    let z = (goal.at.wait_inflated-requires-clause-room c).After-unbias in
+    room_for_two c.args.pass.now c.unbias.new.pass (alike z) c.unbias.ensures.limit c.requires.room
 
 pub returns-in-Done : goal.returns-in-Done
-returns-in-Done c =
-    let a = c.args in
-    let h = a.heap.now in
-    let e = a.context.now in
-    let p = a.pass.now in
-    let q = c.unbias.new.pass in
-    let r = c.wait_inflated.new.pass in
-    let out = c.wait_inflated.result in
-    let b = no_bias a.object a.now in
-    let g = inflated_wait h.heap.shape e p.known.kept (local_of p.known) a.object in
-    let ran = subst (λ (x : Progress (Unit {0})). HasMadeSteps h (unbias_steps h.heap.shape e (start_now h p) b) p q x) c.in-Done.is c.unbias.ensures in
-    let alike = alike_after h p q e b (Done tt) ran in
-    let rest = subst (λ (x : StepTree (Progress (Unit {0}))). HasMadeSteps h x q r out)
-    (λ i. inflated_wait h.heap.shape e (alike.kept i) (alike.local i) a.object) c.wait_inflated.ensures in
-    after_run h p e b g q r out ran rest
+returns-in-Done c = let z = (goal.at.returns-in-Done c).After-unbias in next_made (unbiased z) c.in-Done.is (waiting z) c.wait_inflated.ensures
 
 pub returns-in-Pending : goal.returns-in-Pending
-returns-in-Pending c =
-    let a = c.args in
-    let h = a.heap.now in
-    let e = a.context.now in
-    let p = a.pass.now in
-    let q = c.unbias.new.pass in
-    let b = no_bias a.object a.now in
-    let g = inflated_wait h.heap.shape e p.known.kept (local_of p.known) a.object in
-    let ran = subst (λ (x : Progress (Unit {0})). HasMadeSteps h (unbias_steps h.heap.shape e (start_now h p) b) p q x) c.in-Pending.is c.unbias.ensures in
-    pending_run h p e b g q c.in-Pending.cause ran
+returns-in-Pending c = last_made (unbiased (goal.at.returns-in-Pending c).After-unbias) c.in-Pending.is refl

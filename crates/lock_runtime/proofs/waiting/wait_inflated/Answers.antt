@@ -1,61 +1,34 @@
-use Rattle.std.proofs.Common.{ℕ, refl, sym, subst}
-use Rattle.core_world.specs.declared.answer.Progress.{Progress}
-use Rattle.core_world.specs.declared.answer.Progress.TheVariants.{Done, Pending}
+use Rattle.std.proofs.Common.{refl, sym, ap}
 use Rattle.core_world.specs.Threads.ThreadView.{Local, local_of}
 use Rattle.core_world.specs.Trees.MonitorSteps.{inflate_steps}
 use Rattle.core_world.specs.Trees.Operations.{and_then}
-use Rattle.core_world.specs.Trees.StepTree.{StepTree}
-use Rattle.core_world.proofs.CallRests.{part_due}
-use Rattle.heap_table.specs.Parts.{IsDueOn, HasMadeSteps}
-use Rattle.heap_table.proofs.Parts.{in_turn, ends}
 use Rattle.lock_runtime.specs.inner.WaitParts.{letting_go}
-use Rattle.lock_runtime.proofs.After.{next_part}
+use Rattle.lock_runtime.proofs.PartMade.{PartMade, first_due, next_due, next_made, last_made}
 use Rattle.lock_runtime.proofs.waiting.wait_inflated.Goals as goal
+use Rattle.lock_runtime.proofs.waiting.wait_inflated.Goals.{After-inflate}
 
 pub inflate-requires-clause-due : goal.inflate-requires-clause-due
 inflate-requires-clause-due c =
     let a = c.args in
-    let h = a.heap.now in
-    let e = a.context.now in
-    let k = a.pass.now.known in
-    let next : Progress ℕ → StepTree (Progress (Unit {0})) = λ progress. and_then progress (λ m. letting_go e (local_of k) a.object m) in
-    part_due h.heap.shape h.heap.start h.heap.biasing k e.task (inflate_steps h.heap.shape e k.kept a.object) next c.requires.due
+    first_due (λ progress. and_then progress (λ m. letting_go a.context.now (local_of a.pass.now.known) a.object m)) c.requires.due
+
+-- the object is inflated
+inflated : (c : After-inflate) → let a = c.args in let h = a.heap.now in let k = a.pass.now.known in
+    PartMade h a.pass.now c.inflate.new.pass a.context.now.task (inflate_steps h.heap.shape a.context.now k.kept a.object)
+    (λ progress. and_then progress (λ m. letting_go a.context.now (local_of k) a.object m)) c.inflate.result
+inflated c = record { due = c.requires.due; first = refl; made = c.inflate.ensures.run }
 
 pub let_go-requires-clause-due : goal.let_go-requires-clause-due
 let_go-requires-clause-due c =
     let a = c.args in
-    let h = a.heap.now in
-    let e = a.context.now in
-    let k = a.pass.now.known in
-    let q = c.inflate.new.pass in
-    let m = c.in-Done.monitor in
-    let next : Progress ℕ → StepTree (Progress (Unit {0})) = λ progress. and_then progress (λ m. letting_go e (local_of k) a.object m) in
-    let ran = subst (λ (t : Progress ℕ). HasMadeSteps h (inflate_steps h.heap.shape e k.kept a.object) a.pass.now q t) c.in-Done.is c.inflate.ensures.run in
-    subst (λ (x : Local). IsDueOn h q e.task (letting_go e x a.object m)) (sym c.inflate.ensures.local)
-    (next_part h a.pass.now q e.task (inflate_steps h.heap.shape e k.kept a.object) next (Done m) c.requires.due refl ran)
+    next_due (inflated (goal.at.let_go-requires-clause-due c).After-inflate) c.in-Done.is
+    (ap (λ (l : Local). letting_go a.context.now l a.object c.in-Done.monitor) (sym c.inflate.ensures.local))
 
 pub returns-in-Done : goal.returns-in-Done
 returns-in-Done c =
     let a = c.args in
-    let h = a.heap.now in
-    let e = a.context.now in
-    let k = a.pass.now.known in
-    let q = c.inflate.new.pass in
-    let r = c.let_go.new.pass in
-    let m = c.in-Done.monitor in
-    let next : Progress ℕ → StepTree (Progress (Unit {0})) = λ progress. and_then progress (λ m. letting_go e (local_of k) a.object m) in
-    let ran = subst (λ (t : Progress ℕ). HasMadeSteps h (inflate_steps h.heap.shape e k.kept a.object) a.pass.now q t) c.in-Done.is c.inflate.ensures.run in
-    let rest = subst (λ (x : Local). HasMadeSteps h (letting_go e x a.object m) q r c.let_go.result) c.inflate.ensures.local c.let_go.ensures in
-    in_turn h a.pass.now q r (inflate_steps h.heap.shape e k.kept a.object) next (Done m) c.let_go.result ran rest
+    next_made (inflated (goal.at.returns-in-Done c).After-inflate) c.in-Done.is
+    (ap (λ (l : Local). letting_go a.context.now l a.object c.in-Done.monitor) (sym c.inflate.ensures.local)) c.let_go.ensures
 
 pub returns-in-Pending : goal.returns-in-Pending
-returns-in-Pending c =
-    let a = c.args in
-    let h = a.heap.now in
-    let e = a.context.now in
-    let k = a.pass.now.known in
-    let q = c.inflate.new.pass in
-    let out : Progress (Unit {0}) = Pending c.in-Pending.cause in
-    let next : Progress ℕ → StepTree (Progress (Unit {0})) = λ progress. and_then progress (λ m. letting_go e (local_of k) a.object m) in
-    let ran = subst (λ (t : Progress ℕ). HasMadeSteps h (inflate_steps h.heap.shape e k.kept a.object) a.pass.now q t) c.in-Pending.is c.inflate.ensures.run in
-    in_turn h a.pass.now q q (inflate_steps h.heap.shape e k.kept a.object) next (Pending c.in-Pending.cause) out ran (ends h q out ran.heap)
+returns-in-Pending c = last_made (inflated (goal.at.returns-in-Pending c).After-inflate) c.in-Pending.is refl
