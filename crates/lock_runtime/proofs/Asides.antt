@@ -2,7 +2,7 @@
 use Rattle.std.proofs.Common.{◌≡◌, ℕ, ◌+◌, ◌==◌, Bool, true, false, if◌then◌else◌, Option, Some, None, List, [], ◌∷◌, ◌++◌, refl}
 use Rattle.plain_monitor.specs.Limits.{most_holds}
 use Rattle.mark_word.specs.declared.mark.MarkForm.{MarkForm}
-use Rattle.mark_word.specs.declared.mark.MarkForm.TheVariants.{Inflating, Neutral, Anonymous, Biased, Locked, Inflated, Marked}
+use Rattle.mark_word.specs.declared.mark.MarkForm.TheVariants.{Neutral, Anonymous, Biased, Locked}
 use Rattle.mark_word.specs.Mark.{mark_of, read_mark}
 use Rattle.mark_word.specs.Hold.{read_hold}
 use Rattle.lock_policy.specs.declared.policy.Verdict.{Verdict}
@@ -10,7 +10,7 @@ use Rattle.lock_policy.specs.declared.policy.Verdict.TheVariants.{Single, BulkRe
 use Rattle.lock_policy.specs.Policy.{decided}
 use Rattle.core_world.specs.declared.act.Act.TheVariants.{Store}
 use Rattle.core_world.specs.declared.answer.BiasTry.{BiasTry}
-use Rattle.core_world.specs.declared.answer.BiasTry.TheVariants.{Took, Unbiased, Valid, Raced}
+use Rattle.core_world.specs.declared.answer.BiasTry.TheVariants.{Valid}
 use Rattle.core_world.specs.declared.answer.Progress.{Progress}
 use Rattle.core_world.specs.declared.answer.Progress.TheVariants.{Done, Pending}
 use Rattle.core_world.specs.declared.word_id.WordId.TheVariants.{Mark, Hold, Displaced}
@@ -100,17 +100,12 @@ raised (Some epoch) c = (refl, tt)
 
 module _ (e : CallContext) (b : Revocation) where
   at_form : (f : Option MarkForm) (o : ℕ) (allowed : Bool) → AreAside (revoke_at f e b o allowed)
-  at_form None o allowed = tt
-  at_form (Some Inflating) o allowed = tt
-  at_form (Some (Neutral hash age)) o allowed = tt
   at_form (Some (Anonymous epoch age)) o true = tt
   at_form (Some (Anonymous epoch age)) o false = (record { quiet = refl; words = refl; keeps = refl }, λ n. tt)
   at_form (Some (Biased t epoch age)) o allowed = then_aside (each_from 0 most_holds (λ p. look e b (Hold t p))) _
       (each_aside 0 most_holds (λ p. look e b (Hold t p)) (λ p. (record { quiet = refl; words = refl; keeps = refl }, λ n. tt)))
       (λ hs. stores e b (revoke_biased o t allowed hs) (biased o t allowed hs))
-  at_form (Some (Locked t p)) o allowed = tt
-  at_form (Some (Inflated m)) o allowed = tt
-  at_form (Some Marked) o allowed = tt
+  at_form _ o allowed = tt
 
   one : (o : ℕ) (allowed : Bool) → AreAside (revoke_steps e b o allowed)
   one o allowed = (record { quiet = refl; words = refl; keeps = refl }, λ mark. at_form (read_mark mark) o allowed)
@@ -201,12 +196,7 @@ drop_swap e o mark neutral = (record { quiet = refl; words = refl; keeps = refl 
 drop_at : (f : Option MarkForm) (epoch : ℕ) (e : CallContext) (o mark : ℕ) → AreAside (bias_drop_at f epoch e o mark)
 drop_at (Some (Biased t old age)) epoch e o mark = either_aside (old == epoch) _ _ tt (drop_swap e o mark (mark_of (Neutral 0 0)))
 drop_at (Some (Anonymous old age)) epoch e o mark = drop_swap e o mark (mark_of (Neutral 0 0))
-drop_at None epoch e o mark = tt
-drop_at (Some Inflating) epoch e o mark = tt
-drop_at (Some (Neutral hash age)) epoch e o mark = tt
-drop_at (Some (Locked t p)) epoch e o mark = tt
-drop_at (Some (Inflated m)) epoch e o mark = tt
-drop_at (Some Marked) epoch e o mark = tt
+drop_at _ epoch e o mark = tt
 
 drop_by : (epoch : Option ℕ) (e : CallContext) (o mark prototype : ℕ) → AreAside (bias_drop_by epoch e o mark prototype)
 drop_by None e o mark prototype = drop_swap e o mark prototype
@@ -227,10 +217,8 @@ revoked : (s : Shape) (t : ℕ) (requesting : Bool) (e : CallContext) (b : Revoc
 revoked s t requesting e b = then_aside (revocation_steps s t requesting e b) _ (revocation_aside e b s t requesting) revoked_progress
 
 tried : (try : BiasTry) (s : Shape) (e : CallContext) (k : Start) (b : Revocation) → AreAside (unbias_tried try s e k b)
-tried (Took path) s e k b = tt
-tried (Unbiased mark) s e k b = tt
 tried (Valid mark) s e k b = revoked s k.local.thread false e b
-tried (Raced expected found) s e k b = tt
+tried _ s e k b = tt
 
 pub unbias_aside : (s : Shape) (e : CallContext) (k : Start) (b : Revocation) → AreAside (unbias_steps s e k b)
 unbias_aside s e k b =

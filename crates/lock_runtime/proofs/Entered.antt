@@ -1,10 +1,10 @@
 -- Enters: by which marks none comes to an end, and that they take of their thread's knowledge its own words, its log and the monitor that it keeps.
-use Rattle.std.proofs.Common.{◌≡◌, ℕ, ◌==◌, if◌then◌else◌, Option, Some, None, refl}
+use Rattle.std.proofs.Common.{◌≡◌, ℕ, ◌==◌, if◌then◌else◌, Option, Some, refl}
 use Rattle.mark_word.specs.declared.mark.MarkForm.{MarkForm}
-use Rattle.mark_word.specs.declared.mark.MarkForm.TheVariants.{Inflating, Neutral, Anonymous, Biased, Locked, Inflated, Marked}
+use Rattle.mark_word.specs.declared.mark.MarkForm.TheVariants.{Inflating, Neutral, Locked, Inflated}
 use Rattle.mark_word.specs.Mark.{read_mark}
 use Rattle.core_world.specs.declared.answer.BiasTry.{BiasTry}
-use Rattle.core_world.specs.declared.answer.BiasTry.TheVariants.{Took, Unbiased, Valid, Raced}
+use Rattle.core_world.specs.declared.answer.BiasTry.TheVariants.{Unbiased}
 use Rattle.core_world.specs.declared.answer.Progress.{Progress}
 use Rattle.core_world.specs.Threads.ThreadView.{Start}
 use Rattle.core_world.specs.Trees.LockSteps.{stack_enter_steps}
@@ -18,11 +18,9 @@ pub never_entered : (f : MarkForm) (s : Shape) (e : CallContext) (k : Start) (o 
     → ((t p : ℕ) → f ≡ Locked t p → ⊥) → ((m : ℕ) → f ≡ Inflated m → ⊥) → enter_at (Some f) s e k o mark ≡ unreachable
 never_entered Inflating s e k o mark inflating neutral locked inflated = absurd (inflating refl)
 never_entered (Neutral hash age) s e k o mark inflating neutral locked inflated = absurd (neutral hash age refl)
-never_entered (Anonymous epoch age) s e k o mark inflating neutral locked inflated = refl
-never_entered (Biased t epoch age) s e k o mark inflating neutral locked inflated = refl
 never_entered (Locked t p) s e k o mark inflating neutral locked inflated = absurd (locked t p refl)
 never_entered (Inflated m) s e k o mark inflating neutral locked inflated = absurd (inflated m refl)
-never_entered Marked s e k o mark inflating neutral locked inflated = refl
+never_entered _ s e k o mark inflating neutral locked inflated = refl
 
 module _ (s : Shape) (e : CallContext) (k l : Start) (o : ℕ) (local : k.local ≡ l.local) (kept : k.kept ≡ l.kept) where
   by_record : (mark t : ℕ)
@@ -32,17 +30,11 @@ module _ (s : Shape) (e : CallContext) (k l : Start) (o : ℕ) (local : k.local 
       else (inflate_steps s e (kept i) o >>= (λ (progress : Progress ℕ). and_then progress (λ m. monitor_enter_steps e (local i) o m)))
 
   pub enters_alike : (f : Option MarkForm) (mark : ℕ) → enter_at f s e k o mark ≡ enter_at f s e l o mark
-  enters_alike None mark = refl
-  enters_alike (Some Inflating) mark = refl
   enters_alike (Some (Neutral hash age)) mark = λ i. stack_enter_steps e (local i) o mark
-  enters_alike (Some (Anonymous epoch age)) mark = refl
-  enters_alike (Some (Biased t epoch age)) mark = refl
   enters_alike (Some (Locked t p)) mark = by_record mark t
   enters_alike (Some (Inflated m)) mark = λ i. monitor_enter_steps e (local i) o m
-  enters_alike (Some Marked) mark = refl
+  enters_alike _ mark = refl
 
   pub unbiased_alike : (tried : BiasTry) → enter_unbiased tried s e k o ≡ enter_unbiased tried s e l o
-  unbiased_alike (Took path) = refl
   unbiased_alike (Unbiased mark) = enters_alike (read_mark mark) mark
-  unbiased_alike (Valid mark) = refl
-  unbiased_alike (Raced expected found) = refl
+  unbiased_alike _ = refl

@@ -1,7 +1,7 @@
 -- An attempt on a bias keeps no monitor and spends none.
-use Rattle.std.proofs.Common.{◌≡◌, ℕ, ◌==◌, nat_lt, Bool, true, false, cond, if◌then◌else◌, Option, Some, None, refl, ap, ◌∙◌}
+use Rattle.std.proofs.Common.{◌≡◌, ℕ, ◌==◌, nat_lt, Bool, true, false, cond, if◌then◌else◌, Option, Some, refl, ap, ◌∙◌}
 use Rattle.mark_word.specs.declared.mark.MarkForm.{MarkForm}
-use Rattle.mark_word.specs.declared.mark.MarkForm.TheVariants.{Inflating, Neutral, Anonymous, Biased, Locked, Inflated, Marked}
+use Rattle.mark_word.specs.declared.mark.MarkForm.TheVariants.{Neutral, Anonymous, Biased}
 use Rattle.mark_word.specs.Mark.{read_mark}
 use Rattle.plain_monitor.specs.declared.entry.Path.{Path}
 use Rattle.plain_monitor.specs.declared.entry.Path.TheVariants.{BiasTaken, BiasOwn}
@@ -73,22 +73,12 @@ rebiases e k o mark epoch = (refl, λ found. either (found == mark) _ _ (takes e
 at_form : (f : Option MarkForm) (epoch : ℕ) (e : CallContext) (k : Local) (o mark : ℕ) → AreSame (bias_enter_at f epoch e k o mark)
 at_form (Some (Biased t old age)) epoch e k o mark = either (old == epoch) _ _ (either (t == k.thread) _ _ (takes e k o BiasOwn) tt) (rebiases e k o mark epoch)
 at_form (Some (Anonymous old age)) epoch e k o mark = rebiases e k o mark epoch
-at_form None epoch e k o mark = tt
-at_form (Some Inflating) epoch e k o mark = tt
-at_form (Some (Neutral hash age)) epoch e k o mark = tt
-at_form (Some (Locked t p)) epoch e k o mark = tt
-at_form (Some (Inflated m)) epoch e k o mark = tt
-at_form (Some Marked) epoch e k o mark = tt
+at_form _ epoch e k o mark = tt
 
 by_prototype : (f : Option MarkForm) (e : CallContext) (k : Local) (o mark prototype : ℕ) → AreSame (bias_enter_by f e k o mark prototype)
 by_prototype (Some (Neutral hash age)) e k o mark prototype = unbiases e o mark prototype
 by_prototype (Some (Anonymous epoch age)) e k o mark prototype = at_form (read_mark mark) epoch e k o mark
-by_prototype None e k o mark prototype = tt
-by_prototype (Some Inflating) e k o mark prototype = tt
-by_prototype (Some (Biased t epoch age)) e k o mark prototype = tt
-by_prototype (Some (Locked t p)) e k o mark prototype = tt
-by_prototype (Some (Inflated m)) e k o mark prototype = tt
-by_prototype (Some Marked) e k o mark prototype = tt
+by_prototype _ e k o mark prototype = tt
 
 class : (s : Shape) (e : CallContext) (o : ℕ) → AreSame (class_steps e Settled s o)
 class s e o = either (nat_lt o s.declared) _ _ tt (refl, λ n. tt)
@@ -102,13 +92,7 @@ enter_keeps s e k o = (
 
 own_bias : (f : Option MarkForm) (e : CallContext) (k : Local) (o : ℕ) → AreSame (bias_after_at f e k o)
 own_bias (Some (Biased t epoch age)) e k o = either (t == k.thread) _ _ (takes e k o BiasTaken) tt
-own_bias (Some (Anonymous epoch age)) e k o = tt
-own_bias None e k o = tt
-own_bias (Some Inflating) e k o = tt
-own_bias (Some (Neutral hash age)) e k o = tt
-own_bias (Some (Locked t p)) e k o = tt
-own_bias (Some (Inflated m)) e k o = tt
-own_bias (Some Marked) e k o = tt
+own_bias _ e k o = tt
 
 pub after_keeps : (e : CallContext) (k : Local) (o : ℕ) (took : Bool) → AreSame (bias_after_steps e k o took)
 after_keeps e k o took = (refl, λ mark. either (is_biased mark) _ _ (own_bias (read_mark mark) e k o) tt)

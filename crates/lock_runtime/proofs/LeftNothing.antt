@@ -1,7 +1,7 @@
 -- An exit that finds a monitor has left nothing: its thread's log and own words are as they were.
-use Rattle.std.proofs.Common.{◌≡◌, ℕ, ◌==◌, Bool, true, false, if◌then◌else◌, Option, Some, None, refl, ap}
+use Rattle.std.proofs.Common.{◌≡◌, ℕ, ◌==◌, Bool, true, false, if◌then◌else◌, Option, Some, refl, ap}
 use Rattle.mark_word.specs.declared.mark.MarkForm.{MarkForm}
-use Rattle.mark_word.specs.declared.mark.MarkForm.TheVariants.{Inflating, Neutral, Anonymous, Biased, Locked, Inflated, Marked}
+use Rattle.mark_word.specs.declared.mark.MarkForm.TheVariants.{Inflating, Locked, Inflated}
 use Rattle.mark_word.specs.Mark.{read_mark}
 use Rattle.core_world.specs.declared.answer.StackOut.TheVariants.{Left, Monitor, Not}
 use Rattle.core_world.specs.declared.answer.PendingCause.TheVariants as why
@@ -19,8 +19,9 @@ use Rattle.core_world.specs.Trees.Operations.{exit_going}
 use Rattle.core_world.specs.Words.Forms.{is_biased}
 use Rattle.heap_table.specs.Parts.{HasMadeSteps}
 use Rattle.heap_table.proofs.Resting.{IsCallOf}
-use Rattle.lock_runtime.specs.inner.Parts.{exit_unbiased}
 use Rattle.heap_table.specs.Seen.{HeapSeen, PassSeen}
+use Rattle.lock_runtime.specs.inner.Parts.{exit_unbiased}
+use Rattle.lock_runtime.proofs.After.{first_then, arm_first}
 
 module _ (s : Shape) (start : ℕ) (e : CallContext) (m : ℕ) (l : ThreadView) where
   -- after an exchange it has left, or missed
@@ -30,15 +31,11 @@ module _ (s : Shape) (start : ℕ) (e : CallContext) (m : ℕ) (l : ThreadView) 
   by_swap false k o mark found x run = let is = run.1 in absurd (cc is)
 
   by_mark : (f : Option MarkForm) (k : Local) (o header mark : ℕ) (x : ThreadView) → Runs s start (stack_exit_at f e k o header mark) x l (Monitor m) → l ≡ x
-  by_mark None k o header mark x run = absurd run
   by_mark (Some Inflating) k o header mark x run = let is = run.1 in absurd (cc is)
-  by_mark (Some (Neutral hash age)) k o header mark x run = absurd run
-  by_mark (Some (Anonymous epoch age)) k o header mark x run = absurd run
-  by_mark (Some (Biased t epoch age)) k o header mark x run = absurd run
   by_mark (Some (Locked t p)) k o header mark x run =
       absurd (by_swap (run.0 == mark) k o mark run.0 (known_after s start (let_go_plan e o mark header (top_place o k.holds)) run.0 x) run.1)
   by_mark (Some (Inflated n)) k o header mark x run = run.0
-  by_mark (Some Marked) k o header mark x run = absurd run
+  by_mark _ k o header mark x run = absurd run
 
   by_header : (b : Bool) (k : Local) (o header : ℕ) (x : ThreadView)
       → Runs s start (if b then (leave_steps e k o >>= (λ _. done Left))
@@ -61,32 +58,22 @@ pub left_nothing : (h : HeapSeen) (e : CallContext) (k : Local) (o m : ℕ) (p q
     → HasMadeSteps h (stack_exit_steps e k o) p q (Monitor m) → local_of q.known ≡ local_of p.known
 left_nothing h e k o m p q run = by_holds h.heap.shape h.heap.start e m q.known (hold_count o k.holds == 1) k o p.known run.ran.by
 
--- its first step is one of its call
+-- FIRST STEPS are of their call.
 pub first_out : (e : CallContext) (k : Local) (o : ℕ) → IsCallOf e.task (stack_exit_steps e k o)
-first_out e k o = cases (hold_count o k.holds == 1)
-  where
-    cases : (b : Bool) → IsCallOf e.task
-        ((if b then (ask (raise_stamp_plan e o (next_stamp k)) >>= (λ _. done (tt {0}))) else done (tt {0})) >>= (λ _. stack_exit_record e k o))
-    cases true = refl
-    cases false = refl
+first_out e k o = first_then e.task (if hold_count o k.holds == 1 then (ask (raise_stamp_plan e o (next_stamp k)) >>= (λ _. done (tt {0}))) else done tt)
+    (λ _. stack_exit_record e k o) (arm_first e.task (hold_count o k.holds == 1) _ _ refl tt) (λ _. refl)
+
+abbrev looks : CallContext → Local → ℕ → StepTree Bool
+looks e k o = ask (load e (Mark o)) >>= (λ mark. if is_biased mark then (leave_steps e k o >>= (λ _. done true)) else done false)
 
 pub first_under_bias : (e : CallContext) (k : Local) (o : ℕ) → IsCallOf e.task (bias_exit_steps e k o)
-first_under_bias e k o = cases (hold_count o k.holds == 1)
-  where
-    looks : StepTree Bool
-    looks = ask (load e (Mark o)) >>= (λ mark. if is_biased mark then (leave_steps e k o >>= (λ _. done true)) else done false)
-
-    cases : (b : Bool) → IsCallOf e.task ((if b then (ask (raise_stamp_plan e o (next_stamp k)) >>= (λ _. done (tt {0}))) else done (tt {0})) >>= (λ _. looks))
-    cases true = refl
-    cases false = refl
+first_under_bias e k o = first_then e.task (if hold_count o k.holds == 1 then (ask (raise_stamp_plan e o (next_stamp k)) >>= (λ _. done (tt {0}))) else done tt)
+    (λ _. looks e k o) (arm_first e.task (hold_count o k.holds == 1) _ _ refl tt) (λ _. refl)
 
 pub first_to_exit : (e : CallContext) (k : Local) (o : ℕ) → IsCallOf e.task (exit_going e k o)
 first_to_exit e k o = cases (hold_count o k.holds == 1)
   where
-    looks : StepTree Bool
-    looks = ask (load e (Mark o)) >>= (λ mark. if is_biased mark then (leave_steps e k o >>= (λ _. done true)) else done false)
-
     cases : (b : Bool) → IsCallOf e.task (((if b then (ask (raise_stamp_plan e o (next_stamp k)) >>= (λ _. done (tt {0})))
-        else done (tt {0})) >>= (λ _. looks)) >>= (λ biased. if biased then done_with (tt {0}) else exit_unbiased e k o))
+        else done tt) >>= (λ _. looks e k o)) >>= (λ biased. if biased then done_with (tt {0}) else exit_unbiased e k o))
     cases true = refl
     cases false = refl

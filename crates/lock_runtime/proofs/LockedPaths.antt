@@ -1,7 +1,7 @@
 -- The steps of a notify that wakes nobody since a lock record has the lock: it loads the mark after steps that log nothing, and then logs its entry.
 use Rattle.std.proofs.Common.{◌≡◌, ◌⊎◌, ℕ, ◌+◌, ◌==◌, List, [], ◌∷◌, length, Option, Some, None, Ok, refl, inl, inr}
 use Rattle.mark_word.specs.declared.mark.MarkForm.{MarkForm}
-use Rattle.mark_word.specs.declared.mark.MarkForm.TheVariants.{Inflating, Neutral, Anonymous, Biased, Locked, Inflated, Marked}
+use Rattle.mark_word.specs.declared.mark.MarkForm.TheVariants.{Locked, Inflated}
 use Rattle.mark_word.specs.Mark.{read_mark}
 use Rattle.plain_monitor.specs.declared.entry.Entry.{Entry}
 use Rattle.plain_monitor.specs.declared.entry.Entry.TheVariants as entry
@@ -53,7 +53,6 @@ module _ (s : Shape) (k : Start) (o now : ℕ) where
 
   at_paths : (form : Option MarkForm) (mark : ℕ) (ms : List StepMade) → read_mark mark ≡ form → Silent notifying ms
       → Always Turns (made (load notifying (Mark o)) mark ∷ ms) (notify_at form s notifying k.local o)
-  at_paths (Some Inflating) mark ms is silent = tt
   at_paths (Some (Locked thread place)) mark ms is silent = λ n.
       inl (
         record {
@@ -75,11 +74,7 @@ module _ (s : Shape) (k : Start) (o now : ℕ) where
       (made (load notifying (Mark o)) mark ∷ ms)
       (monitor_wakes s notifying k.local o mark monitor (made (load notifying (Mark o)) mark ∷ ms) is (inl (refl, refl, refl)))
       (λ ms woken h. inr h)
-  at_paths (Some (Neutral hash age)) mark ms is silent = tt
-  at_paths (Some (Anonymous epoch age)) mark ms is silent = tt
-  at_paths (Some (Biased thread epoch age)) mark ms is silent = tt
-  at_paths (Some Marked) mark ms is silent = tt
-  at_paths None mark ms is silent = tt
+  at_paths _ mark ms is silent = tt
 
   abbrev Unbiasing : List StepMade → Progress (Unit {0}) → Type 0
   Unbiasing =
@@ -117,7 +112,6 @@ module _ (s : Shape) (k : Start) (o now : ℕ) where
 
   all_at_paths : (form : Option MarkForm) (mark : ℕ) (ms : List StepMade) → read_mark mark ≡ form → Silent calling ms
       → Always AllTurns (made (load calling (Mark o)) mark ∷ ms) (notify_all_at form s calling k.local o)
-  all_at_paths (Some Inflating) mark ms is silent = tt
   all_at_paths (Some (Locked thread place)) mark ms is silent = λ n.
       inl (
         record {
@@ -139,11 +133,7 @@ module _ (s : Shape) (k : Start) (o now : ℕ) where
       (made (load calling (Mark o)) mark ∷ ms)
       (monitor_wakes_all s calling k.local o mark monitor (made (load calling (Mark o)) mark ∷ ms) is (inl (refl, refl, refl)))
       (λ ms woken h. inr h)
-  all_at_paths (Some (Neutral hash age)) mark ms is silent = tt
-  all_at_paths (Some (Anonymous epoch age)) mark ms is silent = tt
-  all_at_paths (Some (Biased thread epoch age)) mark ms is silent = tt
-  all_at_paths (Some Marked) mark ms is silent = tt
-  all_at_paths None mark ms is silent = tt
+  all_at_paths _ mark ms is silent = tt
 
   abbrev AllUnbiasing : List StepMade → Progress (Unit {0}) → Type 0
   AllUnbiasing =

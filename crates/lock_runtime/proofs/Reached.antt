@@ -1,9 +1,9 @@
 -- A dump whose safepoint is done has reached it: its release, which is to come, finds the word of a reached safepoint.
 use Rattle.std.specs.List.{list_all}
 use Rattle.std.proofs.Common.{◌≡◌, ℕ, zero, suc, ◌+◌, ◌<◌, nat_lt, ◌==◌, ◌||◌, ◌&&◌, Bool, true, false, cond, if◌then◌else◌}
-use Rattle.std.proofs.Common.{Option, Some, None, length, inl, inr, refl, sym, ap, ◌∙◌, subst, eq-eqb, eqb-true, arith}
+use Rattle.std.proofs.Common.{Option, Some, length, inl, inr, refl, sym, ap, ◌∙◌, subst, eq-eqb, eqb-true, arith}
 use Rattle.mark_word.specs.declared.mark.MarkForm.{MarkForm}
-use Rattle.mark_word.specs.declared.mark.MarkForm.TheVariants.{Inflating, Neutral, Anonymous, Biased, Locked, Inflated, Marked}
+use Rattle.mark_word.specs.declared.mark.MarkForm.TheVariants.{Biased, Locked, Inflated}
 use Rattle.mark_word.specs.declared.owner.OwnerForm.{OwnerForm}
 use Rattle.mark_word.specs.declared.owner.OwnerForm.TheVariants.{Free, ByThread, ByRecord}
 use Rattle.mark_word.specs.Mark.{read_mark}
@@ -88,8 +88,7 @@ module _ (e : CallContext) (s : Shape) where
   owner_leaves : (f : Option OwnerForm) → LeaveSafepoint (look_at_owner f e)
   owner_leaves (Some (ByThread thread)) = holds_leave thread
   owner_leaves (Some (ByRecord thread place)) = holds_leave thread
-  owner_leaves (Some Free) = tt
-  owner_leaves None = tt
+  owner_leaves _ = tt
 
   class_leaves : (o : ℕ) → LeaveSafepoint (class_steps e Settled s o)
   class_leaves o = either_leave (nat_lt o s.declared) _ _ tt (refl, λ n. tt)
@@ -99,11 +98,7 @@ module _ (e : CallContext) (s : Shape) where
       (λ class. (refl, λ n. either_leave (has_epoch (epoch_in n) epoch) _ _ (holds_leave thread) tt))
   mark_leaves (Some (Locked thread place)) o = holds_leave thread
   mark_leaves (Some (Inflated monitor)) o = (refl, λ n. owner_leaves (read_owner n))
-  mark_leaves None o = tt
-  mark_leaves (Some Inflating) o = tt
-  mark_leaves (Some (Neutral hash age)) o = tt
-  mark_leaves (Some (Anonymous epoch age)) o = tt
-  mark_leaves (Some Marked) o = tt
+  mark_leaves _ o = tt
 
   pub shot_leaves : LeaveSafepoint (take_shot_steps e s)
   shot_leaves = leave_then (look_at_objects e s) _ (all_leave 0 (length s.objects)

@@ -48,24 +48,12 @@ not_true false h = refl
 exit_asks : (s : Shape) (k : ThreadView) (which : Operation) (on o : ℕ) → (same_op which op.Exit && (on == o)) ≡ true
     → MayAsk s k (Some (record { op = which; object = on })) → ⊥
 exit_asks s k op.Exit on o e asks = asks
-exit_asks s k op.Enter on o e asks = absurd (cc e)
-exit_asks s k op.Wait on o e asks = absurd (cc e)
-exit_asks s k op.Notify on o e asks = absurd (cc e)
-exit_asks s k op.NotifyAll on o e asks = absurd (cc e)
-exit_asks s k op.Hash on o e asks = absurd (cc e)
-exit_asks s k op.Dump on o e asks = absurd (cc e)
-exit_asks s k op.Create on o e asks = absurd (cc e)
+exit_asks s k _ on o e asks = absurd (cc e)
 
 wait_asks : (s : Shape) (k : ThreadView) (which : Operation) (on o : ℕ) → (same_op which op.Wait && (on == o)) ≡ true → waits_on k.wait o ≡ true
     → MayAsk s k (Some (record { op = which; object = on })) → ⊥
 wait_asks s k op.Wait on o e waits asks = true≢false (sym waits ∙ ap (waits_on k.wait) (sym (eqb-true on o e)) ∙ asks.0)
-wait_asks s k op.Enter on o e waits asks = absurd (cc e)
-wait_asks s k op.Exit on o e waits asks = absurd (cc e)
-wait_asks s k op.Notify on o e waits asks = absurd (cc e)
-wait_asks s k op.NotifyAll on o e waits asks = absurd (cc e)
-wait_asks s k op.Hash on o e waits asks = absurd (cc e)
-wait_asks s k op.Dump on o e waits asks = absurd (cc e)
-wait_asks s k op.Create on o e waits asks = absurd (cc e)
+wait_asks s k _ on o e waits asks = absurd (cc e)
 
 module _ (s : Shape) (k : ThreadView) (rest : AtRest s k) where
   -- a thread that runs asks for no safepoint

@@ -1,7 +1,7 @@
 -- A thread that lets go logs one entry. By which marks no notify comes to an end, and what whole waits and notifies begin with.
 use Rattle.std.proofs.Common.{◌≡◌, ℕ, ◌+◌, Bool, true, if◌then◌else◌, List, [], ◌∷◌, Some, Err, length, length-append, refl, ap, ◌∙◌}
 use Rattle.mark_word.specs.declared.mark.MarkForm.{MarkForm}
-use Rattle.mark_word.specs.declared.mark.MarkForm.TheVariants.{Inflating, Neutral, Anonymous, Biased, Locked, Inflated, Marked}
+use Rattle.mark_word.specs.declared.mark.MarkForm.TheVariants.{Inflating, Locked, Inflated}
 use Rattle.plain_monitor.specs.declared.entry.Entry.TheVariants as entry
 use Rattle.plain_monitor.specs.declared.entry.Logged.{Logged}
 use Rattle.core_world.specs.Threads.ThreadView.{Local, Start}
@@ -36,23 +36,17 @@ pub never_notified : (f : MarkForm) (s : Shape) (e : CallContext) (k : Local) (o
     → (f ≡ Inflating → ⊥) → ((t p : ℕ) → f ≡ Locked t p → ⊥) → ((m : ℕ) → f ≡ Inflated m → ⊥)
     → notify_at (Some f) s e k o ≡ unreachable
 never_notified Inflating s e k o inflating locked inflated = absurd (inflating refl)
-never_notified (Neutral hash age) s e k o inflating locked inflated = refl
-never_notified (Anonymous epoch age) s e k o inflating locked inflated = refl
-never_notified (Biased t epoch age) s e k o inflating locked inflated = refl
 never_notified (Locked t p) s e k o inflating locked inflated = absurd (locked t p refl)
 never_notified (Inflated m) s e k o inflating locked inflated = absurd (inflated m refl)
-never_notified Marked s e k o inflating locked inflated = refl
+never_notified _ s e k o inflating locked inflated = refl
 
 pub never_all_notified : (f : MarkForm) (s : Shape) (e : CallContext) (k : Local) (o : ℕ)
     → (f ≡ Inflating → ⊥) → ((t p : ℕ) → f ≡ Locked t p → ⊥) → ((m : ℕ) → f ≡ Inflated m → ⊥)
     → notify_all_at (Some f) s e k o ≡ unreachable
 never_all_notified Inflating s e k o inflating locked inflated = absurd (inflating refl)
-never_all_notified (Neutral hash age) s e k o inflating locked inflated = refl
-never_all_notified (Anonymous epoch age) s e k o inflating locked inflated = refl
-never_all_notified (Biased t epoch age) s e k o inflating locked inflated = refl
 never_all_notified (Locked t p) s e k o inflating locked inflated = absurd (locked t p refl)
 never_all_notified (Inflated m) s e k o inflating locked inflated = absurd (inflated m refl)
-never_all_notified Marked s e k o inflating locked inflated = refl
+never_all_notified _ s e k o inflating locked inflated = refl
 
 -- WHOLE CALLS
 pub first_to_wait : (s : Shape) (e : CallContext) (k : Start) (o now : ℕ) → IsCallOf e.task (wait_going s e k o now)

@@ -1,4 +1,4 @@
-use Rattle.std.proofs.Common.{◌==◌, true, Ok, refl, sym, ◌∙◌}
+use Rattle.std.proofs.Common.{◌==◌, true, refl, sym, ◌∙◌}
 use Rattle.plain_monitor.specs.Limits.{most_holds}
 use Rattle.core_world.specs.declared.heap_call.HeapCall.TheVariants.{Enter}
 use Rattle.core_world.specs.declared.heap_call.Operation.TheVariants as op
@@ -44,7 +44,7 @@ returns c =
     let e = call_context (Enter a.object a.now) op.Enter a.object in
     let g = goes (goal.at.returns c).After-unfinished-context in
     let run = goes_made g c.enter_placed.ensures in
-    let leaves = enter_leaves h p c.enter_placed.new.pass run.heap c.requires.call.rests a.object a.now (Ok c.enter_placed.result) c.requires.call.may run.ran in
+    let leaves = enter_leaves h p c.enter_placed.new.pass run.heap c.requires.call.rests a.object a.now c.requires.call.may run.ran in
     record {
       rests = goes_rests g (first_if_full k a.object a.now) (first_to_enter h.heap.shape e k (record { object = a.object; rebias = true; now = a.now }))
           c.enter_placed.ensures;

@@ -1,4 +1,4 @@
-use Rattle.std.proofs.Common.{◌==◌, Ok, Err, refl}
+use Rattle.std.proofs.Common.{◌==◌, Err, refl}
 use Rattle.core_world.specs.declared.answer.IllegalMonitorState.{IllegalMonitorState}
 use Rattle.core_world.specs.declared.heap_call.HeapCall.TheVariants.{Exit}
 use Rattle.core_world.specs.declared.heap_call.Operation.TheVariants as op
@@ -47,6 +47,5 @@ returns c =
       rests = goes_rests g tt (first_to_exit (call_context (Exit a.object) op.Exit a.object) (local_of p.known) a.object) c.leave_held.ensures;
       run = run;
       says = tells (exit_says (start_now h p) a.object) run.ran;
-      stands = (exit_leaves h p c.leave_held.new.pass run.heap c.requires.may.call.rests a.object (Ok c.leave_held.result)
-          c.requires.may.call.may run.ran).0;
+      stands = (exit_leaves h p c.leave_held.new.pass run.heap c.requires.may.call.rests a.object c.requires.may.call.may run.ran).0;
     }

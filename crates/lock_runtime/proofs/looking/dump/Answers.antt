@@ -71,7 +71,7 @@ returns c =
     let run = goes_made g asked in
     let first = first_dump h.heap.shape p.known.requesting (call_context Dump op.Dump 0) (local_of p.known) (length p.known.shots + 1) in
     let dumped : HasDumped h (dump_steps h.heap.shape (start_now h p)) p q (Ok out) = dumped_of run in
-    let leaves = dump_leaves h p q dumped.heap c.requires.call.rests (Ok out) c.requires.call.may run.ran in
+    let leaves = dump_leaves h p q dumped.heap c.requires.call.rests c.requires.call.may run.ran in
     record {
       rests = of_bare_rests h q (goes_rests g tt first asked);
       run = dumped;

@@ -1,9 +1,9 @@
-use Rattle.std.proofs.Common.{◌≡◌, ◌==◌, refl, sym, ap}
+use Rattle.std.proofs.Common.{◌≡◌, ℕ, ◌==◌, refl, sym, ap}
 use Rattle.plain_monitor.specs.declared.entry.Entry.TheVariants as entry
 use Rattle.core_world.specs.Threads.ThreadView.{Local, local_of}
 use Rattle.core_world.specs.Trees.Plans.{done_with}
 use Rattle.core_world.specs.Trees.SafepointSteps.{release_safepoint, reached_word}
-use Rattle.core_world.specs.Trees.StepTree.{◌>>=◌}
+use Rattle.core_world.specs.Trees.StepTree.{done, unreachable, ◌>>=◌}
 use Rattle.core_world.specs.Trees.WaitSteps.{publish_steps}
 use Rattle.heap_table.proofs.Aside.{either_aside}
 use Rattle.lock_runtime.proofs.PartMade.{PartMade, first_due, next_due, next_made, then_ends, alike_after}
@@ -27,7 +27,8 @@ telling : (c : After-release) → let a = c.args in let e = a.context.now in
     ≡ (publish_steps (entry.Dump a.number) e (local_of c.release.new.pass.known) >>= (λ _. done_with a.number))
 telling c =
     let a = c.args in
-    let alike = alike_after (released c) (record { quiet = refl; words = refl; keeps = refl }, λ n. either_aside (n == reached_word a.pass.now.known.thread) _ _ tt tt) in
+    let ends = λ (n : ℕ). either_aside (n == reached_word a.pass.now.known.thread) (done (tt {0})) unreachable tt tt in
+    let alike = alike_after (released c) (record { quiet = refl; words = refl; keeps = refl }, ends) in
     ap (λ (l : Local). publish_steps (entry.Dump a.number) a.context.now l >>= (λ _. done_with a.number)) (sym alike.local)
 
 pub publish-requires-clause-due : goal.publish-requires-clause-due

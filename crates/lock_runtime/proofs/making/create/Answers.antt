@@ -65,7 +65,7 @@ returns c =
           (arm_first (Create a.class) may_make makes refusal refl tt) q (Ok o) run;
       run = run;
       says = tells (create_says s k a.class) run.ran;
-      stands = create_leaves h p q run.heap rests may a.class (Ok o) run.ran;
+      stands = create_leaves h p q run.heap rests may a.class run.ran;
       made = λ n is. subst (λ x. has_reference s q.known x ≡ true) (cc (is))
           (created_known h p q a.class o rests (second_of (nat_lt a.class s.classes) (has_made_numbers s) both) few c.next_object-object.ensures run);
     }

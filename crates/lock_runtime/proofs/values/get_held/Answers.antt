@@ -66,7 +66,7 @@ returns c =
       rests = rests_after h p t call (get_steps (start_now h p) a.object a.slot) refl (arm_first t none refusal loads tt refl) q (Ok out) run;
       run = run;
       says = tells (get_says (start_now h p) a.object a.slot) run.ran;
-      stands = get_leaves h p q run.heap call.rests a.object a.slot may (Ok out) run.ran;
+      stands = get_leaves h p q run.heap call.rests may a.object a.slot run.ran;
       -- the step found the word in a sound world, while its thread ran
       value = subst (λ (x : Value). is_value s x ≡ true) (sym c.value_of_word.ensures)
           (slot_value h.heap p.known plan a.object a.slot word refl made.stepped call.rests.is_of.within

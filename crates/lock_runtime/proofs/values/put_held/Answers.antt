@@ -85,5 +85,5 @@ returns c =
       rests = rests_after h p t call (put_steps (start_now h p) a.object a.slot a.value) refl (arm_first t none refusal stores tt refl) q (Ok (tt {0})) run;
       run = run;
       says = tells (put_says (start_now h p) a.object a.slot a.value) run.ran;
-      stands = put_leaves h p q run.heap call.rests a.object a.slot may a.value (Ok (tt {0})) run.ran;
+      stands = put_leaves h p q run.heap call.rests may a.object a.slot a.value run.ran;
     }

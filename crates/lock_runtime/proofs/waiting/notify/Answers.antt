@@ -64,7 +64,7 @@ returns c =
     let e = call_context (Notify a.object a.now) op.Notify a.object in
     let g = goes (goal.at.returns c).After-unfinished-context in
     let run = goes_made g c.notify_held.ensures in
-    let leaves = notify_leaves h p q run.heap rests a.object a.now (Ok out) c.requires.call.may run.ran in
+    let leaves = notify_leaves h p q run.heap rests a.object a.now c.requires.call.may run.ran in
     let owner = held h p rests a.object g.goes in
     let thread = run_thread h (notify_steps s k a.object a.now) p q (Ok out) run in
     record {

@@ -39,7 +39,8 @@ returns-then-held-eq0-clause-wakes c =
 -- the thread has a hold on the object, so the call goes on
 goes : (c : After-unfinished-context) → let a = c.args in let h = a.heap.now in let p = a.pass.now in
     Goes {E = IllegalMonitorState} h p (hold_count a.object p.known.holds == 0) (done (Err (record {})))
-    (λ e. notify_all_going h.heap.shape e (start_now h p) a.object a.now) (call_context (NotifyAll a.object a.now) op.NotifyAll a.object) c.unfinished-context.result
+    (λ e. notify_all_going h.heap.shape e (start_now h p) a.object a.now) (call_context (NotifyAll a.object a.now) op.NotifyAll a.object)
+    c.unfinished-context.result
 unfolding steps_of
 goes c = record {
   call = c.requires.call;
@@ -64,7 +65,7 @@ returns c =
     let e = call_context (NotifyAll a.object a.now) op.NotifyAll a.object in
     let g = goes (goal.at.returns c).After-unfinished-context in
     let run = goes_made g c.notify_all_held.ensures in
-    let leaves = notify_all_leaves h p q run.heap rests a.object a.now (Ok out) c.requires.call.may run.ran in
+    let leaves = notify_all_leaves h p q run.heap rests a.object a.now c.requires.call.may run.ran in
     let owner = held h p rests a.object g.goes in
     let thread = run_thread h (notify_all_steps s k a.object a.now) p q (Ok out) run in
     record {

@@ -36,5 +36,5 @@ returns-in-Inflated c =
     let a = c.args in
     let k = local_of a.pass.now.known in
     let out = c.monitor_notify_all.result in
-    subst (λ (f : MarkForm). HasMadeSteps a.heap.now (notify_all_at (Some f) a.heap.now.heap.shape a.context.now k a.object) a.pass.now c.monitor_notify_all.new.pass
-    (Done out)) (sym c.in-Inflated.is) (then_ends (λ (woken : ℕ). done_with woken) refl c.monitor_notify_all.ensures)
+    subst (λ (f : MarkForm). HasMadeSteps a.heap.now (notify_all_at (Some f) a.heap.now.heap.shape a.context.now k a.object) a.pass.now
+    c.monitor_notify_all.new.pass (Done out)) (sym c.in-Inflated.is) (then_ends (λ (woken : ℕ). done_with woken) refl c.monitor_notify_all.ensures)

@@ -1,4 +1,4 @@
-use Rattle.std.proofs.Common.{◌==◌, Ok, Err, refl, sym, ◌∙◌}
+use Rattle.std.proofs.Common.{◌==◌, Err, refl, sym, ◌∙◌}
 use Rattle.core_world.specs.declared.answer.IllegalMonitorState.{IllegalMonitorState}
 use Rattle.core_world.specs.declared.heap_call.Operation.TheVariants as op
 use Rattle.core_world.specs.declared.heap_call.HeapCall.TheVariants.{Wait}
@@ -48,7 +48,7 @@ returns c =
     let g = goes (goal.at.returns c).After-unfinished-context in
     let run = goes_made g c.wait_held.ensures in
     let may = first_of _ _ c.requires.call.may in
-    let leaves = wait_leaves h p q run.heap rests a.object a.now (Ok c.wait_held.result) may run.ran in
+    let leaves = wait_leaves h p q run.heap rests a.object a.now may run.ran in
     record {
       rests = goes_rests g tt (first_to_wait h.heap.shape (call_context (Wait a.object a.now) op.Wait a.object) k a.object a.now) c.wait_held.ensures;
       run = run;
