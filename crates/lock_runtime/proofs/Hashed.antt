@@ -1,10 +1,8 @@
 -- Hashes: the next draw of a thread is what its call takes.
 use Rattle.std.proofs.Common.{◌≡◌, ℕ, ◌+◌, refl, sym}
-use Rattle.core_world.specs.declared.answer.Progress.{Progress}
-use Rattle.core_world.specs.declared.answer.Progress.TheVariants.{Done, Pending}
 use Rattle.core_world.specs.Threads.ThreadView.{Start, draw_of}
 use Rattle.core_world.specs.Trees.HashSteps.{hash_header_steps}
-use Rattle.core_world.specs.Trees.Operations.{and_then, no_bias, unbias_steps}
+use Rattle.core_world.specs.Trees.Operations.{no_bias}
 use Rattle.core_world.specs.Trees.Plans.{CallContext}
 use Rattle.core_world.specs.Words.Shape.{Shape}
 use Rattle.heap_table.specs.Resting.{start_now}
@@ -12,8 +10,7 @@ use Rattle.heap_table.specs.Seen.{HeapSeen, PassSeen}
 use Rattle.heap_table.proofs.Aside.{StartsAlike}
 use Rattle.heap_table.proofs.Resting.{IsCallOf}
 use Rattle.lock_runtime.specs.inner.HashParts.{hash_unbiased, hash_going}
-use Rattle.lock_runtime.proofs.After.{first_then}
-use Rattle.lock_runtime.proofs.Unbiased.{first_unbias}
+use Rattle.lock_runtime.proofs.Unbiased.{first_after}
 
 -- THE NEXT DRAW is the one of the pass's generator
 pub hash_alike : (h : HeapSeen) (p q : PassSeen) (e : CallContext) (o : ℕ) → StartsAlike p.known q.known
@@ -24,9 +21,4 @@ hash_alike h p q e o alike = λ i.
 
 -- its first step is one of its call
 pub first_hash : (s : Shape) (e : CallContext) (k : Start) (o now : ℕ) → IsCallOf e.task (hash_going s e k o now)
-first_hash s e k o now = first_then e.task (unbias_steps s e k (no_bias o now))
-    (λ progress. and_then progress (λ _. hash_unbiased s e k o)) (first_unbias s e k (no_bias o now)) after
-  where
-    after : (progress : Progress (Unit {0})) → IsCallOf e.task (and_then progress (λ _. hash_unbiased s e k o))
-    after (Done x) = refl
-    after (Pending cause) = tt
+first_hash s e k o now = first_after s e k (no_bias o now) (hash_unbiased s e k o) refl

@@ -1,12 +1,11 @@
 use Rattle.std.proofs.Common.{refl}
-use Rattle.core_world.specs.Trees.Operations.{and_then, no_bias, unbias_steps}
+use Rattle.core_world.specs.Trees.Operations.{and_then, no_bias}
 use Rattle.heap_table.specs.Resting.{start_now}
 use Rattle.heap_table.proofs.Aside.{StartsAlike}
 use Rattle.lock_runtime.specs.inner.HashParts.{hash_unbiased}
-use Rattle.lock_runtime.proofs.Asides.{unbias_aside}
 use Rattle.lock_runtime.proofs.Hashed.{hash_alike}
-use Rattle.lock_runtime.proofs.PartMade.{PartMade, first_due, next_due, next_made, last_made, alike_after, room_after}
-use Rattle.lock_runtime.proofs.Unbiased.{first_unbias}
+use Rattle.lock_runtime.proofs.PartMade.{first_due, next_due, next_made, last_made, room_after}
+use Rattle.lock_runtime.proofs.Unbiased.{UnbiasMade, unbias_made, unbias_alike}
 use Rattle.lock_runtime.proofs.hashing.hash_going.Goals as goal
 use Rattle.lock_runtime.proofs.hashing.hash_going.Goals.{After-unbias}
 
@@ -17,24 +16,14 @@ unbias-requires-clause-due c =
     first_due (λ progress. and_then progress (λ _. hash_unbiased h.heap.shape a.context.now (start_now h a.pass.now) a.object)) c.requires.due
 
 -- the end of the bias
-unbiased : (c : After-unbias) → let a = c.args in let h = a.heap.now in let k = start_now h a.pass.now in
-    PartMade h a.pass.now c.unbias.new.pass a.context.now.task (unbias_steps h.heap.shape a.context.now k (no_bias a.object a.now))
-    (λ progress. and_then progress (λ _. hash_unbiased h.heap.shape a.context.now k a.object)) c.unbias.result
-unbiased c =
-    let a = c.args in
-    let h = a.heap.now in
-    record {
-      due = c.requires.due;
-      first = first_unbias h.heap.shape a.context.now (start_now h a.pass.now) (no_bias a.object a.now);
-      made = c.unbias.ensures;
-    }
+unbiased : (c : After-unbias) → let a = c.args in let h = a.heap.now in
+    UnbiasMade h a.pass.now c.unbias.new.pass a.context.now (no_bias a.object a.now)
+    (hash_unbiased h.heap.shape a.context.now (start_now h a.pass.now) a.object) c.unbias.result
+unbiased c = let a = c.args in unbias_made a.context.now (no_bias a.object a.now) c.unbias.ensures _ c.requires.due
 
 -- after it a hash would begin as before
 alike : (c : After-unbias) → StartsAlike c.args.pass.now.known c.unbias.new.pass.known
-alike c =
-    let a = c.args in
-    let h = a.heap.now in
-    alike_after (unbiased c) (unbias_aside h.heap.shape a.context.now (start_now h a.pass.now) (no_bias a.object a.now))
+alike c = unbias_alike c.args.context.now (no_bias c.args.object c.args.now) c.unbias.ensures
 
 pub hash_unbiased-requires-clause-due : goal.hash_unbiased-requires-clause-due
 hash_unbiased-requires-clause-due c =

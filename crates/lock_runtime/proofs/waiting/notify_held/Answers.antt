@@ -1,11 +1,9 @@
 use Rattle.std.proofs.Common.{◌≡◌, refl, sym, ap}
 use Rattle.core_world.specs.Threads.ThreadView.{Local, local_of}
-use Rattle.core_world.specs.Trees.Operations.{and_then, no_bias, unbias_steps}
-use Rattle.heap_table.specs.Resting.{start_now}
+use Rattle.core_world.specs.Trees.Operations.{and_then, no_bias}
 use Rattle.lock_runtime.specs.inner.WaitParts.{marked_notify}
-use Rattle.lock_runtime.proofs.Asides.{unbias_aside}
-use Rattle.lock_runtime.proofs.PartMade.{PartMade, first_due, next_due, next_made, last_made, alike_after, room_after}
-use Rattle.lock_runtime.proofs.Unbiased.{first_unbias}
+use Rattle.lock_runtime.proofs.PartMade.{first_due, next_due, next_made, last_made, room_after}
+use Rattle.lock_runtime.proofs.Unbiased.{UnbiasMade, unbias_made, unbias_alike}
 use Rattle.lock_runtime.proofs.waiting.notify_held.Goals as goal
 use Rattle.lock_runtime.proofs.waiting.notify_held.Goals.{After-unbias}
 
@@ -15,25 +13,13 @@ unbias-requires-clause-due c =
     first_due (λ progress. and_then progress (λ _. marked_notify a.heap.now.heap.shape a.context.now (local_of a.pass.now.known) a.object)) c.requires.due
 
 -- the end of the bias
-unbiased : (c : After-unbias) → let a = c.args in let h = a.heap.now in
-    PartMade h a.pass.now c.unbias.new.pass a.context.now.task
-    (unbias_steps h.heap.shape a.context.now (start_now h a.pass.now) (no_bias a.object a.now))
-    (λ progress. and_then progress (λ _. marked_notify h.heap.shape a.context.now (local_of a.pass.now.known) a.object)) c.unbias.result
-unbiased c =
-    let a = c.args in
-    let h = a.heap.now in
-    record {
-      due = c.requires.due;
-      first = first_unbias h.heap.shape a.context.now (start_now h a.pass.now) (no_bias a.object a.now);
-      made = c.unbias.ensures;
-    }
+unbiased : (c : After-unbias) → let a = c.args in UnbiasMade a.heap.now a.pass.now c.unbias.new.pass a.context.now (no_bias a.object a.now)
+    (marked_notify a.heap.now.heap.shape a.context.now (local_of a.pass.now.known) a.object) c.unbias.result
+unbiased c = let a = c.args in unbias_made a.context.now (no_bias a.object a.now) c.unbias.ensures _ c.requires.due
 
--- after it the thread's log and own words are as before
+-- after it the notify goes by the same log and own words
 same : (c : After-unbias) → local_of c.unbias.new.pass.known ≡ local_of c.args.pass.now.known
-same c =
-    let a = c.args in
-    let h = a.heap.now in
-    (alike_after (unbiased c) (unbias_aside h.heap.shape a.context.now (start_now h a.pass.now) (no_bias a.object a.now))).local
+same c = (unbias_alike c.args.context.now (no_bias c.args.object c.args.now) c.unbias.ensures).local
 
 pub notify_marked-requires-clause-due : goal.notify_marked-requires-clause-due
 notify_marked-requires-clause-due c =

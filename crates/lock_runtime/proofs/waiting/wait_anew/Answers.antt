@@ -1,12 +1,10 @@
 use Rattle.std.proofs.Common.{◌≡◌, refl, sym}
 use Rattle.core_world.specs.Threads.ThreadView.{local_of}
-use Rattle.core_world.specs.Trees.Operations.{and_then, no_bias, unbias_steps}
-use Rattle.heap_table.specs.Resting.{start_now}
+use Rattle.core_world.specs.Trees.Operations.{and_then, no_bias}
 use Rattle.heap_table.proofs.Aside.{StartsAlike}
 use Rattle.lock_runtime.specs.inner.WaitParts.{inflated_wait}
-use Rattle.lock_runtime.proofs.Asides.{unbias_aside}
-use Rattle.lock_runtime.proofs.PartMade.{PartMade, first_due, next_due, next_made, last_made, alike_after}
-use Rattle.lock_runtime.proofs.Unbiased.{first_unbias, room_for_two}
+use Rattle.lock_runtime.proofs.PartMade.{first_due, next_due, next_made, last_made}
+use Rattle.lock_runtime.proofs.Unbiased.{UnbiasMade, unbias_made, unbias_alike, room_for_two}
 use Rattle.lock_runtime.proofs.waiting.wait_anew.Goals as goal
 use Rattle.lock_runtime.proofs.waiting.wait_anew.Goals.{After-unbias}
 
@@ -17,25 +15,14 @@ unbias-requires-clause-due c =
     first_due (λ progress. and_then progress (λ _. inflated_wait a.heap.now.heap.shape a.context.now k.kept (local_of k) a.object)) c.requires.due
 
 -- the end of the bias
-unbiased : (c : After-unbias) → let a = c.args in let h = a.heap.now in let k = a.pass.now.known in
-    PartMade h a.pass.now c.unbias.new.pass a.context.now.task
-    (unbias_steps h.heap.shape a.context.now (start_now h a.pass.now) (no_bias a.object a.now))
-    (λ progress. and_then progress (λ _. inflated_wait h.heap.shape a.context.now k.kept (local_of k) a.object)) c.unbias.result
-unbiased c =
-    let a = c.args in
-    let h = a.heap.now in
-    record {
-      due = c.requires.due;
-      first = first_unbias h.heap.shape a.context.now (start_now h a.pass.now) (no_bias a.object a.now);
-      made = c.unbias.ensures;
-    }
+unbiased : (c : After-unbias) → let a = c.args in let k = a.pass.now.known in
+    UnbiasMade a.heap.now a.pass.now c.unbias.new.pass a.context.now (no_bias a.object a.now)
+    (inflated_wait a.heap.now.heap.shape a.context.now k.kept (local_of k) a.object) c.unbias.result
+unbiased c = let a = c.args in unbias_made a.context.now (no_bias a.object a.now) c.unbias.ensures _ c.requires.due
 
 -- after it a wait would begin as before
 alike : (c : After-unbias) → StartsAlike c.args.pass.now.known c.unbias.new.pass.known
-alike c =
-    let a = c.args in
-    let h = a.heap.now in
-    alike_after (unbiased c) (unbias_aside h.heap.shape a.context.now (start_now h a.pass.now) (no_bias a.object a.now))
+alike c = unbias_alike c.args.context.now (no_bias c.args.object c.args.now) c.unbias.ensures
 
 waiting : (c : After-unbias) → let a = c.args in let s = a.heap.now.heap.shape in let k = a.pass.now.known in let l = c.unbias.new.pass.known in
     inflated_wait s a.context.now k.kept (local_of k) a.object ≡ inflated_wait s a.context.now l.kept (local_of l) a.object
