@@ -12,11 +12,13 @@ pub mod ClassSteps
 pub mod FairSteps
 pub mod FairLooks
 pub mod LawRules
+pub mod Looks
 pub mod SeenSteps
 pub mod Facts
 pub mod Tests
 pub mod JournalCalls
 pub mod Resting
+pub mod OwnParts
 pub mod Table
 pub mod ReachedWorlds
 pub mod LetGoes

@@ -1,7 +1,10 @@
 -- Biases and their revocation.
 pub mod BiasRules
 pub mod RevocationTrees
-pub mod Revocations
+pub mod SeenAtSafepoint
+pub mod RevocationMiddle
+pub mod RevocationBegins
+pub mod RevocationEnds
 pub mod AfterRevocations
 pub mod AskedRevocations
 pub mod BiasFacts

@@ -25,8 +25,11 @@ use Rattle.core_steps.proofs.ClassSteps.{class_from}
 use Rattle.core_steps.proofs.Facts.{Knows}
 use Rattle.core_steps.proofs.bias.KeptHeaders.{works_on}
 use Rattle.core_steps.proofs.safepoint.Requests.{Asks, Since, Stood, BeginsSafepoint, safepoint_does}
+use Rattle.core_steps.proofs.OwnParts.{keeps_own_all, own_of}
 use Rattle.core_steps.proofs.Resting.{Carries}
-use Rattle.core_steps.proofs.bias.Revocations.{Released, Revoked, revoke_does, ending_steps, ending_does}
+use Rattle.core_steps.proofs.bias.RevocationMiddle.{OneRevocation}
+use Rattle.core_steps.proofs.bias.RevocationBegins.{revoke_does}
+use Rattle.core_steps.proofs.bias.RevocationEnds.{Released, Revoked, ending_steps, ending_does}
 use Rattle.core_steps.proofs.safepoint.SafepointLooks.{going}
 use Rattle.core_steps.proofs.Trees.{answers, binds, follows}
 
@@ -109,19 +112,18 @@ module _ (heap : Heap) (e : CallContext) (b : Revocation) where
           checks = λ checks. let check = a.check in absurd (cc (checks, check, unchecks));
         }
 
+    abbrev made_by : ℕ → OneRevocation
+    made_by me = record { heap = heap; call = e; revocation = b; thread = me }
+
     -- after the safepoint
     abbrev revoking : ℕ → Progress (Unit {0}) → StepTree (Progress Bool)
     revoking me progress = and_then progress (λ u. do
       outcome ← revoke_at_safepoint_steps heap.shape me e b
-      ending_steps heap e b me outcome.took)
+      ending_steps (made_by me) outcome.took)
 
-    released_since : (k l m : ThreadView) (took : Bool) → Since heap e k.thread k l → Released heap e b k.thread l took m → Released heap e b k.thread k took m
+    released_since : (k l m : ThreadView) (took : Bool) → Since heap e k.thread k l → Released heap e b l took m → Released heap e b k took m
     released_since k l m took since x = record {
-      local = x.local ∙ since.local;
-      kept = x.kept ∙ since.kept;
-      saved = x.saved ∙ since.saved;
-      draws = x.draws ∙ since.draws;
-      shots = x.shots ∙ since.shots;
+      own = keeps_own_all (own_of k) (own_of l) (own_of m) since.own x.own;
       runs = x.runs;
       unasks = x.unasks;
       still = x.still;
@@ -134,28 +136,28 @@ module _ (heap : Heap) (e : CallContext) (b : Revocation) where
     }
 
     revoked_since : (k l m : ThreadView) (progress : Progress Bool) → Since heap e k.thread k l
-        → Revoked heap e b k.thread l progress m → Revoked heap e b k.thread k progress m
+        → Revoked heap e b l progress m → Revoked heap e b k progress m
     revoked_since k l m (Done took) since x = released_since k l m took since x
     revoked_since k l m (Pending why) since x = x
 
     then_revoking : (k : ThreadView) → BeginsRevocation operation k
         → (f : Bool) (progress : Progress (Unit {0})) (l : ThreadView) → (f ≡ false) × Stood heap e k.thread k progress l
-        → Does heap f (revoking k.thread progress) l (λ f progress m. (f ≡ false) × Revoked heap e b k.thread k progress m)
+        → Does heap f (revoking k.thread progress) l (λ f progress m. (f ≡ false) × Revoked heap e b k progress m)
     then_revoking k may f (Done x) l s =
         let unwritten = s.1.2 may.unreached in
         let since = s.1.1 in
         let saw = saw_since k l may.saw since in
-        subst (λ z. Does heap z (revoking k.thread (Done tt)) l (λ f progress m. (f ≡ false) × Revoked heap e b k.thread k progress m)) (sym s.0)
-        (going heap (revoke_at_safepoint_steps heap.shape k.thread e b) (λ outcome. ending_steps heap e b k.thread outcome.took) l _ (
+        subst (λ z. Does heap z (revoking k.thread (Done tt)) l (λ f progress m. (f ≡ false) × Revoked heap e b k progress m)) (sym s.0)
+        (going heap (revoke_at_safepoint_steps heap.shape k.thread e b) (λ outcome. ending_steps (made_by k.thread) outcome.took) l _ (
         follows heap false (revoke_at_safepoint_steps heap.shape k.thread e b) l _ _
-        (revoke_does heap e b k.thread operation unfinished allowed object l s.1.0 unwritten saw (alone_since k l may.alone since)
+        (revoke_does (made_by k.thread) operation unfinished allowed object l s.1.0 unwritten saw (alone_since k l may.alone since)
         (subst (λ z. Knows heap z.log b.object) (sym since.local) may.known))
-        (λ f a m y. follows heap false _ m _ _ (ending_does heap e b k.thread (works_on operation e.unfinished b.object unfinished may.on_object)
+        (λ f a m y. follows heap false _ m _ _ (ending_does (made_by k.thread) (works_on operation e.unfinished b.object unfinished may.on_object)
         object l s.1.0 unwritten saw.2 m a y.1) (λ f progress n z. (z.0, revoked_since k l n progress since z.1)))))
     then_revoking k may f (Pending why) l s = answers heap f (Pending why) l _ s
 
     pub revocation_does : (fresh : Bool) (k : ThreadView) → BeginsRevocation operation k
-        → Does heap fresh (revocation_steps heap.shape k.thread k.requesting e b) k (λ f progress l. (f ≡ false) × Revoked heap e b k.thread k progress l)
+        → Does heap fresh (revocation_steps heap.shape k.thread k.requesting e b) k (λ f progress l. (f ≡ false) × Revoked heap e b k progress l)
     revocation_does fresh k may =
         binds heap fresh (safepoint_steps e k.thread k.requesting) (revoking k.thread) k _ (
         follows heap fresh _ k _ _ (safepoint_does heap e k.thread k (asked k may) fresh may.begins) (λ f progress l x. then_revoking k may f progress l x))

@@ -21,7 +21,6 @@ use Rattle.core_world.specs.Threads.ThreadView.{ThreadView, Local, Still, local_
 use Rattle.core_world.specs.Clauses.Lengths.{log_limit}
 use Rattle.core_world.specs.Locks.{hold_count, is_valid_bias}
 use Rattle.core_world.specs.Trees.LockSteps.{hold_steps}
-use Rattle.core_world.specs.Looking.{IsLook}
 use Rattle.core_world.specs.Trees.Plans.{CallContext, with_stage, load, free_place}
 use Rattle.core_world.specs.Clauses.Safepoints.{IsUnfinished, ends}
 use Rattle.core_world.specs.Words.Shape.{class_in_shape}
@@ -31,14 +30,14 @@ use Rattle.core_world.specs.Trees.StepTree.{done, ask, ◌>>=◌}
 use Rattle.core_world.specs.Clauses.WordForms.{IsMark}
 use Rattle.core_world.proofs.enter_exit.OwnersShown.{lock_by_form}
 use Rattle.core_locks.specs.Knowing.{GoesOn, IsBiasTo, SawOwnBias}
-use Rattle.core_locks.proofs.LookOn.{may_look}
 use Rattle.core_locks.proofs.enter_exit.MarkHolds.{standing_names}
 use Rattle.core_locks.proofs.monitor.OwnerTurns.{rest_hold}
 use Rattle.core_bias.specs.Biasing.{IsUnownedBias}
 use Rattle.bias_law.specs.Steps.{WentBefore}
-use Rattle.core_law.specs.Logic.{Heap, SoundWorldWith, Does}
+use Rattle.core_law.specs.Logic.{Heap, SoundWorldWith, Keeps, Does}
+use Rattle.core_steps.proofs.Looks.{looks_running}
 use Rattle.core_steps.proofs.bias.BiasFacts.{SawHeaders, SawMarkAlone, headers_first, headers_more, mark_alone, class_more, class_some}
-use Rattle.core_steps.proofs.bias.BiasFacts.{saw_two, look_class, look_prototype, unreached_here, bias_stays, biasing_here}
+use Rattle.core_steps.proofs.bias.BiasFacts.{saw_two, unreached_here, bias_stays, biasing_here}
 use Rattle.core_steps.proofs.bias.BiasFacts.{IsPrototype, IsPrototypeForm, prototype_here, prototype_form, prototype_neutral}
 use Rattle.core_steps.proofs.bias.BiasFacts.{own_bias, neutral_reads_so, loose_unepoched, stale_epoch, own_epoch, free_bias}
 use Rattle.core_steps.proofs.bias.BiasRules.{rebiases_rule, unbiases_rule}
@@ -48,12 +47,12 @@ use Rattle.core_steps.proofs.monitor.Inflations.{form_found}
 use Rattle.core_steps.proofs.ClassSteps.{class_from, class_declared, class_made, class_found, made_there, class_does}
 use Rattle.core_law.proofs.SafepointSights.{found_formed}
 use Rattle.core_world.proofs.There.{class_there}
-use Rattle.core_steps.proofs.LawRules.{looks, limits}
+use Rattle.core_steps.proofs.LawRules.{limits}
 use Rattle.core_steps.proofs.Resting.{rests, live_carries}
 use Rattle.core_steps.proofs.SeenSteps.{saw_newest, saw_older}
 use Rattle.core_steps.proofs.enter_exit.StackEnters.{Taking, undumped_enter, hold_does, taking_begins}
-use Rattle.core_steps.proofs.bias.Revocations.{Released}
-use Rattle.core_steps.proofs.enter_exit.StackExits.{unbiased_here, look_mark}
+use Rattle.core_steps.proofs.bias.RevocationEnds.{Released}
+use Rattle.core_steps.proofs.enter_exit.StackExits.{unbiased_here}
 use Rattle.core_steps.proofs.Tests.{is_of_kind}
 use Rattle.core_steps.proofs.Trees.{answers, binds, chooses, follows, hitting, swapping}
 
@@ -273,7 +272,7 @@ module _ (heap : Heap) (o : ℕ) (e : CallContext) (enters : IsUnfinished e.unfi
     prototype_does outs k mark class x local same headers unreached saw_mark saw_class alone there biased biasing =
         let look = load e (id.Prototype class) in
         hitting heap false look _ k Q (λ n. refl)
-        (λ j. looks heap k look (look_prototype k e x.takes.runs x.calm x.check (inl (sym x.mine)) class) (λ v. there)
+        (λ j. looks_running heap k e Settled (id.Prototype class) refl x.takes.runs (sym x.calm) x.check (inl (sym x.mine)) (λ v. there)
         (inl (sym x.mine)) tt) (λ prototype j was.
         let m = known_hit heap.shape heap.start look prototype k in
         let is : IsPrototype prototype = prototype_here heap k was.stands x.takes.runs class prototype biasing was.found in
@@ -291,7 +290,7 @@ module _ (heap : Heap) (o : ℕ) (e : CallContext) (enters : IsUnfinished e.unfi
     bias_enter_does outs k a calm goes check untold place local same =
         let look = load e (id.Mark o) in
         let ask_class = load e (id.Class o) in
-        hitting heap true look _ k Q (λ n. refl) (λ i. looks heap k look (look_mark heap k e a.runs calm check goes o) (λ v. a.object)
+        hitting heap true look _ k Q (λ n. refl) (λ i. looks_running heap k e Settled (id.Mark o) refl a.runs (sym calm) check goes (λ v. a.object)
         (taking_begins heap k e o a goes) (λ free. a.known)) (λ mark i was.
         let l = known_hit heap.shape heap.start look mark k in
         let headers : SawHeaders l = headers_first heap look mark k refl i a.unasks refl in
@@ -306,7 +305,7 @@ module _ (heap : Heap) (o : ℕ) (e : CallContext) (enters : IsUnfinished e.unfi
         (λ declared. prototype_does outs l mark (class_in_shape heap.shape o)
         (record { takes = a; mine = refl; check = refl; calm = refl; untold = untold; place = place }) local same headers unreached
         (saw_newest heap look mark k) (class_declared heap.shape l.seen o declared) alone (class_there heap.shape o all a.object) yes biasing)
-        (λ made j. looks heap l ask_class (look_class l e a.runs refl refl (inl refl) o) (λ v. made_there heap.shape o a.object made) (inl refl) tt)
+        (λ made j. looks_running heap l e Settled (id.Class o) refl a.runs refl refl (inl refl) (λ v. made_there heap.shape o a.object made) (inl refl) tt)
         (λ made word j was1.
         let m = known_hit heap.shape heap.start ask_class word l in
         let some = class_some heap l was1.stands a.runs o mark word made (saw_newest heap look mark k) yes was1.found in
@@ -378,19 +377,12 @@ module _ (heap : Heap) (e : CallContext) (b : Revocation) (enters : IsUnfinished
   place_here : free_place k.holds < most_holds
   place_here = subst (λ z. free_place z.holds < most_holds) (sym local) wants.place
 
-  looks_again : (took : Bool) → Released heap e b me k0 took k → IsLook k (look took)
-  looks_again took x = record {
-    act = refl;
-    note = refl;
-    own = refl;
-    stage = sym x.stage;
-    check = wants.unchecks ∙ sym x.unchecks;
-    after = inl x.mine;
-    may = may_look k (id.Mark o) (inl x.runs) (λ m is. absurd (cc is));
-  }
+  looks_again : (took : Bool) → Released heap e b k0 took k → Keeps heap (look took) k
+  looks_again took x = looks_running heap k e (stage_after took o) (id.Mark o) refl x.runs (sym x.stage) (wants.unchecks ∙ sym x.unchecks) (inl x.mine)
+      (λ v. wants.object) (inl x.mine) (λ free. known_here)
 
   -- by the form of a mark that is biased to the thread
-  own_does : (f : Option MarkForm) (mark p : ℕ) → Released heap e b me k0 true k → IsBiasTo k.thread f (epoch_in p)
+  own_does : (f : Option MarkForm) (mark p : ℕ) → Released heap e b k0 true k → IsBiasTo k.thread f (epoch_in p)
       → SawOwnBias heap.shape (then_known true mark) o
       → Does heap false (cond (is_biased_form f) (bias_after_at f e (local_of k) o) (done (Unbiased mark))) (then_known true mark) Q
   own_does None mark p x bias saw = absurd bias
@@ -406,10 +398,9 @@ module _ (heap : Heap) (e : CallContext) (b : Revocation) (enters : IsUnfinished
   own_does (Some (Inflated m)) mark p x bias saw = absurd bias
   own_does (Some Marked) mark p x bias saw = absurd bias
 
-  pub bias_after_does : (took : Bool) → Released heap e b me k0 took k → Does heap false (bias_after_steps e (local_of k) o took) k Q
+  pub bias_after_does : (took : Bool) → Released heap e b k0 took k → Does heap false (bias_after_steps e (local_of k) o took) k Q
   bias_after_does true x =
-      hitting heap false (look true) _ k Q (λ n. refl) (λ i. looks heap k (look true) (looks_again true x) (λ v. wants.object)
-      (inl x.mine) (λ free. known_here)) (λ mark i was.
+      hitting heap false (look true) _ k Q (λ n. refl) (λ i. looks_again true x) (λ mark i was.
       let v = x.mark.0 in
       let p = x.mark.1 in
       let class = x.mark.2 in
@@ -428,8 +419,7 @@ module _ (heap : Heap) (e : CallContext) (b : Revocation) (enters : IsUnfinished
         bias_now,
       ))
   bias_after_does false x =
-      hitting heap false (look false) _ k Q (λ n. refl) (λ i. looks heap k (look false) (looks_again false x) (λ v. wants.object)
-      (inl x.mine) (λ free. known_here)) (λ mark i was.
+      hitting heap false (look false) _ k Q (λ n. refl) (λ i. looks_again false x) (λ mark i was.
       let l = then_known false mark in
       let unbiased : is_biased mark ≡ false = ap is_biased (sym was.found)
       ∙ unbiased_here heap false k o was.stands x.runs (inr (refl, (x.mark.0, x.mark.3, x.mark.6))) in

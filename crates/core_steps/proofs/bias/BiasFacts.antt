@@ -9,23 +9,19 @@ use Rattle.mark_word.proofs.ReadingMarks.{read_mark-mark_of, read_mark-spells}
 use Rattle.core_world.specs.declared.word_id.WordId.{WordId}
 use Rattle.core_world.specs.declared.word_id.WordId.TheVariants as id
 use Rattle.core_world.specs.declared.plan.StepPlan.{StepPlan}
-use Rattle.core_world.specs.declared.stage.Stage.TheVariants.{Settled}
 use Rattle.core_world.specs.Threads.AtRest.{SawClass, SawNoOther}
 use Rattle.core_world.specs.Words.Forms.{is_biased, is_biased_form, epoch_in, epoch_form}
 use Rattle.core_world.specs.Threads.ThreadView.{ThreadView, last_seen}
 use Rattle.core_world.specs.Locks.{has_epoch, is_valid_bias, marks}
-use Rattle.core_world.specs.Looking.{IsLook}
-use Rattle.core_world.specs.Words.Names.{same_name}
+use Rattle.core_world.specs.Words.Names.{same_name, class_by}
 use Rattle.core_world.specs.Trees.Plans.{CallContext, load}
 use Rattle.core_world.specs.Clauses.SeenWords.{IsValidBias}
 use Rattle.core_world.specs.Words.Shape.{Shape}
-use Rattle.core_world.specs.Words.Names.{class_by}
 use Rattle.core_world.proofs.There.{class_seen}
 use Rattle.core_world.specs.Steps.{is_idle, known_hit, seen_before, kept_by_note, kept_by_act}
 use Rattle.core_world.specs.Words.Acts.{word_after}
 use Rattle.core_world.proofs.Naming.{same_named}
-use Rattle.core_locks.specs.Knowing.{GoesOn, IsBiasTo}
-use Rattle.core_locks.proofs.LookOn.{may_look}
+use Rattle.core_locks.specs.Knowing.{IsBiasTo}
 use Rattle.core_bias.specs.Biasing.{IsUnownedBias}
 use Rattle.core_bias.proofs.Unseen.{unseen}
 use Rattle.core_bias.proofs.Wholes.{biasing_on}
@@ -103,21 +99,6 @@ module _ (heap : Heap) (e : CallContext) (o : ℕ) where
         ]
       ]
 
--- the load of a class word by a thread that runs
-pub look_class : (k : ThreadView) (e : CallContext) → k.running ≡ true → k.stage ≡ Settled
-    → e.check ≡ k.checking → GoesOn k e → (o : ℕ) → IsLook k (load e (id.Class o))
-look_class k e runs calm check goes o =
-    record {
-      act = refl;
-      note = refl;
-      own = refl;
-      stage = sym calm;
-      check = check;
-      after = goes;
-      may =
-          may_look k (id.Class o) (inl runs) (λ m is. absurd (cc is));
-    }
-
 -- a class word that was found is not 0, where the thread saw the mark of its object with the bias pattern in this call
 pub class_some : (heap : Heap) (k : ThreadView) (v : SoundWorldWith heap k) → k.running ≡ true → (o mark word : ℕ) → nat_lt o heap.shape.declared ≡ false
     → last_seen (id.Mark o) k.seen ≡ Some mark → is_biased mark ≡ true
@@ -136,19 +117,6 @@ class_some heap k v runs o mark word made saw biased found =
         by_test : (b : Bool) → (n == 0) ≡ b → not b ≡ true → n ≡ n - 1 + 1
         by_test true h g = absurd (cc g)
         by_test false h g = let some : n ≢ 0 = λ z. absurd (cc (eq-eqb n 0 z, h)) in omega (arith, some)
-
-pub look_prototype : (k : ThreadView) (e : CallContext) → k.running ≡ true → k.stage ≡ Settled
-    → e.check ≡ k.checking → GoesOn k e → (c : ℕ) → IsLook k (load e (id.Prototype c))
-look_prototype k e runs calm check goes c =
-    record {
-      act = refl;
-      note = refl;
-      own = refl;
-      stage = sym calm;
-      check = check;
-      after = goes;
-      may = may_look k (id.Prototype c) (inl runs) (λ m is. absurd (cc is));
-    }
 
 -- the neutral mark reads so
 pub neutral_reads_so : read_mark (mark_of (Neutral 0 0)) ≡ Some (Neutral 0 0)

@@ -18,7 +18,7 @@ use Rattle.core_world.specs.Threads.AtRest.{AtRest, MayAsk, MayRevoke, SawClass,
 use Rattle.core_world.specs.Trees.BiasSteps.{unbias_plan, bias_drop_at, bias_drop_by, bias_drop_steps}
 use Rattle.core_world.specs.Trees.BiasSteps as bias_steps
 use Rattle.core_world.specs.Words.Forms.{is_biased, is_biased_form, epoch_in, waits_on}
-use Rattle.core_world.specs.Threads.ThreadView.{ThreadView, Still, local_of, last_seen, start_of}
+use Rattle.core_world.specs.Threads.ThreadView.{ThreadView, Still, last_seen, start_of}
 use Rattle.core_world.specs.Locks.{is_valid_bias, hold_count}
 use Rattle.core_world.specs.Trees.Operations.{and_then, goes_on_with, revocation_steps, revoked_steps, unbias_tried, unbias_steps}
 use Rattle.core_world.specs.Trees.Plans.{CallContext, load, done_with}
@@ -33,33 +33,31 @@ use Rattle.core_bias.specs.Biasing.{IsUnownedBias}
 use Rattle.bias_law.specs.Steps.{SawUnbiased}
 use Rattle.core_locks.specs.Knowing.{GoesOn, HasHold}
 use Rattle.core_law.specs.Logic.{Heap, Does}
+use Rattle.core_steps.proofs.Looks.{looks_running}
 use Rattle.core_steps.proofs.FairSteps.{none_made, begins_its}
 use Rattle.core_steps.proofs.bias.AskedRevocations.{BeginsRevocation, NoOtherIn, ValidBiasIn, revocation_does}
 use Rattle.core_steps.proofs.bias.BiasFacts.{SawHeaders, SawMarkAlone, headers_first, headers_more, mark_alone, class_more, class_some}
-use Rattle.core_steps.proofs.bias.BiasFacts.{saw_two, look_class, look_prototype, unreached_here, biasing_here, IsPrototype, prototype_here}
+use Rattle.core_steps.proofs.bias.BiasFacts.{saw_two, unreached_here, biasing_here, IsPrototype, prototype_here}
 use Rattle.core_steps.proofs.bias.BiasFacts.{prototype_neutral, neutral_reads_so, loose_unepoched, stale_epoch, own_epoch, free_bias}
 use Rattle.core_steps.proofs.bias.BiasRules.{unbiases_rule}
 use Rattle.core_steps.proofs.ClassSteps.{class_from, class_declared, class_made, class_found, made_there, class_does}
 use Rattle.core_steps.proofs.Facts.{Knows}
 use Rattle.core_law.proofs.SafepointSights.{found_formed}
 use Rattle.core_world.proofs.There.{class_there}
-use Rattle.core_steps.proofs.LawRules.{looks, limits}
+use Rattle.core_steps.proofs.LawRules.{limits}
 use Rattle.core_steps.proofs.safepoint.Requests.{BeginsSafepoint, asking_saw}
+use Rattle.core_steps.proofs.OwnParts.{KeepsOwn, keeps_own_all, still_carries, own_of, same_own}
 use Rattle.core_steps.proofs.Resting.{Carries, rests, live_carries}
-use Rattle.core_steps.proofs.bias.Revocations.{Released, Revoked}
+use Rattle.core_steps.proofs.bias.RevocationEnds.{Released, Revoked}
 use Rattle.core_steps.proofs.SeenSteps.{saw_newest, saw_older}
-use Rattle.core_steps.proofs.enter_exit.StackExits.{look_mark}
 use Rattle.core_steps.proofs.Tests.{Operates, asking_goes, free_runs, going_is, goes_on_or_begins}
 use Rattle.core_steps.proofs.Trees.{answers, binds, chooses, follows, hitting, swapping, once_idle}
 
 module _ (heap : Heap) (e : CallContext) (b : Revocation) where
   -- a running thread in the middle of nothing, whose call has looked at marks, class words and prototypes alone since it began with this knowledge
   pub record HasLooked (k l : ThreadView) : Type 0 where
-    pub local : local_of l ≡ local_of k
-    pub kept : l.kept ≡ k.kept
-    pub saved : l.saved ≡ k.saved
-    pub draws : l.draws ≡ k.draws
-    pub shots : l.shots ≡ k.shots
+    pub own : KeepsOwn (own_of k) (own_of l)
+    pub open own use *
     pub runs : l.running ≡ true
     pub unasks : l.requesting ≡ false
     pub still : l.moving ≡ Still
@@ -93,10 +91,7 @@ module _ (heap : Heap) (e : CallContext) (b : Revocation) where
 
     looked_carries : (l : ThreadView) → HasLooked k l → Carries l.moving l.log l.wait l.holds l.shots e.unfinished
     looked_carries l x =
-        let carries = may.begins.carries in
-        subst (λ z. Carries l.moving z.log z.wait z.holds l.shots e.unfinished) (sym x.local)
-        (subst (λ z. Carries l.moving k.log k.wait k.holds z e.unfinished) (sym x.shots)
-        (subst (λ z. Carries z k.log k.wait k.holds k.shots e.unfinished) (carries.still ∙ sym x.still) carries))
+        let carries = may.begins.carries in still_carries k l x.own (carries.still ∙ sym x.still) carries
 
     looked_rests : (l : ThreadView) → HasLooked k l → AtRest heap.shape l
     looked_rests l x = rests heap.shape l x.calm x.unasks (sym x.check ∙ unchecks)
@@ -106,17 +101,12 @@ module _ (heap : Heap) (e : CallContext) (b : Revocation) where
     abbrev after : Progress Bool → StepTree (Progress (Unit {0}))
     after progress = and_then progress (λ took. done_with tt)
 
-    after_does : (k0 : ThreadView) → local_of k0 ≡ local_of k → k0.kept ≡ k.kept → k0.saved ≡ k.saved
-        → k0.draws ≡ k.draws → k0.shots ≡ k.shots → (f : Bool) (progress : Progress Bool) (l : ThreadView)
-        → (f ≡ false) × Revoked heap e b k0.thread k0 progress l → Does heap f (after progress) l Q
-    after_does k0 local kept saved draws shots f (Done took) l x =
-        let released : Released heap e b k0.thread k0 false l = subst (λ z. Released heap e b k0.thread k0 z l) (x.1.untaken none) x.1 in
+    after_does : (k0 : ThreadView) → KeepsOwn (own_of k) (own_of k0) → (f : Bool) (progress : Progress Bool) (l : ThreadView)
+        → (f ≡ false) × Revoked heap e b k0 progress l → Does heap f (after progress) l Q
+    after_does k0 own f (Done took) l x =
+        let released : Released heap e b k0 false l = subst (λ z. Released heap e b k0 z l) (x.1.untaken none) x.1 in
         subst (λ z. Does heap z (done_with tt) l Q) (sym x.0) (answers heap false (Done tt) l Q (outs.unbiased l (record {
-          local = released.local ∙ local;
-          kept = released.kept ∙ kept;
-          saved = released.saved ∙ saved;
-          draws = released.draws ∙ draws;
-          shots = released.shots ∙ shots;
+          own = keeps_own_all (own_of k) (own_of k0) (own_of l) own released.own;
           runs = released.runs;
           unasks = released.unasks;
           still = released.still;
@@ -125,16 +115,15 @@ module _ (heap : Heap) (e : CallContext) (b : Revocation) where
           mine = sym released.mine;
           headers = released.unseen;
         }) (released.mark.0, released.mark.3, released.mark.6)))
-    after_does k0 local kept saved draws shots f (Pending w) l x = answers heap f (Pending w) l Q (outs.pends f l w x.1)
+    after_does k0 own f (Pending w) l x = answers heap f (Pending w) l Q (outs.pends f l w x.1)
 
     revoked_does : (fresh : Bool) (k0 : ThreadView) → BeginsRevocation heap e b operation k0
-        → local_of k0 ≡ local_of k → k0.kept ≡ k.kept → k0.saved ≡ k.saved → k0.draws ≡ k.draws → k0.shots ≡ k.shots
-        → Does heap fresh (revoked_steps heap.shape k.thread k0.requesting e b) k0 Q
-    revoked_does fresh k0 begins local kept saved draws shots =
-        subst (λ z. Does heap fresh (revocation_steps heap.shape z k0.requesting e b >>= after) k0 Q) (ap (λ z. z.thread) local)
+        → KeepsOwn (own_of k) (own_of k0) → Does heap fresh (revoked_steps heap.shape k.thread k0.requesting e b) k0 Q
+    revoked_does fresh k0 begins own =
+        subst (λ z. Does heap fresh (revocation_steps heap.shape z k0.requesting e b >>= after) k0 Q) (ap (λ z. z.thread) own.local)
         (binds heap fresh (revocation_steps heap.shape k0.thread k0.requesting e b) after k0 Q (
         follows heap fresh _ k0 _ _ (revocation_does heap e b operation unfinished allowed object unchecks fresh k0 begins)
-        (λ f progress l x. after_does k0 local kept saved draws shots f progress l x)))
+        (λ f progress l x. after_does k0 own f progress l x)))
 
     -- WITHOUT A SAFEPOINT
     abbrev R : Bool → BiasTry → ThreadView → Type 0
@@ -172,11 +161,7 @@ module _ (heap : Heap) (e : CallContext) (b : Revocation) where
           (λ n i was h.
           let m = known_hit heap.shape heap.start exchange n l in
           answers heap false (Unbiased neutral) m R (answers heap false (Done tt) m Q (outs.unbiased m (record {
-            local = x.local;
-            kept = x.kept;
-            saved = x.saved;
-            draws = x.draws;
-            shots = x.shots;
+            own = x.own;
             runs = x.runs;
             unasks = x.unasks;
             still = x.still;
@@ -213,7 +198,7 @@ module _ (heap : Heap) (e : CallContext) (b : Revocation) where
             known = subst (λ z. Knows heap z.log o) (sym x.local) may.known;
             on_object = may.on_object;
             unwaiting = λ waits. ap (λ z. waits_on z.wait o) x.local ∙ may.unwaiting waits;
-          }) x.local x.kept x.saved x.draws x.shots))
+          }) x.own))
 
       neutral_plain : is_biased (mark_of (Neutral 0 0)) ≡ false
       neutral_plain = ap is_biased_form neutral_reads_so
@@ -249,16 +234,12 @@ module _ (heap : Heap) (e : CallContext) (b : Revocation) where
         → Does heap false (ask (load e (id.Prototype c)) >>= (λ prototype. bias_drop_by (epoch_in prototype) e o mark prototype)) l R
     prototype_does l mark c x unreached saw_mark saw_class alone there biased biasing =
         let look = load e (id.Prototype c) in
-        hitting heap false look _ l R (λ n. refl) (λ j. looks heap l look (look_prototype l e x.runs x.calm x.check (inl (sym x.mine)) c) (λ v. there)
-        (inl (sym x.mine)) tt)
+        hitting heap false look _ l R (λ n. refl) (λ j. looks_running heap l e Settled (id.Prototype c) refl x.runs (sym x.calm) x.check (inl (sym x.mine))
+        (λ v. there) (inl (sym x.mine)) tt)
         (λ prototype j was.
         let m = known_hit heap.shape heap.start look prototype l in
         by_does m c mark prototype (record {
-          local = x.local;
-          kept = x.kept;
-          saved = x.saved;
-          draws = x.draws;
-          shots = x.shots;
+          own = x.own;
           runs = x.runs;
           unasks = x.unasks;
           still = x.still;
@@ -278,23 +259,12 @@ module _ (heap : Heap) (e : CallContext) (b : Revocation) where
         let runs = begins.0 in
         let look = load e (id.Mark o) in
         let ask_class = load e (id.Class o) in
-        hitting heap true look _ k R (λ n. refl) (λ i. looks heap k look (look_mark heap k e runs may.begins.rest.calm may.check begins.1 o) (λ v. object)
-        may.begins.begins (λ free. may.known)) (λ mark i was.
+        hitting heap true look _ k R (λ n. refl) (λ i. looks_running heap k e Settled (id.Mark o) refl runs (sym may.begins.rest.calm) may.check begins.1
+        (λ v. object) may.begins.begins (λ free. may.known)) (λ mark i was.
         let l = known_hit heap.shape heap.start look mark k in
         let headers : SawHeaders l = headers_first heap look mark k refl i free refl in
-        chooses heap false (is_biased mark) _ _ l R
-        (λ yes.
-        let biasing = biasing_here heap k was.stands runs o (ap is_biased was.found ∙ yes) in
-        let unreached = unreached_here heap k was.stands runs in
-        let all = limits heap k was.stands in
-        let alone = mark_alone heap e o mark k i free in
-        class_does heap e Settled o (λ c. ask (load e (id.Prototype c)) >>= (λ prototype. bias_drop_by (epoch_in prototype) e o mark prototype)) l R
-        (λ declared. prototype_does l mark (class_in_shape heap.shape o) (record {
-          local = refl;
-          kept = refl;
-          saved = refl;
-          draws = refl;
-          shots = refl;
+        let looked : HasLooked k l = record {
+          own = same_own _;
           runs = runs;
           unasks = free;
           still = may.begins.carries.still;
@@ -302,17 +272,22 @@ module _ (heap : Heap) (e : CallContext) (b : Revocation) where
           check = refl;
           mine = refl;
           headers = headers;
-        }) unreached (saw_newest heap look mark k) (class_declared heap.shape l.seen o declared) alone (class_there heap.shape o all object) yes biasing)
-        (λ made j. looks heap l ask_class (look_class l e runs refl refl (inl refl) o) (λ v. made_there heap.shape o object made) (inl refl) tt)
+        } in
+        chooses heap false (is_biased mark) _ _ l R
+        (λ yes.
+        let biasing = biasing_here heap k was.stands runs o (ap is_biased was.found ∙ yes) in
+        let unreached = unreached_here heap k was.stands runs in
+        let all = limits heap k was.stands in
+        let alone = mark_alone heap e o mark k i free in
+        class_does heap e Settled o (λ c. ask (load e (id.Prototype c)) >>= (λ prototype. bias_drop_by (epoch_in prototype) e o mark prototype)) l R
+        (λ declared. prototype_does l mark (class_in_shape heap.shape o) looked unreached (saw_newest heap look mark k)
+        (class_declared heap.shape l.seen o declared) alone (class_there heap.shape o all object) yes biasing)
+        (λ made j. looks_running heap l e Settled (id.Class o) refl runs refl refl (inl refl) (λ v. made_there heap.shape o object made) (inl refl) tt)
         (λ made word j was1.
         let m = known_hit heap.shape heap.start ask_class word l in
         let some = class_some heap l was1.stands runs o mark word made (saw_newest heap look mark k) yes was1.found in
         prototype_does m mark (word - 1) (record {
-          local = refl;
-          kept = refl;
-          saved = refl;
-          draws = refl;
-          shots = refl;
+          own = same_own _;
           runs = runs;
           unasks = free;
           still = may.begins.carries.still;
@@ -324,20 +299,7 @@ module _ (heap : Heap) (e : CallContext) (b : Revocation) where
         (saw_older heap ask_class word l (id.Mark o) j refl refl ∙ saw_newest heap look mark k)
         (class_made heap.shape m.seen o (word - 1) made (saw_newest heap ask_class word l ∙ ap Some some))
         (class_more heap e o word l made j alone) (class_found heap.shape o word all object (found_formed heap l (id.Class o) word refl was1)) yes biasing))
-        (λ no. answers heap false (Unbiased mark) l R (answers heap false (Done tt) l Q (outs.unbiased l (record {
-          local = refl;
-          kept = refl;
-          saved = refl;
-          draws = refl;
-          shots = refl;
-          runs = runs;
-          unasks = free;
-          still = may.begins.carries.still;
-          calm = refl;
-          check = refl;
-          mine = refl;
-          headers = headers;
-        }) (mark, saw_newest heap look mark k, no)))))
+        (λ no. answers heap false (Unbiased mark) l R (answers heap false (Done tt) l Q (outs.unbiased l looked (mark, saw_newest heap look mark k, no)))))
 
     pub unbias_does : Does heap true (unbias_steps heap.shape e (start_of heap.start k) b) k Q
     unbias_does =
@@ -354,7 +316,7 @@ module _ (heap : Heap) (e : CallContext) (b : Revocation) where
           known = may.known;
           on_object = may.on_object;
           unwaiting = may.unwaiting;
-        }) refl refl refl refl refl))
+        }) (same_own _)))
         (λ free. binds heap true (bias_drop_steps heap.shape e o) (λ tried. unbias_tried tried heap.shape e (start_of heap.start k) b) k Q (dropped_does free))
 
 -- a call of such an operation, by its own conditions

@@ -12,8 +12,10 @@ use Rattle.core_world.specs.Words.Shape.{monitor_count}
 use Rattle.core_world.proofs.KnowledgeParts.{by_equal}
 use Rattle.core_law.specs.Logic.{Heap, Does}
 use Rattle.core_steps.specs.Deflated.{HasRevoked, MayDeflate, IsSettled, NamedAreInUse, GivenBackAreClean}
+use Rattle.core_steps.proofs.OwnParts.{same_own}
 use Rattle.core_steps.proofs.bias.AfterRevocations.{unrevoking_after, after_keeps}
-use Rattle.core_steps.proofs.deflation.Deflations.{Idles, Holding, AllSettled, settled_of, deflate_settles, deflate_leaves, deflate_cleans, deflate_ends}
+use Rattle.core_steps.proofs.deflation.DeflationLooks.{OneDeflation, Idles, Holding, AllSettled}
+use Rattle.core_steps.proofs.deflation.Deflations.{settled_of, deflate_settles, deflate_leaves, deflate_cleans, deflate_ends}
 use Rattle.core_steps.proofs.Trees.{answers, chooses, follows}
 
 module _ (heap : Heap) (e : CallContext) (k : ThreadView) (stage : Stage) (may : MayDeflate heap.shape k e stage) where
@@ -22,12 +24,15 @@ module _ (heap : Heap) (e : CallContext) (k : ThreadView) (stage : Stage) (may :
     pub settled : 0 < length heap.shape.objects → (m : ℕ) → m < monitor_count heap.shape → IsSettled heap l m
     pub clean : GivenBackAreClean heap k l
 
-  leaves_by : (st : Stage) (plain : revocation_in st ≡ None) (l : ThreadView) → Idles heap e k st plain l
-      → Holding heap e k st plain k l → AllSettled heap e k st plain l → Leaves l
+  abbrev made_at : (st : Stage) → revocation_in st ≡ None → OneDeflation
+  made_at st plain = record { heap = heap; call = e; before = k; stage = st; plain = plain }
+
+  leaves_by : (st : Stage) (plain : revocation_in st ≡ None) (l : ThreadView) → Idles (made_at st plain) l
+      → Holding heap.shape k l → AllSettled heap.shape l → Leaves l
   leaves_by st plain l x y z = record {
-    in_use = deflate_leaves heap e k st plain l x z;
-    settled = λ some m h. settled_of heap e k st plain l m x (z some m h);
-    clean = deflate_cleans heap e k st plain k l x y;
+    in_use = deflate_leaves (made_at st plain) l x z;
+    settled = λ some m h. settled_of (made_at st plain) l m x (z some m h);
+    clean = deflate_cleans (made_at st plain) k l x y;
   }
 
   -- in a heap without objects it makes no step
@@ -45,7 +50,7 @@ module _ (heap : Heap) (e : CallContext) (k : ThreadView) (stage : Stage) (may :
   after_does b a x some =
       let st = stage_after a.took b.object in
       let plain = unrevoking_after a.took b.object in
-      follows heap false _ k _ _ (deflate_ends heap e k st plain k some (record {
+      follows heap false _ k _ _ (deflate_ends (made_at st plain) k some (record {
         keeps = after_keeps heap k e b a x may.reached may.still may.check may.goes_on (id.Object 0) (λ there n. tt) (λ v. omega (arith, some));
         reached = may.reached;
         idles = λ n. record {
@@ -55,11 +60,7 @@ module _ (heap : Heap) (e : CallContext) (k : ThreadView) (stage : Stage) (may :
           check = refl;
           mine = refl;
           still = may.still;
-          local = refl;
-          kept = refl;
-          saved = refl;
-          draws = refl;
-          shots = refl;
+          own = same_own _;
         };
       })) (λ f u l y. leaves_by st plain l y.0 y.1 y.2)
 
@@ -67,18 +68,14 @@ module _ (heap : Heap) (e : CallContext) (k : ThreadView) (stage : Stage) (may :
   deflation_leaves = elim may.begins [
     | inl a ↦
         let plain : revocation_in stage ≡ None = ap revocation_in (sym a.1) ∙ a.0 in
-        follows heap false _ k _ _ (deflate_settles heap e k stage plain k (record {
+        follows heap false _ k _ _ (deflate_settles (made_at stage plain) k (record {
           reached = may.reached;
           stopped = may.stopped;
           stands = a.1;
           check = may.check;
           mine = may.goes_on;
           still = may.still;
-          local = refl;
-          kept = refl;
-          saved = refl;
-          draws = refl;
-          shots = refl;
+          own = same_own _;
         })) (λ f u l y. leaves_by stage plain l y.0 y.1 y.2)
     | inr a ↦ subst (λ st. Does heap false (deflate_steps heap.shape e st) k (λ f u l. Leaves l)) a.3
         (by_equal (length heap.shape.objects) 0 (λ none. without_objects (stage_after a.1.took a.0.object) none)

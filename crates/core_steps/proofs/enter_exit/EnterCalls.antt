@@ -43,7 +43,7 @@ use Rattle.core_steps.proofs.monitor.MonitorEnters.{monitor_enter_does}
 use Rattle.core_law.proofs.Places.{place_left}
 use Rattle.core_steps.proofs.safepoint.Requests.{asking_saw}
 use Rattle.core_steps.proofs.Resting.{live_carries}
-use Rattle.core_steps.proofs.bias.Revocations.{Revoked}
+use Rattle.core_steps.proofs.bias.RevocationEnds.{Revoked}
 use Rattle.core_steps.proofs.safepoint.SafeCalls.{closes}
 use Rattle.core_steps.proofs.enter_exit.StackEnters.{Taking, undumped_enter, stack_first_does, stack_again_does}
 use Rattle.core_steps.proofs.Tests.{both, refers, operates, asking_goes, free_runs, going_is, goes_on_or_begins}
@@ -170,7 +170,7 @@ module _ (heap : Heap) (e : CallContext) (s : Start) (b : Revocation) (enters : 
 
   -- after the revocation
   again_does : (k : ThreadView) → local_of k ≡ s.local → k.kept ≡ s.kept → (f : Bool) (progress : Progress Bool) (l : ThreadView)
-      → (f ≡ false) × Revoked heap e b k.thread k progress l → Does heap f (again progress) l Q
+      → (f ≡ false) × Revoked heap e b k progress l → Does heap f (again progress) l Q
   again_does k local kept f (Done took) l x =
       let same : local_of l ≡ s.local = x.1.local ∙ local in
       subst (λ z. Does heap z (again (Done took)) l Q) (sym x.0)

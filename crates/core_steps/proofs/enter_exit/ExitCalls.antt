@@ -24,15 +24,15 @@ use Rattle.core_locks.specs.LockLaws.{HasRaised}
 use Rattle.core_law.specs.Logic.{Heap, Does}
 use Rattle.core_law.specs.Sound.{Finishes}
 use Rattle.core_law.specs.Begins.{BeginsWell}
+use Rattle.core_steps.proofs.Looks.{looks_running}
 use Rattle.core_steps.proofs.Facts.{Untold, Unwaiting, out_here, ready_here}
-use Rattle.core_steps.proofs.LawRules.{looks, raises, leaves_rule}
+use Rattle.core_steps.proofs.LawRules.{raises, leaves_rule}
 use Rattle.core_steps.proofs.monitor.MonitorExits.{monitor_exit_does}
 use Rattle.core_law.proofs.Places.{top_here, few_here}
 use Rattle.core_steps.proofs.Resting.{unasking, rests, logged_carries}
 use Rattle.core_steps.proofs.safepoint.SafeCalls.{closes}
 use Rattle.core_steps.proofs.SeenSteps.{saw_newest, saw_older}
-use Rattle.core_steps.proofs.enter_exit.StackExits.{Leaving, leaving_begins, RaisedStamp, max_right, unwaiting_exit}
-use Rattle.core_steps.proofs.enter_exit.StackExits.{unentering_exit, look_mark, stack_exit_does}
+use Rattle.core_steps.proofs.enter_exit.StackExits.{Leaving, leaving_begins, RaisedStamp, max_right, unwaiting_exit, unentering_exit, stack_exit_does}
 use Rattle.core_steps.proofs.Tests.{both, some_named, asking_goes, free_runs, Operates, operates, nothing_goes, going_is, goes_on_or_begins, refers}
 use Rattle.core_steps.proofs.Trees.{answers, chooses, chooses_then, follows, binds, hitting}
 
@@ -90,7 +90,7 @@ module _ (heap : Heap) where
       (λ b r l. Does heap b (then_stack k e o r) l (λ b r l. AtRest heap.shape l))
   mark_does fresh k e o a calm goes check untold stamped =
       let look = load e (id.Mark o) in
-      hitting heap fresh look _ k _ (λ n. refl) (λ i. looks heap k look (look_mark heap k e a.runs calm check goes o) (λ v. a.object)
+      hitting heap fresh look _ k _ (λ n. refl) (λ i. looks_running heap k e Settled (id.Mark o) refl a.runs (sym calm) check goes (λ v. a.object)
       (leaving_begins heap k e o a goes) (λ free. a.known)) (λ mark i was.
       let l = known_hit heap.shape heap.start look mark k in
       chooses heap false (is_biased mark) (leave_steps e (local_of k) o >>= (λ u. done true))

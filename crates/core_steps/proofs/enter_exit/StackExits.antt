@@ -15,7 +15,6 @@ use Rattle.core_world.specs.declared.heap_call.Operation.TheVariants as op
 use Rattle.core_world.specs.declared.heap_call.HeapCall.TheVariants.{StackExit}
 use Rattle.core_world.specs.Words.Forms.{monitor_form, is_biased, hold_word}
 use Rattle.core_world.specs.Threads.ThreadView.{ThreadView, Local, Moving, Still, local_of, start_of, last_seen}
-use Rattle.core_world.specs.Looking.{IsLook}
 use Rattle.core_world.specs.Threads.AtRest.{AtRest}
 use Rattle.core_world.specs.Trees.Calls.{steps_of, may_begin, may_log_once}
 use Rattle.core_world.specs.Threads.References.{has_reference}
@@ -30,15 +29,15 @@ use Rattle.core_world.specs.Trees.Plans.{CallContext, call_context, load, top_pl
 use Rattle.core_world.specs.Steps.{known_hit}
 use Rattle.core_world.specs.Trees.StepTree.{done}
 use Rattle.core_world.proofs.KnowledgeParts.{by_equal}
-use Rattle.core_locks.proofs.LookOn.{may_look}
 use Rattle.core_locks.proofs.enter_exit.HoldWays.{saw_displaced}
 use Rattle.core_locks.specs.Knowing.{GoesOn, IsOut, SawInflated}
 use Rattle.core_law.specs.Logic.{Heap, SoundWorldWith, Does}
 use Rattle.core_law.specs.Sound.{Finishes}
 use Rattle.core_law.specs.Begins.{BeginsWell}
+use Rattle.core_steps.proofs.Looks.{looks_running}
 use Rattle.core_steps.proofs.FairSteps.{Begins, begins_its}
 use Rattle.core_steps.proofs.Trees.{answers, chooses, chooses_then, hitting, swapping}
-use Rattle.core_steps.proofs.LawRules.{looks, raises, leaves_rule, clears_rule, lets_go_rule}
+use Rattle.core_steps.proofs.LawRules.{raises, leaves_rule, clears_rule, lets_go_rule}
 use Rattle.core_law.proofs.Standing.{home, away, fits_here}
 use Rattle.core_steps.proofs.Facts.{Knows, Untold, Unwaiting, Unentering, out_here, ready_here, Unbiased}
 use Rattle.core_law.proofs.Places.{top_here, few_here}
@@ -183,30 +182,6 @@ module _ (heap : Heap) where
       }))
   exit_at_does Q (Some Marked) k e o header mark outs check sees r c a calm mine untold displaced nonzero stamped = absurd c
 
-  look_at : (k : ThreadView) (e : CallContext) → k.running ≡ true → k.stage ≡ Settled → e.check ≡ k.checking → GoesOn k e → (t p : ℕ)
-      → IsLook k (load e (id.Displaced t p))
-  look_at k e runs calm check goes t p = record {
-    act = refl;
-    note = refl;
-    own = refl;
-    stage = sym calm;
-    check = check;
-    after = goes;
-    may = may_look k (id.Displaced t p) (inl runs) (λ m is. absurd (cc is));
-  }
-
-  pub look_mark : (k : ThreadView) (e : CallContext) → k.running ≡ true → k.stage ≡ Settled
-      → e.check ≡ k.checking → GoesOn k e → (o : ℕ) → IsLook k (load e (id.Mark o))
-  look_mark k e runs calm check goes o = record {
-    act = refl;
-    note = refl;
-    own = refl;
-    stage = sym calm;
-    check = check;
-    after = goes;
-    may = may_look k (id.Mark o) (inl runs) (λ m is. absurd (cc is));
-  }
-
   -- the displaced word is still as it was seen
   covered_here : (k : ThreadView) (o header : ℕ) (v : SoundWorldWith heap k)
       → k.running ≡ true → k.stage ≡ Settled → Untold k → Unwaiting k → 1 ≤ hold_count o k.holds
@@ -250,7 +225,7 @@ module _ (heap : Heap) where
       let ld = load e (id.Displaced k.thread p) in
       let lm = load e (id.Mark o) in
       hitting heap fresh _ _ k _ (λ n. refl)
-      (λ i. looks heap k ld (look_at k e a.runs calm check goes k.thread p) (λ v. (v.within, (top_here heap k v a.runs o a.some).1))
+      (λ i. looks_running heap k e Settled (id.Displaced k.thread p) refl a.runs (sym calm) check goes (λ v. (v.within, (top_here heap k v a.runs o a.some).1))
       (leaving_begins heap k e o a goes) tt) (λ header i0 was0.
       let k1 = known_hit heap.shape heap.start ld header k in
       let saw : last_seen (id.Displaced k.thread p) k1.seen ≡ Some header = saw_newest heap ld header k in
@@ -281,7 +256,7 @@ module _ (heap : Heap) where
       (λ n i1 was1. answers heap false _ _ Q
       (outs.left _ (rests heap.shape _ refl a.unasks a.unchecks (logged_carries k.log _ k.wait _ a.still a.live refl untold)))))
       (λ not0. let nonzero : header ≢ 0 = λ e. absurd (cc (eq-eqb header 0 e, not0)) in
-      hitting heap false _ _ k1 _ (λ n. refl) (λ i1. looks heap k1 lm (look_mark k1 e a.runs refl refl (inl refl) o) (λ v. a.object)
+      hitting heap false _ _ k1 _ (λ n. refl) (λ i1. looks_running heap k1 e Settled (id.Mark o) refl a.runs refl refl (inl refl) (λ v. a.object)
       (inl refl) (λ free. a.known)) (λ mark i1 was1.
       let k2 = known_hit heap.shape heap.start lm mark k1 in
       let found : OnExit k.thread p (hold_count o k.holds) (read_mark mark) =

@@ -7,6 +7,7 @@ use Rattle.plain_monitor.specs.Objects.{PlainObject}
 use Rattle.plain_history.specs.Known.{news}
 use Rattle.plain_history.proofs.MadeSteps as history
 use Rattle.plain_history.proofs.StoreParts.{there_has_class}
+use Rattle.core_world.specs.declared.stage.Stage.TheVariants.{Settled}
 use Rattle.core_world.specs.declared.word_id.WordId.TheVariants as id
 use Rattle.core_world.specs.declared.heap_call.Operation.{Operation}
 use Rattle.core_world.specs.declared.heap_call.Operation.TheVariants as op
@@ -44,9 +45,9 @@ use Rattle.core_made.proofs.NextNumbers.{next_is_absent, one_maker}
 use Rattle.core_made.proofs.Numbers.{first_is_declared}
 use Rattle.core_made.proofs.Prototypes.{seen_prototype_first}
 use Rattle.core_made.proofs.Readings.{absent_is_untouched}
-use Rattle.core_steps.proofs.bias.BiasFacts.{look_prototype}
+use Rattle.core_steps.proofs.Looks.{looks_running}
 use Rattle.core_steps.proofs.Facts.{ready_here}
-use Rattle.core_steps.proofs.LawRules.{limits, runs_in_all, looks}
+use Rattle.core_steps.proofs.LawRules.{limits, runs_in_all}
 use Rattle.core_steps.proofs.Resting.{unasking, rests, logged_carries}
 use Rattle.core_steps.proofs.safepoint.SafeCalls.{closes}
 use Rattle.core_steps.proofs.SeenSteps.{saw_newest, saw_older}
@@ -164,7 +165,7 @@ module _ (heap : Heap) (c : ℕ) where
       let stores = class_plan (creating o c) o c in
       let ready = ready_here heap k v a.runs (nothing_goes k a.nothing) (nothing_enters k a.nothing) rest.untold a.live in
       hitting heap true look _ k _ (λ n. refl)
-      (λ i. looks heap k look (look_prototype k (lone_context (Create c)) a.runs rest.calm (sym a.unchecking) (inr a.nothing) c) (λ v. class)
+      (λ i. looks_running heap k (lone_context (Create c)) Settled (id.Prototype c) refl a.runs (sym rest.calm) (sym a.unchecking) (inr a.nothing) (λ v. class)
       (inl (sym a.nothing)) tt) (λ m i was.
       let k1 = known_hit heap.shape heap.start look m k in
       hitting heap false stores _ k1 _ (λ n. refl)

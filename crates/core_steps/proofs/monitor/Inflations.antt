@@ -17,7 +17,7 @@ use Rattle.core_world.specs.declared.word_id.WordId.TheVariants as id
 use Rattle.core_world.specs.declared.stage.Stage.{Stage}
 use Rattle.core_world.specs.declared.stage.Stage.TheVariants.{Settled, Inflates}
 use Rattle.core_world.specs.Words.Forms.{monitor_in, monitor_form, is_neutral, is_neutral_form, is_biased, is_biased_form}
-use Rattle.core_world.specs.Threads.ThreadView.{ThreadView, Still, local_of, last_seen}
+use Rattle.core_world.specs.Threads.ThreadView.{ThreadView, Local, Still, local_of, last_seen}
 use Rattle.core_world.specs.Locks.{marks}
 use Rattle.core_world.specs.Trees.MonitorSteps.{prepare_steps, inflate_locked, inflate_neutral, inflate_with, inflate_by, inflate_at, inflate_steps}
 use Rattle.core_world.specs.Trees.MonitorSteps.{claim_plan, fetch_plan, inflate_plan, name_neutral_plan, name_plan, prepare_plan}
@@ -29,16 +29,15 @@ use Rattle.core_world.specs.Clauses.WordForms.{IsMark, IsOwner}
 use Rattle.core_world.proofs.Naming.{same_named}
 use Rattle.core_world.specs.Threads.References.{HasReference}
 use Rattle.core_locks.specs.Knowing.{SawInflated}
-use Rattle.core_locks.proofs.LookOn.{may_look}
 use Rattle.core_locks.proofs.monitor.NamesLaws.{inflated_read}
 use Rattle.core_law.specs.Logic.{Heap, SoundWorldWith, Keeps, Does}
+use Rattle.core_steps.proofs.Looks.{looks_running}
 use Rattle.core_steps.proofs.Facts.{Unbiased, Knows}
 use Rattle.core_law.proofs.Standing.{fits_here, away}
-use Rattle.core_steps.proofs.LawRules.{looks}
 use Rattle.core_steps.proofs.monitor.MonitorRules.{claims_rule, fetches_rule, prepares_owner_rule, prepares_recursions_rule}
 use Rattle.core_steps.proofs.monitor.MonitorRules.{prepares_header_rule, prepares_object_rule, inflates_rule, names_rule, names_neutral_rule}
 use Rattle.core_steps.proofs.SeenSteps.{saw_newest, saw_any}
-use Rattle.core_steps.proofs.enter_exit.StackExits.{unbiased_here, look_mark}
+use Rattle.core_steps.proofs.enter_exit.StackExits.{unbiased_here}
 use Rattle.core_steps.proofs.Trees.{answers, binds, hitting, swapping}
 
 -- the word is of no monitor, so that no word of a monitor is it
@@ -48,6 +47,27 @@ apart n at m none some = cases (same_name n at) refl
     cases : (b : Bool) → same_name n at ≡ b → same_name n at ≡ false
     cases true e = let same = ap its_monitor (same_named n at e) in absurd (cc (same, none, some))
     cases false e = e
+
+-- the parts of its knowledge that the steps of an inflation leave
+pub record Parts : Type 0 where
+  pub local : Local
+  pub running : Bool
+  pub requesting : Bool
+  pub saved : ℕ
+  pub draws : ℕ
+
+abbrev parts_of : ThreadView → Parts
+parts_of k = record { local = local_of k; running = k.running; requesting = k.requesting; saved = k.saved; draws = k.draws }
+
+pub record Left (before after : Parts) : Type 0 where
+  pub local : after.local ≡ before.local
+  pub running : after.running ≡ before.running
+  pub requesting : after.requesting ≡ before.requesting
+  pub saved : after.saved ≡ before.saved
+  pub draws : after.draws ≡ before.draws
+
+left_as_is : (a : Parts) → Left a a
+left_as_is a = record { local = refl; running = refl; requesting = refl; saved = refl; draws = refl }
 
 module _ (heap : Heap) (e : CallContext) (o : ℕ) where
   -- what the thread counts on all the way
@@ -67,14 +87,11 @@ module _ (heap : Heap) (e : CallContext) (o : ℕ) where
   abbrev pub Unseen : ThreadView → Type 0
   Unseen k = (u p : ℕ) → (last_seen (id.Displaced u p) k.seen ≡ None) ⊎ (u ≡ k.thread)
 
-  -- the parts that the steps leave; after them it has nothing in hand of the ring
+  -- the steps leave those parts; after them the thread has nothing in hand of the ring
   pub record Apart (k l : ThreadView) : Type 0 where
-    pub local : local_of l ≡ local_of k
-    pub running : l.running ≡ k.running
-    pub requesting : l.requesting ≡ k.requesting
+    pub left : Left (parts_of k) (parts_of l)
+    pub open left use *
     pub still : l.moving ≡ Still
-    pub saved : l.saved ≡ k.saved
-    pub draws : l.draws ≡ k.draws
     pub mine : l.unfinished ≡ e.unfinished
     pub check : e.check ≡ l.checking
 
@@ -158,7 +175,7 @@ module _ (heap : Heap) (e : CallContext) (o : ℕ) where
         object = record { within = x.object; known = x.known };
       }) (inl refl)) (λ n3 i3 was3.
       answers heap false _ _ _ (then_so (with_object m header owner k stage n0 n1 n2 n3)
-      (record { local = refl; running = refl; requesting = refl; still = x.still; saved = refl; draws = refl; mine = refl; check = refl }) kept refl
+      (record { left = left_as_is _; still = x.still; mine = refl; check = refl }) kept refl
       (prepared m header owner k stage n0 n1 n2 n3 i0 i1 i2 i3 none))))))
 
   -- what follows: the monitor is found, or made; or the inflation goes on in another call
@@ -175,12 +192,14 @@ module _ (heap : Heap) (e : CallContext) (o : ℕ) where
     where
       then_apart : (y : ThreadView) → Apart l y → Apart k y
       then_apart y b = record {
-        local = b.local ∙ a.local;
-        running = b.running ∙ a.running;
-        requesting = b.requesting ∙ a.requesting;
+        left = record {
+          local = b.local ∙ a.local;
+          running = b.running ∙ a.running;
+          requesting = b.requesting ∙ a.requesting;
+          saved = b.saved ∙ a.saved;
+          draws = b.draws ∙ a.draws;
+        };
         still = b.still;
-        saved = b.saved ∙ a.saved;
-        draws = b.draws ∙ a.draws;
         mine = b.mine;
         check = b.check;
       }
@@ -213,32 +232,14 @@ module _ (heap : Heap) (e : CallContext) (o : ℕ) where
       (λ n i was h.
       let y = known_hit heap.shape heap.start exchange n l in
       answers heap false (Done m) y Q (
-      outs.found y m (record {
-        local = a.local;
-        running = a.running;
-        requesting = a.requesting;
-        still = a.still;
-        saved = a.saved;
-        draws = a.draws;
-        mine = refl;
-        check = refl;
-      }) refl (
+      outs.found y m (record { left = a.left; still = a.still; mine = refl; check = refl }) refl (
         cond (n == mark) (mark_of (Inflated m)) n,
         saw_newest heap exchange n l,
         ap (λ (b : Bool). monitor_in (cond b (mark_of (Inflated m)) n)) (eq-eqb n mark h) ∙ reads_kept l m was.stands (a.running ∙ x.runs) kept_l,
       )
       (λ b r saw. ready.none b r (sym (saw_any heap exchange n l (id.Recursions b) i refl) ∙ saw))))
       (λ n i was h. answers heap false _ _ Q (
-      outs.pends _ _ (record {
-        local = a.local;
-        running = a.running;
-        requesting = a.requesting;
-        still = a.still;
-        saved = a.saved;
-        draws = a.draws;
-        mine = a.mine;
-        check = a.check;
-      }) calm_l))))
+      outs.pends _ _ (record { left = a.left; still = a.still; mine = a.mine; check = a.check }) calm_l))))
 
   -- LOCKED: the mark is exchanged for 0, and the record's displaced word becomes the header
   locked_does : (m mark u p : ℕ) (k : ThreadView) (Q : Bool → Progress ℕ → ThreadView → Type 0)
@@ -256,15 +257,8 @@ module _ (heap : Heap) (e : CallContext) (o : ℕ) where
       (λ v. record { runs = x.runs; calm = calm; locked = reads; unseen = unseen u p; goes_on = inl (sym x.mine) }) (inl (sym x.mine)))
       (λ n i was h.
       let k1 = known_hit heap.shape heap.start out n k in
-      hitting heap false look _ k1 Q (λ n. refl) (λ j. looks heap k1 look (record {
-        act = refl;
-        note = refl;
-        own = refl;
-        stage = refl;
-        check = refl;
-        after = inl refl;
-        may = may_look k1 (id.Displaced u p) (inl x.runs) (λ a is. absurd (cc is));
-      }) (λ v. (within, small.0.1)) (inl refl) tt) (λ header j was1.
+      hitting heap false look _ k1 Q (λ n. refl) (λ j. looks_running heap k1 e _ (id.Displaced u p) refl x.runs refl refl (inl refl)
+      (λ v. (within, small.0.1)) (inl refl) tt) (λ header j was1.
       let k2 = known_hit heap.shape heap.start look header k1 in
       binds heap false (prepare_steps e (Inflates o u p) o m header (owner_of (ByRecord u p))) (λ z. ask name_it >>= (λ n. done_with m)) k2 Q (
       prepare_does (Inflates o u p) m header (owner_of (ByRecord u p)) k2 _ (record {
@@ -291,29 +285,11 @@ module _ (heap : Heap) (e : CallContext) (o : ℕ) where
       (λ n3 i3 was3.
       let y = known_hit heap.shape heap.start name_it n3 l in
       answers heap false (Done m) y Q (
-      outs.found y m (record {
-        local = a.local;
-        running = a.running;
-        requesting = a.requesting;
-        still = a.still;
-        saved = a.saved;
-        draws = a.draws;
-        mine = refl;
-        check = refl;
-      }) refl
+      outs.found y m (record { left = a.left; still = a.still; mine = refl; check = refl }) refl
       (mark_of (Inflated m), saw_newest heap name_it n3 l, reads_kept l m was3.stands (a.running ∙ x.runs) kept_l)
       (λ b r saw. ready.none b r (sym (saw_any heap name_it n3 l (id.Recursions b) i3 refl) ∙ saw))))))))
       (λ n i was h. answers heap false _ _ Q (
-      outs.pends _ _ (record {
-        local = refl;
-        running = refl;
-        requesting = refl;
-        still = x.still;
-        saved = refl;
-        draws = refl;
-        mine = x.mine;
-        check = x.check;
-      }) calm))
+      outs.pends _ _ (record { left = left_as_is _; still = x.still; mine = x.mine; check = x.check }) calm))
 
   -- BY THE FORM of a mark with no bias pattern
   module _ (mark : ℕ) (k : ThreadView) (Q : Bool → Progress ℕ → ThreadView → Type 0) (outs : FindsMonitor k Q)
@@ -350,16 +326,7 @@ module _ (heap : Heap) (e : CallContext) (o : ℕ) where
       (λ v. record { runs = x.runs; calm = refl; claimed = refl; goes_on = inl refl }) (inl refl)) (λ m j was1.
       let l = known_hit heap.shape heap.start fetch m k1 in
       subst (λ z. Does heap false (inflate_with z e o mark m) l Q) (sym reads)
-      (with_does mark l Q (from_there k l Q (record {
-        local = refl;
-        running = refl;
-        requesting = refl;
-        still = refl;
-        saved = refl;
-        draws = refl;
-        mine = refl;
-        check = refl;
-      }) outs)
+      (with_does mark l Q (from_there k l Q (record { left = left_as_is _; still = refl; mine = refl; check = refl }) outs)
       (record { runs = x.runs; still = refl; object = x.object; known = x.known; mine = refl; check = refl }) refl
       (λ b r saw. none b r (sym (saw_any heap fetch m k1 (id.Recursions b) j refl ∙ saw_any heap claim position k (id.Recursions b) i refl) ∙ saw))
       (λ u p. subst (λ z. (z ≡ None) ⊎ (u ≡ k.thread))
@@ -371,28 +338,11 @@ module _ (heap : Heap) (e : CallContext) (o : ℕ) where
       → last_seen (id.Mark o) k.seen ≡ Some mark → read_mark mark ≡ f → IsMark heap.shape f
       → is_biased_form f ≡ false → k.kept ≡ kept → Does heap false (inflate_at f heap.shape e kept o mark) k Q
   at_does kept mark (Some Inflating) k Q outs x calm none unseen sees reads form plain same =
-      answers heap false (Pending why.Inflating) k Q (outs.pends k why.Inflating (record {
-        local = refl;
-        running = refl;
-        requesting = refl;
-        still = x.still;
-        saved = refl;
-        draws = refl;
-        mine = x.mine;
-        check = x.check;
-      }) calm)
+      answers heap false (Pending why.Inflating) k Q (
+      outs.pends k why.Inflating (record { left = left_as_is _; still = x.still; mine = x.mine; check = x.check }) calm)
   at_does kept mark (Some (Inflated m)) k Q outs x calm none unseen sees reads form plain same =
       answers heap false (Done m) k Q (
-      outs.found k m (record {
-        local = refl;
-        running = refl;
-        requesting = refl;
-        still = x.still;
-        saved = refl;
-        draws = refl;
-        mine = x.mine;
-        check = x.check;
-      }) calm (mark, sees, ap monitor_form reads) none)
+      outs.found k m (record { left = left_as_is _; still = x.still; mine = x.mine; check = x.check }) calm (mark, sees, ap monitor_form reads) none)
   at_does kept mark None k Q outs x calm none unseen sees reads form plain same = absurd form
   at_does kept mark (Some (Neutral hash age)) k Q outs x calm none unseen sees reads form plain same =
       by_does kept mark (Some (Neutral hash age)) k Q outs x calm none unseen reads form plain refl (λ z. cc z) same
@@ -415,19 +365,10 @@ module _ (heap : Heap) (e : CallContext) (o : ℕ) where
       → Does heap false (inflate_steps heap.shape e kept o) k Q
   inflate_does kept k Q outs x calm none unseen unbiased same =
       let look = load e (id.Mark o) in
-      hitting heap false look _ k Q (λ n. refl) (λ i. looks heap k look (look_mark heap k e x.runs calm x.check (inl (sym x.mine)) o) (λ v. x.object)
-      (inl (sym x.mine)) (λ free. x.known)) (λ mark i was.
+      hitting heap false look _ k Q (λ n. refl) (λ i. looks_running heap k e Settled (id.Mark o) refl x.runs (sym calm) x.check (inl (sym x.mine))
+      (λ v. x.object) (inl (sym x.mine)) (λ free. x.known)) (λ mark i was.
       let l = known_hit heap.shape heap.start look mark k in
-      at_does kept mark (read_mark mark) l Q (from_there k l Q (record {
-        local = refl;
-        running = refl;
-        requesting = refl;
-        still = x.still;
-        saved = refl;
-        draws = refl;
-        mine = refl;
-        check = refl;
-      }) outs)
+      at_does kept mark (read_mark mark) l Q (from_there k l Q (record { left = left_as_is _; still = x.still; mine = refl; check = refl }) outs)
       (record { runs = x.runs; still = x.still; object = x.object; known = x.known; mine = refl; check = refl }) refl
       (λ b r saw. none b r (sym (saw_any heap look mark k (id.Recursions b) i refl) ∙ saw))
       (λ u p. subst (λ z. (z ≡ None) ⊎ (u ≡ k.thread)) (sym (saw_any heap look mark k (id.Displaced u p) i refl)) (unseen u p))

@@ -31,7 +31,8 @@ use Rattle.core_law.specs.Sound.{Finishes}
 use Rattle.core_law.specs.Begins.{BeginsWell}
 use Rattle.core_world.specs.declared.stage.Stage.TheVariants.{Settled}
 use Rattle.core_world.specs.Trees.DeflateSteps.{deflate_steps}
-use Rattle.core_steps.proofs.deflation.Deflations.{deflate_does, still_carries}
+use Rattle.core_steps.proofs.OwnParts.{still_carries, same_own}
+use Rattle.core_steps.proofs.deflation.Deflations.{deflate_does}
 use Rattle.core_steps.proofs.LawRules.{releases, halts}
 use Rattle.core_steps.proofs.safepoint.SafepointLooks.{Reaches, keeps_look, Facts, each_does, going}
 use Rattle.core_law.proofs.SafepointSights.{Seeing, seeing_all, is_as_seen, fits_reached, saw_there, still_seen, found_formed}
@@ -207,18 +208,14 @@ module _ (heap : Heap) (e : CallContext) (me : ℕ) (checks : e.check ≡ true) 
       → Does heap false (deflated still) k (λ b r l. AtRest heap.shape l)
   deflating_does still k r stuck =
       going heap (deflate_steps heap.shape e Settled) (λ u. check_ending still e me) k _ (
-      follows heap false _ k _ _ (deflate_does heap e k Settled refl k (record {
+      follows heap false _ k _ _ (deflate_does (record { heap = heap; call = e; before = k; stage = Settled; plain = refl }) k (record {
         reached = r.reached;
         stopped = r.stopped;
         stands = r.calm;
         check = r.check;
         mine = r.mine;
         still = r.carries.still;
-        local = refl;
-        kept = refl;
-        saved = refl;
-        draws = refl;
-        shots = refl;
+        own = same_own _;
       })) (λ b u l x.
       let y = x.0 in
       let now : Reaches me l e = record {
@@ -229,7 +226,7 @@ module _ (heap : Heap) (e : CallContext) (me : ℕ) (checks : e.check ≡ true) 
         check = y.check;
         mine = y.mine;
         live = ap (λ z. ends z.log) y.local ∙ r.live;
-        carries = still_carries heap e k Settled refl l y r.carries;
+        carries = still_carries k l y.own (r.carries.still ∙ sym y.still) r.carries;
       } in
       subst (λ t. Does heap false (check_ending still e t) l (λ b r l. AtRest heap.shape l)) now.number
       (ending_does still l now (λ yes t h. x.1.held t h (stuck yes t h)))))

@@ -9,7 +9,7 @@ use Rattle.core_world.specs.declared.word_id.WordId.TheVariants as id
 use Rattle.core_world.specs.declared.stage.Stage.TheVariants.{Settled}
 use Rattle.core_world.specs.Threads.AtRest.{AtRest}
 use Rattle.core_world.specs.Words.Forms.{asks_in, runs_in, is_still}
-use Rattle.core_world.specs.Threads.ThreadView.{ThreadView, StepMade, local_of, last_seen}
+use Rattle.core_world.specs.Threads.ThreadView.{ThreadView, StepMade, last_seen}
 use Rattle.core_world.specs.Trees.Plans.{CallContext, load, done_with, pending_for}
 use Rattle.core_world.specs.Clauses.Safepoints.{ends}
 use Rattle.core_world.specs.Trees.SafepointSteps.{has_requester, requested_by, request_plan, request_steps, reached_steps, then_reached, safepoint_steps}
@@ -18,6 +18,7 @@ use Rattle.core_world.specs.Steps.{is_idle, known_hit, seen_before, only_headers
 use Rattle.core_locks.specs.Knowing.{GoesOn}
 use Rattle.core_law.specs.Logic.{Heap, Does}
 use Rattle.core_steps.proofs.LawRules.{looks, requests}
+use Rattle.core_steps.proofs.OwnParts.{KeepsOwn, own_of, same_own}
 use Rattle.core_steps.proofs.Resting.{Carries, unasking, unchecking, rests}
 use Rattle.core_steps.proofs.FairSteps.{Begins}
 use Rattle.core_steps.proofs.safepoint.SafeCalls.{look_safe}
@@ -42,11 +43,8 @@ module _ (heap : Heap) (e : CallContext) (me : ℕ) where
   -- The parts that the steps up to there leave, and what the thread has seen of marks, prototypes and class words: what it had seen before, by what a step of
   -- the call keeps of that. They are on the safepoint word alone.
   pub record Since (k l : ThreadView) : Type 0 where
-    pub local : local_of l ≡ local_of k
-    pub shots : l.shots ≡ k.shots
-    pub kept : l.kept ≡ k.kept
-    pub saved : l.saved ≡ k.saved
-    pub draws : l.draws ≡ k.draws
+    pub own : KeepsOwn (own_of k) (own_of l)
+    pub open own use *
     pub mark : (o : ℕ) → last_seen (id.Mark o) l.seen ≡ last_seen (id.Mark o) (seen_before heap.shape k)
     pub prototype : (c : ℕ) → last_seen (id.Prototype c) l.seen ≡ last_seen (id.Prototype c) (seen_before heap.shape k)
     pub class : (o : ℕ) → last_seen (id.Class o) l.seen ≡ last_seen (id.Class o) (seen_before heap.shape k)
@@ -102,11 +100,7 @@ module _ (heap : Heap) (e : CallContext) (me : ℕ) where
         (λ i. looks heap k (load e id.Safepoint) (look_safe k e a.calm a.check (inl a.mine)) (λ v. tt) (inl a.mine) tt) (λ word i was.
         let l = known_hit heap.shape heap.start (load e id.Safepoint) word k in
         let now : Since k0 l = record {
-          local = since.local;
-          shots = since.shots;
-          kept = since.kept;
-          saved = since.saved;
-          draws = since.draws;
+          own = since.own;
           mark = λ o. ap (last_seen (id.Mark o)) (asking_saw k a.asks) ∙ since.mark o;
           prototype = λ c. ap (last_seen (id.Prototype c)) (asking_saw k a.asks) ∙ since.prototype c;
           class = λ o. ap (last_seen (id.Class o)) (asking_saw k a.asks) ∙ since.class o;
@@ -193,11 +187,7 @@ module _ (heap : Heap) (e : CallContext) (me : ℕ) where
               carries = may.carries;
             },
             record {
-              local = refl;
-              shots = refl;
-              kept = refl;
-              saved = refl;
-              draws = refl;
+              own = same_own _;
               mark = λ o. ap (last_seen (id.Mark o)) kept;
               prototype = λ c. ap (last_seen (id.Prototype c)) kept;
               class = λ o. ap (last_seen (id.Class o)) kept;
@@ -239,11 +229,7 @@ module _ (heap : Heap) (e : CallContext) (me : ℕ) where
           carries = may.carries;
         })
         (record {
-          local = refl;
-          shots = refl;
-          kept = refl;
-          saved = refl;
-          draws = refl;
+          own = same_own _;
           mark = λ o. ap (last_seen (id.Mark o)) (sym saw);
           prototype = λ c. ap (last_seen (id.Prototype c)) (sym saw);
           class = λ o. ap (last_seen (id.Class o)) (sym saw);

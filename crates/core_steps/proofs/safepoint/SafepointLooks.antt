@@ -1,5 +1,5 @@
 -- A thread that looks at words of the heap at its reached safepoint; and a loop over threads.
-use Rattle.std.proofs.Common.{◌≡◌, ℕ, zero, suc, ◌+◌, ◌||◌, Bool, true, false, cond, List, [], ◌∷◌, refl, sym, ap, inl, ◌<◌, ◌≤◌, arith}
+use Rattle.std.proofs.Common.{◌≡◌, ℕ, zero, suc, ◌+◌, ◌||◌, Bool, true, false, cond, List, [], ◌∷◌, refl, sym, ap, ◌<◌, ◌≤◌, arith}
 use Rattle.core_world.specs.declared.act.Act.TheVariants.{Load}
 use Rattle.core_world.specs.declared.word_id.WordId.{WordId}
 use Rattle.core_world.specs.declared.word_id.WordId.TheVariants as id
@@ -8,12 +8,11 @@ use Rattle.core_world.specs.Threads.ThreadView.{ThreadView}
 use Rattle.core_world.specs.Trees.Plans.{CallContext, load}
 use Rattle.core_world.specs.Clauses.Safepoints.{ends}
 use Rattle.core_world.specs.Trees.StepTree.{StepTree, done, unreachable, step, each_from, ◌>>=◌}
+use Rattle.core_steps.proofs.Looks.{looks_standing}
 use Rattle.core_steps.proofs.Resting.{Carries}
 use Rattle.core_world.specs.Steps.{seen_at_safepoint_before}
 use Rattle.core_world.specs.There.{IsIn}
 use Rattle.core_law.specs.Logic.{Heap, SoundWorldWith, Keeps, Does}
-use Rattle.core_steps.proofs.FairLooks.{sees_reached}
-use Rattle.core_steps.proofs.LawRules.{looks}
 use Rattle.core_law.proofs.SafepointSights.{Seeing, seeing_all, seeing_itself}
 use Rattle.core_steps.proofs.Trees.{answers, follows}
 
@@ -41,15 +40,7 @@ module _ (heap : Heap) where
   -- a load there
   pub keeps_look : (me : ℕ) (e : CallContext) (at : WordId) (k : ThreadView)
       → Reaches me k e → (SoundWorldWith heap k → IsIn heap.shape at) → Keeps heap (load e at) k
-  keeps_look me e at k r there = looks heap k (load e at) (record {
-    act = refl;
-    note = refl;
-    own = refl;
-    stage = sym r.calm;
-    check = r.check;
-    after = inl r.mine;
-    may = record { outside = λ a b. let c = r.reached in absurd (cc (b, c)); found = λ a m is. let c = r.stopped in absurd (cc (a, c)) };
-  }) there (inl r.mine) (sees_reached heap.shape k at r.reached)
+  keeps_look me e at k r there = looks_standing heap k e Settled at r.reached r.stopped (sym r.calm) r.check r.mine there
 
   -- where the first is to go on with the same flag
   pub going : {A B : Type 0} (d : StepTree A) (g : A → StepTree B) (k : ThreadView) (R : Bool → B → ThreadView → Type 0)

@@ -21,7 +21,7 @@ use Rattle.core_world.specs.declared.heap_call.HeapCall.TheVariants.{Dump}
 use Rattle.core_world.specs.declared.heap_call.Unfinished.{Unfinished}
 use Rattle.core_world.specs.Threads.AtRest.{AtRest, MayAsk}
 use Rattle.core_world.specs.Trees.Calls.{steps_of, may_begin}
-use Rattle.core_world.specs.Words.Forms.{epoch_in, runs_in}
+use Rattle.core_world.specs.Words.Forms.{epoch_in, runs_in, says_notified}
 use Rattle.core_world.specs.Threads.ThreadView.{ThreadView, Local, Still, DumpShot, local_of, start_of}
 use Rattle.core_world.specs.Clauses.Lengths.{log_limit}
 use Rattle.core_world.specs.Locks.{has_epoch}
@@ -48,10 +48,10 @@ use Rattle.core_world.proofs.There.{IsFormed, class_there}
 use Rattle.core_law.specs.Logic.{Heap, SoundWorldWith, Does}
 use Rattle.core_law.specs.Sound.{Finishes}
 use Rattle.core_law.specs.Begins.{BeginsWell}
+use Rattle.core_steps.proofs.OwnParts.{same_own}
 use Rattle.core_steps.proofs.Facts.{Untold, ready_here}
 use Rattle.core_law.proofs.Standing.{fits_here, home, valid_here, few_threads, inside}
 use Rattle.core_world.specs.Trees.DeflateSteps.{deflate_steps}
-use Rattle.core_world.specs.Words.Forms.{says_notified}
 use Rattle.core_steps.proofs.ClassSteps.{made_there, class_found}
 use Rattle.core_steps.proofs.deflation.Deflations.{deflate_does}
 use Rattle.core_made.proofs.ShotTaken.{shot_keeps}
@@ -261,18 +261,14 @@ module _ (heap : Heap) (me : ℕ) (here : Local) (shots : List DumpShot)
       → Does heap false deflated k (λ b r l. AtRest heap.shape l)
   deflating_does k shot r stopped check =
       going heap (deflate_steps heap.shape dump_errand Settled) (λ u. released) k _ (
-      follows heap false _ k _ _ (deflate_does heap dump_errand k Settled refl k (record {
+      follows heap false _ k _ _ (deflate_does (record { heap = heap; call = dump_errand; before = k; stage = Settled; plain = refl }) k (record {
         reached = r.reached;
         stopped = stopped;
         stands = r.calm;
         check = check;
         mine = r.mine;
         still = r.still;
-        local = refl;
-        kept = refl;
-        saved = refl;
-        draws = refl;
-        shots = refl;
+        own = same_own _;
       })) (λ b u l x.
       let y = x.0 in
       ending_does l shot (record {

@@ -33,15 +33,15 @@ use Rattle.bias_law.specs.Steps.{SawUnbiased}
 use Rattle.core_law.specs.Logic.{Heap, SoundWorldWith, Does}
 use Rattle.core_law.specs.Sound.{Finishes}
 use Rattle.core_law.specs.Begins.{BeginsWell}
+use Rattle.core_steps.proofs.Looks.{looks_running}
 use Rattle.core_steps.proofs.enter_exit.ExitFacts.{unopen}
 use Rattle.core_steps.proofs.Facts.{Knows}
 use Rattle.core_law.proofs.Standing.{fits_here, away}
 use Rattle.core_steps.proofs.monitor.Inflations.{form_found}
-use Rattle.core_steps.proofs.LawRules.{looks}
 use Rattle.core_steps.proofs.safepoint.SafeCalls.{closes}
 use Rattle.core_steps.proofs.safepoint.SafepointLooks.{going}
 use Rattle.core_steps.proofs.SeenSteps.{saw_newest}
-use Rattle.core_steps.proofs.enter_exit.StackExits.{unbiased_here, look_mark}
+use Rattle.core_steps.proofs.enter_exit.StackExits.{unbiased_here}
 use Rattle.core_steps.proofs.wait.Tellings.{IsTelling, telling_of, Telling, telling_ready, telling_rests}
 use Rattle.core_steps.proofs.wait.Tellings.{publishes_does, monitor_notify_does, monitor_notify_all_does}
 use Rattle.core_steps.proofs.Tests.{both, some_named, operates, refers}
@@ -170,9 +170,8 @@ module _ (heap : Heap) (k : ThreadView) (o now : ℕ) (rest : AtRest heap.shape 
               telling = telling;
               unbiased = bare;
             } in
-            hitting heap false look _ l _ (λ n. refl) (λ i. looks heap l look (look_mark heap l e x.runs x.calm x.check
-            (inl (sym x.mine)) o) (λ v. reference.within)
-            (inl (sym x.mine)) (λ free. tells.known)) (λ mark i was.
+            hitting heap false look _ l _ (λ n. refl) (λ i. looks_running heap l e Settled (id.Mark o) refl x.runs (sym x.calm) x.check (inl (sym x.mine))
+            (λ v. reference.within) (inl (sym x.mine)) (λ free. tells.known)) (λ mark i was.
             then_so (known_hit heap.shape heap.start look mark l) mark x.local (finds heap e o l tells x.calm bare mark was.stands was.found));
         pends = λ f l w x. answers heap f _ l _ x;
       }))

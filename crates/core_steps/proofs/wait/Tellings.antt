@@ -16,7 +16,6 @@ use Rattle.core_world.specs.Words.Forms.{waits_form, says_notified}
 use Rattle.core_world.specs.Threads.ThreadView.{ThreadView, Still, local_of, last_seen}
 use Rattle.core_world.specs.Clauses.Lengths.{log_limit}
 use Rattle.core_world.specs.Locks.{hold_count}
-use Rattle.core_world.specs.Looking.{IsLook}
 use Rattle.core_world.specs.Trees.Operations.{same_op}
 use Rattle.core_world.specs.Trees.Plans.{CallContext, load}
 use Rattle.core_world.specs.Clauses.Safepoints.{IsUnfinished, ends, is_ending}
@@ -28,18 +27,18 @@ use Rattle.core_world.specs.Trees.WaitSteps.{notify_listed, monitor_notify_steps
 use Rattle.core_locks.specs.JournalLaws.{MayTell, SawNobody}
 use Rattle.core_locks.specs.Knowing.{IsOwnEntry}
 use Rattle.core_locks.specs.WakeLaws.{HasNotified, MayWake}
-use Rattle.core_locks.proofs.LookOn.{may_look}
 use Rattle.core_locks.proofs.WaitOut.{fails}
 use Rattle.core_locks.proofs.wait.WakeOrder.{Remain, all_remain, oldest_seen, no_other_seen, others_remain}
 use Rattle.core_locks.proofs.wait.Wakes.{other}
 use Rattle.bias_law.specs.Steps.{SawUnbiased, SawNone}
 use Rattle.core_law.specs.Logic.{Heap, SoundWorldWith, Does}
+use Rattle.core_steps.proofs.Looks.{looks_running}
 use Rattle.core_steps.proofs.Facts.{Untold, limits_here, ready_here, Knows}
 use Rattle.core_law.proofs.Standing.{fits_here, away, inside}
 use Rattle.std.specs.List.{AllByRecursion}
 use Rattle.plain_monitor.specs.Made.{hands_on}
 use Rattle.core_steps.proofs.FairSteps.{KnowsBy}
-use Rattle.core_steps.proofs.LawRules.{looks, publishes}
+use Rattle.core_steps.proofs.LawRules.{publishes}
 use Rattle.core_steps.proofs.Resting.{rests, live_carries, logged_carries}
 use Rattle.core_steps.proofs.safepoint.SafepointLooks.{going}
 use Rattle.core_steps.proofs.SeenSteps.{saw_newest, saw_any, saw_older}
@@ -101,17 +100,6 @@ module _ (heap : Heap) (e : CallContext) (o : ℕ) where
     pub saw : (z : ℕ) → z < n → last_seen (id.Waiting (i + z)) l.seen ≡ Some (slice_index words z)
     pub others : (u : ℕ) → u < i → last_seen (id.Waiting u) l.seen ≡ last_seen (id.Waiting u) k.seen
 
-  look_waiting : (k : ThreadView) → Telling k → k.stage ≡ Settled → (u : ℕ) → IsLook k (load e (id.Waiting u))
-  look_waiting k x calm u = record {
-    act = refl;
-    note = refl;
-    own = refl;
-    stage = sym calm;
-    check = x.check;
-    after = inl (sym x.mine);
-    may = may_look k (id.Waiting u) (inl x.runs) (λ m is. absurd (cc is));
-  }
-
   looks_do : (n i : ℕ) (k : ThreadView) → i + n ≤ heap.shape.threads → Telling k → k.stage ≡ Settled
       → Does heap false (each_from i n (λ t. ask (load e (id.Waiting t)))) k (λ b words l. Looked i n words k l)
   looks_do zero i k many x calm = answers heap false [] k _ (record {
@@ -124,8 +112,8 @@ module _ (heap : Heap) (e : CallContext) (o : ℕ) where
   })
   looks_do (suc n) i k many x calm =
       let look = load e (id.Waiting i) in
-      hitting heap false look _ k _ (λ n. refl) (λ j. looks heap k look (look_waiting k x calm i) (λ v. omega (arith, many))
-      (inl (sym x.mine)) tt) (λ word j was.
+      hitting heap false look _ k _ (λ n. refl) (λ j. looks_running heap k e Settled (id.Waiting i) refl x.runs (sym calm) x.check (inl (sym x.mine))
+      (λ v. omega (arith, many)) (inl (sym x.mine)) tt) (λ word j was.
       let l = known_hit heap.shape heap.start look word k in
       let y : Telling l = record {
         runs = x.runs;

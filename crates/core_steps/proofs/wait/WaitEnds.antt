@@ -27,17 +27,16 @@ use Rattle.core_world.specs.Threads.References.{making_in}
 use Rattle.core_world.proofs.Readings.{no_told}
 use Rattle.core_world.proofs.enter_exit.OwnersShown.{inflated_form}
 use Rattle.core_locks.specs.Knowing.{SawInflated, SawOwn}
-use Rattle.core_locks.proofs.LookOn.{may_look}
 use Rattle.core_locks.proofs.wait.TellLists.{waits_untold}
 use Rattle.core_law.specs.Logic.{Heap, Does}
+use Rattle.core_steps.proofs.Looks.{looks_running}
 use Rattle.core_steps.proofs.monitor.Inflations.{SawNone}
-use Rattle.core_steps.proofs.LawRules.{looks, readies}
+use Rattle.core_steps.proofs.LawRules.{readies}
 use Rattle.core_steps.proofs.monitor.MonitorEnters.{owner_form}
 use Rattle.core_steps.proofs.monitor.MonitorFacts.{IsOwned}
 use Rattle.core_steps.proofs.monitor.MonitorRules.{regains_rule, restores_rule}
 use Rattle.core_steps.proofs.Resting.{rests, live_carries, logged_carries}
 use Rattle.core_steps.proofs.SeenSteps.{saw_newest, saw_older}
-use Rattle.core_steps.proofs.enter_exit.StackExits.{look_mark}
 use Rattle.core_steps.proofs.Tests.{is_of_kind}
 use Rattle.core_steps.proofs.Trees.{answers, chooses, exchanging, hitting}
 use Rattle.core_steps.proofs.wait.WaitFacts.{says_here, inflated_here, unowned_here}
@@ -182,8 +181,8 @@ module _ (heap : Heap) (e : CallContext) (o : ℕ) where
   at_does (Some (wait.Notified i)) k word x calm waits saw none reads (inr says) =
       let look = load e (id.Mark o) in
       let told : says_notified word o ≡ true = ap (λ f. notified_form f o) reads ∙ says in
-      hitting heap false look _ k _ (λ n. refl) (λ i. looks heap k look (look_mark heap k e x.runs calm x.check (inl (sym x.mine)) o) (λ v. x.object)
-      (inl (sym x.mine)) (λ free. x.known)) (λ mark j was.
+      hitting heap false look _ k _ (λ n. refl) (λ i. looks_running heap k e Settled (id.Mark o) refl x.runs (sym calm) x.check (inl (sym x.mine))
+      (λ v. x.object) (inl (sym x.mine)) (λ free. x.known)) (λ mark j was.
       let l = known_hit heap.shape heap.start look mark k in
       let is = inflated_here heap k was.stands x.runs o word saw told mark was.found in
       subst (λ f. Does heap false (resume_mark_at f e k.thread k.saved o) l (λ b r l. AtRest heap.shape l)) (sym (inflated_form (read_mark mark) is.0 is.1))
@@ -211,15 +210,7 @@ module _ (heap : Heap) (e : CallContext) (o : ℕ) where
   monitor_resume_does fresh k x calm waits none =
       let look = load e (id.Waiting k.thread) in
       hitting heap fresh look _ k _ (λ n. refl)
-      (λ i. looks heap k look (record {
-        act = refl;
-        note = refl;
-        own = refl;
-        stage = sym calm;
-        check = x.check;
-        after = inl (sym x.mine);
-        may = may_look k (id.Waiting k.thread) (inl x.runs) (λ m is. absurd (cc is));
-      }) (λ v. v.within)
+      (λ i. looks_running heap k e Settled (id.Waiting k.thread) refl x.runs (sym calm) x.check (inl (sym x.mine)) (λ v. v.within)
       (inl (sym x.mine)) tt)
       (λ word i was.
       at_does (read_wait word) (known_hit heap.shape heap.start look word k) word
