@@ -145,6 +145,13 @@ pub record Tells (s : Shape) (k : ThreadView) (p : StepPlan) (e : Entry) (found 
   pub works_for_it : making_in k.unfinished ≡ None
   pub needs : AllByRecursion (KnowsBy s k) (needs e)
 
+-- made of its parts, in this order
+pub told : {s : Shape} {k : ThreadView} {p : StepPlan} {e : Entry} {found : ℕ} → hits p.act found ≡ true
+    → ((log : List Logged) → log_after p.note found log ≡ with_entry e found log) → TakesAt e p.at → creates e ≡ None → making_in k.unfinished ≡ None
+    → AllByRecursion (KnowsBy s k) (needs e) → Tells s k p e found
+told it_hits grows takes none works knows =
+    record { hits = it_hits; grows = grows; takes = takes; makes_none = none; works_for_it = works; needs = knows }
+
 -- in a step that logs nothing
 abbrev pub Quietly : Shape → ThreadView → StepPlan → Type 0
 Quietly s k p = (p.note ≡ Quiet) × KeepsShots p.own × Spares s k p.at p.act

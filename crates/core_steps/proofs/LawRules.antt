@@ -77,7 +77,7 @@ use Rattle.core_law.proofs.Standing.{home, away, inside, valid_here}
 use Rattle.core_law.specs.MadeLaw.{MadeLawHolds}
 use Rattle.core_made.specs.Steps.{IsFairQuietly}
 use Rattle.core_made.proofs.Quiets.{quiet_keeps}
-use Rattle.core_steps.proofs.FairSteps.{KnowsBy, Begins, begins_none, works_making_none, Spares, KeepsShots, TakesAt}
+use Rattle.core_steps.proofs.FairSteps.{KnowsBy, Begins, begins_none, works_making_none, Spares, KeepsShots, TakesAt, told}
 use Rattle.core_steps.proofs.FairSteps.{Tells, Quietly, fair, fair_quietly, missed_made, quiet_made, told_made}
 use Rattle.core_steps.proofs.FairLooks.{Sees, look_whole, resume_missed}
 use Rattle.core_law.proofs.Wholes.{All, all_unless, stops_all, was_asked, requester_is, kept_whole}
@@ -374,18 +374,7 @@ module _ (heap : Heap) (k : ThreadView) where
       enters_in_log (λ s y. MayGet s y e o slot) (λ t y. get_plan e o slot) (get_entry o slot) (get_law e o slot) (logged.gets e o slot)
       (λ t y h. refl) (λ v. tt) (λ s y a. a.touches.runs)
       (λ v. let a = (may v).touches in ((a.object.within, a.within), tt)) may
-      (λ v. (
-        tt,
-        tt,
-        λ n. record {
-          hits = refl;
-          grows = λ log. refl;
-          takes = tt;
-          makes_none = refl;
-          works_for_it = ap making_in (may v).touches.nothing;
-          needs = ((may v).touches.object.known, tt);
-        },
-      )) (λ none. begins)
+      (λ v. (tt, tt, λ n. told refl (λ log. refl) tt refl (ap making_in (may v).touches.nothing) ((may v).touches.object.known, tt))) (λ none. begins)
 
   pub puts : (e : CallContext) (o slot : ℕ) (value : Value)
       → (SoundWorldWith heap k → MayPut heap.shape k o slot value) → Keeps heap (put_plan e o slot value) k
@@ -396,14 +385,8 @@ module _ (heap : Heap) (k : ThreadView) where
       (λ v. (
         tt,
         tt,
-        λ n. record {
-          hits = refl;
-          grows = λ log. refl;
-          takes = tt;
-          makes_none = refl;
-          works_for_it = ap making_in (may v).touches.nothing;
-          needs = ((may v).touches.object.known, needs_value heap.shape k value (may v).here);
-        },
+        λ n. told refl (λ log. refl) tt refl
+            (ap making_in (may v).touches.nothing) ((may v).touches.object.known, needs_value heap.shape k value (may v).here),
       )) (begins_none heap.shape k None refl)
 
   -- a notify that wakes nobody has seen that the object has no bias
@@ -413,17 +396,12 @@ module _ (heap : Heap) (k : ThreadView) where
       enters_in_log_with (λ s y. MayPublish s y entry) (λ y. SawNone y entry) (λ t y. publish_plan e t entry (length y.log + 1)) (λ n. entry)
       (publish_law e entry) (logged.publishes e entry) (λ t y h. refl) (λ v. telling_takes_none heap.shape k entry (may v).0.tells (logs v.world) _ _)
       (λ s y a. a.runs) (λ v. (v.within, tt)) may
-      (λ v. (
+      (λ v. let m = (may v).0 in let none = telling_makes_none heap.shape k entry m.tells in (
         tt,
         tt,
-        λ n. record {
-          hits = refl;
-          grows = λ log. refl;
-          takes = telling_takes heap.shape k entry (may v).0.tells (id.Length k.thread);
-          makes_none = telling_makes_none heap.shape k entry (may v).0.tells;
-          works_for_it = works_making_none k entry (telling_makes_none heap.shape k entry (may v).0.tells) (may v).0.own_entry.operation;
-          needs = telling_needs heap.shape k entry (may v).0.tells hands;
-        },
+        λ n. told refl (λ log. refl)
+            (telling_takes heap.shape k entry m.tells (id.Length k.thread)) none (works_making_none k entry none m.own_entry.operation)
+            (telling_needs heap.shape k entry m.tells hands),
       )) (begins_none heap.shape k None refl)
 
   pub raises : (e : CallContext) (o : ℕ) → o < length heap.shape.objects → (SoundWorldWith heap k → MayRaise k e o) → Begins heap.shape k e.unfinished
@@ -441,14 +419,8 @@ module _ (heap : Heap) (k : ThreadView) where
       (λ v. (
         tt,
         (λ n. omega arith),
-        λ n. record {
-          hits = refl;
-          grows = λ log. refl;
-          takes = refl;
-          makes_none = refl;
-          works_for_it = works_making_none k (Enter o path) refl (may v).own_entry.operation;
-          needs = ((may v).object.known, tt);
-        },
+        λ n. told refl (λ log. refl) refl refl
+            (works_making_none k (Enter o path) refl (may v).own_entry.operation) ((may v).object.known, tt),
       )) (begins_none heap.shape k None refl)
 
   pub readies : (e : CallContext) → (SoundWorldWith heap k → MayBeReady k e)
@@ -506,14 +478,8 @@ module _ (heap : Heap) (k : ThreadView) where
       (λ v. (
         tt,
         (λ n i names. let none = names_none i in absurd (cc (names, none))),
-        λ n. record {
-          hits = refl;
-          grows = λ log. refl;
-          takes = tt;
-          makes_none = refl;
-          works_for_it = works_making_none k (Exit o) refl (may v).own_entry.operation;
-          needs = ((may v).object.known, tt);
-        },
+        λ n. told refl (λ log. refl) tt refl
+            (works_making_none k (Exit o) refl (may v).own_entry.operation) ((may v).object.known, tt),
       )) (begins_none heap.shape k None refl)
 
   pub clears_rule : (e : CallContext) (o p : ℕ) → (SoundWorldWith heap k → p < most_holds)

@@ -40,7 +40,7 @@ use Rattle.bias_law.proofs.QuietKinds as quiet
 use Rattle.bias_law.specs.Steps.{KeepsBiases}
 use Rattle.core_law.specs.BiasLaw.{BiasLawHolds}
 use Rattle.core_law.specs.Logic.{Heap, SoundWorldWith, Keeps}
-use Rattle.core_steps.proofs.FairSteps.{Begins, begins_none, works_making_none}
+use Rattle.core_steps.proofs.FairSteps.{Begins, begins_none, works_making_none, told}
 use Rattle.core_steps.proofs.FairLooks.{Sees}
 use Rattle.core_steps.proofs.LawRules.{kept_in, monitor_in_heap, keeps, enters_in_log, looks}
 
@@ -190,18 +190,8 @@ module _ (heap : Heap) (k : ThreadView) where
       enters_in_log heap k (λ s y. MayFree s y o m stamp) (λ t y. free_plan e o m p) (λ n. Exit o) (frees_owner e o m p stamp)
       (logged.exits_by_monitor e o m p stamp) (λ t y h. refl) (λ v. tt) (λ s y a. a.runs)
       (λ v. let a = may v in (monitor_in_heap heap k o m a.runs a.inflated v, tt)) may
-      (λ v. (
-        tt,
-        tt,
-        λ n. record {
-          hits = refl;
-          grows = λ log. refl;
-          takes = tt;
-          makes_none = refl;
-          works_for_it = works_making_none k (Exit o) refl (may v).own_entry.operation;
-          needs = ((may v).object.known, tt);
-        },
-      )) (begins_none heap.shape k None refl)
+      (λ v. (tt, tt, λ n. told refl (λ log. refl) tt refl (works_making_none k (Exit o) refl (may v).own_entry.operation) ((may v).object.known, tt)))
+      (begins_none heap.shape k None refl)
 
   -- A WAIT lets go, and takes the monitor again.
   pub drops_rule : (e : CallContext) (o m : ℕ) → (SoundWorldWith heap k → MayDrop k e o m) → Begins heap.shape k e.unfinished → Keeps heap (drop_plan e o m) k

@@ -19,7 +19,7 @@ use Rattle.bias_law.proofs.LoggedKinds as logged
 use Rattle.bias_law.proofs.QuietKinds as quiet
 use Rattle.core_law.specs.Logic.{Heap, SoundWorldWith, Keeps}
 use Rattle.core_world.proofs.There.{waiter_there}
-use Rattle.core_steps.proofs.FairSteps.{Begins, begins_none, works_making_none}
+use Rattle.core_steps.proofs.FairSteps.{Begins, begins_none, works_making_none, told}
 use Rattle.core_steps.proofs.LawRules.{runs_in_all, keeps, enters_in_log}
 use Rattle.core_law.proofs.Standing.{home, away, inside, valid_here}
 
@@ -36,18 +36,7 @@ module _ (heap : Heap) (k : ThreadView) where
   logs_wait e o m stamp may begins = enters_in_log heap k (λ s y. MayWait s y e o m stamp)
       (λ t y. log_wait_plan e t o (next_stamp (local_of y))) (λ n. entry.Wait o) (leaves_to_wait e o m stamp) (logged.waits e o m stamp)
       (λ t y h. refl) (λ v. tt) (λ s y a. a.runs) (λ v. (v.within, tt)) may
-      (λ v. (
-        tt,
-        tt,
-        λ n. record {
-          hits = refl;
-          grows = λ log. refl;
-          takes = tt;
-          makes_none = refl;
-          works_for_it = ap making_in (sym (may v).goes_on ∙ (may v).waits);
-          needs = ((may v).object.known, tt);
-        },
-      )) (λ none. begins)
+      (λ v. (tt, tt, λ n. told refl (λ log. refl) tt refl (ap making_in (sym (may v).goes_on ∙ (may v).waits)) ((may v).object.known, tt))) (λ none. begins)
 
   -- of its wait, which makes no object
   pub logs_resume : (e : CallContext) (o m : ℕ) → (SoundWorldWith heap k → MayLogResume heap.shape k o m) → making_in k.unfinished ≡ None
@@ -57,18 +46,7 @@ module _ (heap : Heap) (k : ThreadView) where
       (logged.resumes e o m) (λ t y h. refl)
       (λ v s. resume_stamp v.world v.objects k.thread o m s (inside heap k v) (away heap k v (λ z y. MayLogResume z y o m) (may v))
       (valid_here heap k v)) (λ s y a. a.runs) (λ v. ((may v).object.within, tt)) may
-      (λ v. (
-        tt,
-        (λ n. omega arith),
-        λ n. record {
-          hits = refl;
-          grows = λ log. refl;
-          takes = refl;
-          makes_none = refl;
-          works_for_it = making;
-          needs = ((may v).object.known, tt);
-        },
-      )) (begins_none heap.shape k None refl)
+      (λ v. (tt, (λ n. omega arith), λ n. told refl (λ log. refl) refl refl making ((may v).object.known, tt))) (begins_none heap.shape k None refl)
 
   -- THE WAITING WORDS OF OTHERS: who waits is a thread of the heap
   waits_there : (o u n : ℕ) → MayWake heap.shape k o u n → (v : SoundWorldWith heap k) → u < heap.shape.threads
@@ -91,14 +69,8 @@ module _ (heap : Heap) (k : ThreadView) where
       (λ v. (
         tt,
         tt,
-        λ n. record {
-          hits = refl;
-          grows = λ log. refl;
-          takes = tt;
-          makes_none = refl;
-          works_for_it = works_making_none k (entry.Notify o (Some u)) refl (may v).own_entry.operation;
-          needs = ((may v).wakes.object.known, tt);
-        },
+        λ n. told refl (λ log. refl) tt refl
+            (works_making_none k (entry.Notify o (Some u)) refl (may v).own_entry.operation) ((may v).wakes.object.known, tt),
       )) (begins_none heap.shape k None refl)
 
   pub notifies_all_rule : (e : CallContext) (o u n : ℕ)
@@ -109,12 +81,6 @@ module _ (heap : Heap) (k : ThreadView) where
       may (λ v. (
         tt,
         tt,
-        λ m. record {
-          hits = refl;
-          grows = λ log. refl;
-          takes = tt;
-          makes_none = refl;
-          works_for_it = works_making_none k (entry.NotifyAll o (n + 1)) refl (may v).own_entry.operation;
-          needs = ((may v).wakes.object.known, tt);
-        },
+        λ m. told refl (λ log. refl) tt refl
+            (works_making_none k (entry.NotifyAll o (n + 1)) refl (may v).own_entry.operation) ((may v).wakes.object.known, tt),
       )) (begins_none heap.shape k None refl)
