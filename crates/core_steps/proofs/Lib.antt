@@ -15,6 +15,7 @@ pub mod LawRules
 pub mod Looks
 pub mod SeenSteps
 pub mod Facts
+pub mod WorksOn
 pub mod Tests
 pub mod JournalCalls
 pub mod Resting

@@ -1,6 +1,6 @@
 -- An enter as far as biases go: under a bias of its own, or of one that it takes, or up to a mark without the bias pattern.
 use Rattle.std.proofs.Common.{◌≡◌, ◌⊎◌, ℕ, ◌-◌, ◌<◌, ◌≤◌, ◌==◌, eq-eqb, eqb-true, Bool, true, false, cond}
-use Rattle.std.proofs.Common.{length, Option, Some, None, refl, sym, ap, ◌∙◌, subst, inl, inr, arith}
+use Rattle.std.proofs.Common.{Option, Some, None, refl, sym, ap, ◌∙◌, subst, inl, inr, arith}
 use Rattle.mark_word.specs.declared.mark.MarkForm.{MarkForm}
 use Rattle.mark_word.specs.declared.mark.MarkForm.TheVariants.{Inflating, Neutral, Anonymous, Biased, Locked, Inflated, Marked}
 use Rattle.mark_word.specs.Mark.{mark_of, read_mark}
@@ -18,11 +18,10 @@ use Rattle.core_world.specs.Trees.BiasSteps.{unbias_plan, rebias_plan, took_step
 use Rattle.core_world.specs.Trees.BiasSteps.{bias_enter_steps, bias_after_at, bias_after_steps, stage_after}
 use Rattle.core_world.specs.Words.Forms.{is_biased, is_biased_form, epoch_in, epoch_form, says_notified}
 use Rattle.core_world.specs.Threads.ThreadView.{ThreadView, Local, Still, local_of, last_seen}
-use Rattle.core_world.specs.Clauses.Lengths.{log_limit}
 use Rattle.core_world.specs.Locks.{hold_count, is_valid_bias}
 use Rattle.core_world.specs.Trees.LockSteps.{hold_steps}
 use Rattle.core_world.specs.Trees.Plans.{CallContext, with_stage, load, free_place}
-use Rattle.core_world.specs.Clauses.Safepoints.{IsUnfinished, ends}
+use Rattle.core_world.specs.Clauses.Safepoints.{IsUnfinished}
 use Rattle.core_world.specs.Words.Shape.{class_in_shape}
 use Rattle.core_world.specs.Threads.Stages.{Revocation}
 use Rattle.core_world.specs.Steps.{known_hit, known_miss}
@@ -35,6 +34,7 @@ use Rattle.core_locks.proofs.monitor.OwnerTurns.{rest_hold}
 use Rattle.core_bias.specs.Biasing.{IsUnownedBias}
 use Rattle.bias_law.specs.Steps.{WentBefore}
 use Rattle.core_law.specs.Logic.{Heap, SoundWorldWith, Keeps, Does}
+use Rattle.core_steps.proofs.WorksOn.{MayWorkOn}
 use Rattle.core_steps.proofs.Looks.{looks_running}
 use Rattle.core_steps.proofs.bias.BiasFacts.{SawHeaders, SawMarkAlone, headers_first, headers_more, mark_alone, class_more, class_some}
 use Rattle.core_steps.proofs.bias.BiasFacts.{saw_two, unreached_here, bias_stays, biasing_here}
@@ -327,11 +327,8 @@ module _ (heap : Heap) (o : ℕ) (e : CallContext) (enters : IsUnfinished e.unfi
 
 -- what an enter takes of its thread's knowledge when its call begins, and keeps
 pub record Wants (heap : Heap) (o : ℕ) (e : CallContext) (here : Local) : Type 0 where
-  pub unchecks : e.check ≡ false
-  pub live : ends here.log ≡ false
-  pub room : length here.log < log_limit
-  pub object : o < length heap.shape.objects
-  pub known : Knows heap here.log o
+  pub may : MayWorkOn heap here.log e o
+  pub open may use *
   pub untold : (i : ℕ) → says_notified here.wait i ≡ false
   pub place : free_place here.holds < most_holds
 
@@ -342,14 +339,7 @@ pub taking : (heap : Heap) (o : ℕ) (e : CallContext) (here : Local) (k : Threa
     → local_of k ≡ here → k.running ≡ true → k.requesting ≡ false → k.moving ≡ Still
     → Taking heap k.running k.requesting k.moving k.log e o
 taking heap o e here k enters x local runs unasks still = record {
-  runs = runs;
-  unasks = unasks;
-  still = still;
-  unchecks = x.unchecks;
-  live = ap (λ z. ends z.log) local ∙ x.live;
-  room = subst (λ z. length z.log < log_limit) (sym local) x.room;
-  object = x.object;
-  known = subst (λ z. Knows heap z.log o) (sym local) x.known;
+  works = record { may = subst (λ z. MayWorkOn heap z.log e o) (sym local) x.may; runs = runs; unasks = unasks; still = still };
   unwaiting = unwaiting_enter e o enters;
   enters = inr enters;
 }

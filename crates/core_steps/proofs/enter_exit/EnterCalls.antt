@@ -1,6 +1,6 @@
 -- Enter begins well.
 use Rattle.std.proofs.Common.{◌≡◌, ℕ, ◌<◌, ◌≤◌, ◌==◌, ◌&&◌, not, eqb-true, eq-eqb, Bool, true, false, cond}
-use Rattle.std.proofs.Common.{[], length, Option, Some, None, refl, sym, ap, ◌∙◌, subst, inl, inr, arith}
+use Rattle.std.proofs.Common.{[], Option, Some, None, refl, sym, ap, ◌∙◌, subst, inl, inr, arith}
 use Rattle.mark_word.specs.declared.mark.MarkForm.{MarkForm}
 use Rattle.mark_word.specs.declared.mark.MarkForm.TheVariants.{Inflating, Neutral, Anonymous, Biased, Locked, Inflated, Marked}
 use Rattle.mark_word.specs.Mark.{read_mark}
@@ -18,14 +18,13 @@ use Rattle.core_world.specs.Trees.Calls.{steps_of, may_begin, may_operate}
 use Rattle.core_world.specs.Threads.References.{has_reference}
 use Rattle.core_world.specs.Words.Forms.{is_biased_form, is_neutral_form, monitor_form, says_notified}
 use Rattle.core_world.specs.Threads.ThreadView.{ThreadView, Start, local_of, start_of, last_seen}
-use Rattle.core_world.specs.Clauses.Lengths.{log_limit}
 use Rattle.core_world.specs.Locks.{hold_count}
 use Rattle.core_world.specs.Trees.LockSteps.{stack_enter_at}
 use Rattle.core_world.specs.Trees.MonitorSteps.{inflate_steps, monitor_enter_steps}
 use Rattle.core_world.specs.Trees.Operations.{answer, and_then, goes_on_with, revocation_steps, enter_at}
 use Rattle.core_world.specs.Trees.Operations.{enter_unbiased, enter_revoked, enter_going, enter_tried}
 use Rattle.core_world.specs.Trees.Plans.{CallContext, call_context, free_place}
-use Rattle.core_world.specs.Clauses.Safepoints.{IsUnfinished, ends}
+use Rattle.core_world.specs.Clauses.Safepoints.{IsUnfinished}
 use Rattle.core_world.specs.Threads.Stages.{Revocation}
 use Rattle.core_world.specs.Steps.{is_idle, seen_before}
 use Rattle.core_world.specs.Trees.StepTree.{StepTree, ◌>>=◌}
@@ -35,9 +34,9 @@ use Rattle.bias_law.specs.Steps.{SawUnbiased}
 use Rattle.core_law.specs.Logic.{Heap, SoundWorldWith, Does}
 use Rattle.core_law.specs.Sound.{Finishes}
 use Rattle.core_law.specs.Begins.{BeginsWell}
+use Rattle.core_steps.proofs.WorksOn.{MayWorkOn}
 use Rattle.core_steps.proofs.bias.AskedRevocations.{NoOtherIn, ValidBiasIn, BeginsRevocation, revocation_does}
 use Rattle.core_steps.proofs.bias.BiasEnters.{Enters, enters_rests, FoundMark, EnterOutcomes, Tries, bias_enter_does, Wants, taking, bias_after_does}
-use Rattle.core_steps.proofs.Facts.{Knows}
 use Rattle.core_steps.proofs.monitor.Inflations.{SawNone, Unseen, Apart, inflate_does}
 use Rattle.core_steps.proofs.monitor.MonitorEnters.{monitor_enter_does}
 use Rattle.core_law.proofs.Places.{place_left}
@@ -54,14 +53,12 @@ module _ (heap : Heap) (o : ℕ) (e : CallContext) (enters : IsUnfinished e.unfi
   enters_apart : (k l : ThreadView) → Apart heap e o k l → l.stage ≡ Settled → Enters heap o e enters k → Enters heap o e enters l
   enters_apart k l a calm x = record {
     takes = record {
-      runs = a.running ∙ x.takes.runs;
-      unasks = a.requesting ∙ x.takes.unasks;
-      still = a.still;
-      unchecks = x.takes.unchecks;
-      live = ap (λ z. ends z.log) a.local ∙ x.takes.live;
-      room = subst (λ z. length z.log < log_limit) (sym a.local) x.takes.room;
-      object = x.takes.object;
-      known = subst (λ z. Knows heap z.log o) (sym a.local) x.takes.known;
+      works = record {
+        may = subst (λ z. MayWorkOn heap z.log e o) (sym a.local) x.takes.may;
+        runs = a.running ∙ x.takes.runs;
+        unasks = a.requesting ∙ x.takes.unasks;
+        still = a.still;
+      };
       unwaiting = x.takes.unwaiting;
       enters = x.takes.enters;
     };
@@ -246,7 +243,8 @@ module _ (heap : Heap) where
       let b : Revocation = record { object = o; rebias = true; now = now } in
       let goes = goes_on_or_begins op.Enter o k.unfinished a.free in
       let reference = refers heap.shape k o m.0 in
-      let room : length k.log < log_limit = let r = a.room in omega arith in
+      let may_work : MayWorkOn heap k.log e o =
+      record { unchecks = refl; live = a.live; room = a.room; object = reference.within; known = reference.known } in
       closes heap true _ k (
       chooses heap true (free_place k.holds == most_holds) _ _ k _
       (λ full. chooses heap true going _ _ k _
@@ -263,15 +261,7 @@ module _ (heap : Heap) where
       let asked = subst (MayAsk heap.shape k) goes_on (rest.asks asks a.unchecking) in
       let before = asking_saw heap e k.thread k asks in
       subst (λ (z : Bool). Does heap true (enter_revoked heap.shape z e s b) k (λ b r l. AtRest heap.shape l)) asks
-      (revoked_does heap e s b refl refl (record {
-        unchecks = refl;
-        live = a.live;
-        room = room;
-        object = reference.within;
-        known = reference.known;
-        untold = rest.untold;
-        place = place;
-      }) true k (record {
+      (revoked_does heap e s b refl refl (record { may = may_work; untold = rest.untold; place = place }) true k (record {
         begins = record {
           number = refl;
           rest = rest;
@@ -291,8 +281,7 @@ module _ (heap : Heap) where
       (λ free.
       let runs = free_runs k.running k.requesting going a.runs free in
       let place = place_left heap k v runs left in
-      let wants : Wants heap o e (local_of k) =
-      record { unchecks = refl; live = a.live; room = room; object = reference.within; known = reference.known; untold = rest.untold; place = place } in
+      let wants : Wants heap o e (local_of k) = record { may = may_work; untold = rest.untold; place = place } in
       first_does heap e s b refl refl wants k
       (taking heap o e (local_of k) k refl wants refl runs free rest.still) rest.calm goes (sym a.unchecking) refl refl))
       (λ b r l x. answers heap b _ l _ x))))

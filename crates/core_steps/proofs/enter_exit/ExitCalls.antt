@@ -1,5 +1,5 @@
 -- Exit begins well.
-use Rattle.std.proofs.Common.{◌≡◌, ℕ, ◌==◌, Bool, true, false, cond, Some, refl, sym, ◌∙◌, subst, inl, inr, arith, eqb-true, eq-eqb, max}
+use Rattle.std.proofs.Common.{◌≡◌, ℕ, ◌==◌, Bool, true, false, cond, Some, refl, sym, ◌∙◌, subst, inl, inr, eqb-true, eq-eqb, max}
 use Rattle.core_world.specs.declared.act.Act.TheVariants.{FetchMax}
 use Rattle.core_world.specs.declared.answer.Progress.{Progress}
 use Rattle.core_world.specs.declared.word_id.WordId.TheVariants as id
@@ -153,14 +153,12 @@ module _ (heap : Heap) where
       binds heap true (exit_going e (local_of k) o) answer k _ (
       follows heap true _ k _ _ (exit_going_does k e o
       (record {
-        runs = runs;
-        unasks = unasking heap.shape k rest runs;
-        still = rest.still;
-        unchecks = refl;
-        live = a.live;
-        room = let r = a.room in omega arith;
-        object = reference.within;
-        known = reference.known;
+        works = record {
+          may = record { unchecks = refl; live = a.live; room = a.room; object = reference.within; known = reference.known };
+          runs = runs;
+          unasks = unasking heap.shape k rest runs;
+          still = rest.still;
+        };
         some = some_named (hold_count o k.holds) h;
         exits = refl;
       })

@@ -1,6 +1,6 @@
 -- The stack lock's enter begins well.
 use Rattle.std.proofs.Common.{◌≡◌, ℕ, ◌<◌, ◌≤◌, ◌+◌, ◌==◌, ◌&&◌, ◌||◌, nat_lt, eq-eqb, eqb-true, not, Bool, true, false}
-use Rattle.std.proofs.Common.{cond, List, length, Option, Some, None, refl, sym, ap, ◌∙◌, subst, inl, inr, arith, ◌⊎◌}
+use Rattle.std.proofs.Common.{cond, List, Option, Some, None, refl, sym, ap, ◌∙◌, subst, inl, inr, arith, ◌⊎◌}
 use Rattle.mark_word.specs.declared.mark.MarkForm.{MarkForm}
 use Rattle.mark_word.specs.declared.mark.MarkForm.TheVariants.{Inflating, Neutral, Anonymous, Biased, Locked, Inflated, Marked}
 use Rattle.mark_word.specs.Mark.{mark_of, read_mark}
@@ -15,17 +15,16 @@ use Rattle.core_world.specs.declared.stage.Stage.TheVariants.{Settled, Enters}
 use Rattle.core_world.specs.declared.heap_call.Operation.TheVariants as op
 use Rattle.core_world.specs.declared.heap_call.HeapCall.TheVariants.{StackEnter}
 use Rattle.core_world.specs.Words.Forms.{is_neutral, is_neutral_form, is_entering, says_notified}
-use Rattle.core_world.specs.Threads.ThreadView.{ThreadView, Local, Moving, Still, local_of, start_of}
+use Rattle.core_world.specs.Threads.ThreadView.{ThreadView, Local, Moving, local_of, start_of}
 use Rattle.core_world.specs.Threads.AtRest.{AtRest}
 use Rattle.core_world.specs.Trees.Calls.{steps_of, may_begin, may_log_once, is_own_first}
 use Rattle.core_world.specs.Threads.References.{has_reference, making_in}
-use Rattle.core_world.specs.Clauses.Lengths.{log_limit}
 use Rattle.core_world.specs.Locks.{hold_count}
 use Rattle.core_world.specs.Trees.LockSteps.{log_enter_steps, entered_steps, hold_steps, stack_again_steps, stack_first_steps}
 use Rattle.core_world.specs.Trees.LockSteps.{stack_enter_at, stack_enter_steps, store_ready_plan, displace_plan}
 use Rattle.core_world.specs.Trees.Operations.{lone_context}
 use Rattle.core_world.specs.Trees.Plans.{CallContext, done_with, pending_for, free_place}
-use Rattle.core_world.specs.Clauses.Safepoints.{IsUnfinished, ends}
+use Rattle.core_world.specs.Clauses.Safepoints.{IsUnfinished}
 use Rattle.core_world.specs.RevocationRules.{first_place}
 use Rattle.core_world.proofs.Readings.{no_told}
 use Rattle.core_locks.specs.Knowing.{GoesOn}
@@ -34,10 +33,11 @@ use Rattle.bias_law.specs.Steps.{WentBefore}
 use Rattle.core_law.specs.Logic.{Heap, SoundWorldWith, Keeps, Does}
 use Rattle.core_law.specs.Sound.{Finishes}
 use Rattle.core_law.specs.Begins.{BeginsWell}
+use Rattle.core_steps.proofs.WorksOn.{WorksOn}
 use Rattle.core_steps.proofs.FairSteps.{Begins, begins_none, begins_its, goes_making_none}
 use Rattle.core_steps.proofs.Trees.{answers, chooses, follows, binds, hitting, swapping}
 use Rattle.core_steps.proofs.LawRules.{displaces_rule, seizes_rule, holds_rule, readies, logs_enter}
-use Rattle.core_steps.proofs.Facts.{Knows, Untold, Unwaiting, out_here, ready_entered, limits_here, Unbiased, free_here}
+use Rattle.core_steps.proofs.Facts.{Untold, Unwaiting, out_here, ready_entered, limits_here, Unbiased, free_here}
 use Rattle.core_law.proofs.Places.{room_here, bottom_here}
 use Rattle.core_steps.proofs.SeenSteps.{saw_newest, saw_older}
 use Rattle.core_steps.proofs.Resting.{unasking, rests, live_carries, logged_carries}
@@ -46,14 +46,8 @@ use Rattle.core_steps.proofs.Tests.{both, none_is, or_false, below, refers, logs
 
 -- what a thread that takes o by this call counts on all the way, by parts of its knowledge that don't change until the entry is logged
 pub record Taking (heap : Heap) (running requesting : Bool) (moving : Moving) (log : List Logged) (e : CallContext) (o : ℕ) : Type 0 where
-  pub runs : running ≡ true
-  pub unasks : requesting ≡ false
-  pub still : moving ≡ Still
-  pub unchecks : e.check ≡ false
-  pub live : ends log ≡ false
-  pub room : length log < log_limit
-  pub object : o < length heap.shape.objects
-  pub known : Knows heap log o
+  pub works : WorksOn heap running requesting moving log e o
+  pub open works use *
   -- it works for its enter, or for nothing that it leaves unfinished
   pub unwaiting : (i : ℕ) → IsUnfinished e.unfinished op.Wait i → ⊥
   pub enters : (e.unfinished ≡ None) ⊎ IsUnfinished e.unfinished op.Enter o
@@ -244,14 +238,12 @@ module _ (heap : Heap) where
       let a = logs_once k false m2.1 in
       closes heap true _ k (stack_enter_does true k (lone_context (StackEnter o mark)) o mark v
       (record {
-        runs = a.runs;
-        unasks = unasking heap.shape k rest a.runs;
-        still = rest.still;
-        unchecks = refl;
-        live = a.live;
-        room = a.room;
-        object = reference.within;
-        known = reference.known;
+        works = record {
+          may = record { unchecks = refl; live = a.live; room = a.room; object = reference.within; known = reference.known };
+          runs = a.runs;
+          unasks = unasking heap.shape k rest a.runs;
+          still = rest.still;
+        };
         unwaiting = λ i h. absurd (cc h);
         enters = inl refl;
       })

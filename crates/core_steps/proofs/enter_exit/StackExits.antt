@@ -1,6 +1,6 @@
 -- The stack lock's exit, where the object's mark has no bias pattern.
-use Rattle.std.proofs.Common.{◌≡◌, ◌≢◌, ℕ, ◌<◌, ◌≤◌, ◌==◌, ◌&&◌, not, max, nat_lt, eq-eqb, eqb-true, Bool, true, false}
-use Rattle.std.proofs.Common.{List, length, slice_index, Option, Some, None, refl, sym, ap, ◌∙◌, subst, inl, inr, arith}
+use Rattle.std.proofs.Common.{◌≡◌, ◌≢◌, ℕ, ◌≤◌, ◌==◌, ◌&&◌, not, max, nat_lt, eq-eqb, eqb-true, Bool, true, false}
+use Rattle.std.proofs.Common.{List, slice_index, Option, Some, None, refl, sym, ap, ◌∙◌, subst, inl, inr, arith}
 use Rattle.mark_word.specs.declared.mark.MarkForm.{MarkForm}
 use Rattle.mark_word.specs.declared.mark.MarkForm.TheVariants.{Inflating, Neutral, Anonymous, Biased, Locked, Inflated, Marked}
 use Rattle.mark_word.specs.Mark.{mark_of, read_mark}
@@ -14,15 +14,14 @@ use Rattle.core_world.specs.declared.stage.Stage.TheVariants.{Settled}
 use Rattle.core_world.specs.declared.heap_call.Operation.TheVariants as op
 use Rattle.core_world.specs.declared.heap_call.HeapCall.TheVariants.{StackExit}
 use Rattle.core_world.specs.Words.Forms.{monitor_form, is_biased, hold_word}
-use Rattle.core_world.specs.Threads.ThreadView.{ThreadView, Local, Moving, Still, local_of, start_of, last_seen}
+use Rattle.core_world.specs.Threads.ThreadView.{ThreadView, Local, Moving, local_of, start_of, last_seen}
 use Rattle.core_world.specs.Threads.AtRest.{AtRest}
 use Rattle.core_world.specs.Trees.Calls.{steps_of, may_begin, may_log_once}
 use Rattle.core_world.specs.Threads.References.{has_reference}
-use Rattle.core_world.specs.Clauses.Lengths.{log_limit}
 use Rattle.core_world.specs.Locks.{hold_count, marks}
 use Rattle.plain_monitor.specs.Limits.{most_holds}
 use Rattle.plain_monitor.specs.declared.entry.Logged.{Logged}
-use Rattle.core_world.specs.Clauses.Safepoints.{ends, IsUnfinished}
+use Rattle.core_world.specs.Clauses.Safepoints.{IsUnfinished}
 use Rattle.core_world.specs.Trees.LockSteps.{stack_exit_by, stack_exit_at, stack_exit_record, stack_exit_steps, raise_stamp_plan}
 use Rattle.core_world.specs.Trees.Operations.{goes_on_with}
 use Rattle.core_world.specs.Trees.Plans.{CallContext, call_context, load, top_place, next_stamp}
@@ -34,12 +33,13 @@ use Rattle.core_locks.specs.Knowing.{GoesOn, IsOut, SawInflated}
 use Rattle.core_law.specs.Logic.{Heap, SoundWorldWith, Does}
 use Rattle.core_law.specs.Sound.{Finishes}
 use Rattle.core_law.specs.Begins.{BeginsWell}
+use Rattle.core_steps.proofs.WorksOn.{WorksOn}
 use Rattle.core_steps.proofs.Looks.{looks_running}
 use Rattle.core_steps.proofs.FairSteps.{Begins, begins_its}
 use Rattle.core_steps.proofs.Trees.{answers, chooses, chooses_then, hitting, swapping}
 use Rattle.core_steps.proofs.LawRules.{raises, leaves_rule, clears_rule, lets_go_rule}
 use Rattle.core_law.proofs.Standing.{home, away, fits_here}
-use Rattle.core_steps.proofs.Facts.{Knows, Untold, Unwaiting, Unentering, out_here, ready_here, Unbiased}
+use Rattle.core_steps.proofs.Facts.{Untold, Unwaiting, Unentering, out_here, ready_here, Unbiased}
 use Rattle.core_law.proofs.Places.{top_here, few_here}
 use Rattle.core_steps.proofs.SeenSteps.{saw_newest, saw_older}
 use Rattle.core_steps.proofs.enter_exit.ExitFacts.{OnExit, covered, on_exit}
@@ -49,14 +49,8 @@ use Rattle.core_steps.proofs.Tests.{both, not_true, below, refers, logs_once, no
 
 -- what a thread that leaves o by this call counts on all the way, by parts of its knowledge that don't change until the entry is logged
 pub record Leaving (heap : Heap) (running requesting : Bool) (moving : Moving) (log : List Logged) (holds : List ℕ) (e : CallContext) (o : ℕ) : Type 0 where
-  pub runs : running ≡ true
-  pub unasks : requesting ≡ false
-  pub still : moving ≡ Still
-  pub unchecks : e.check ≡ false
-  pub live : ends log ≡ false
-  pub room : length log < log_limit
-  pub object : o < length heap.shape.objects
-  pub known : Knows heap log o
+  pub works : WorksOn heap running requesting moving log e o
+  pub open works use *
   pub some : 1 ≤ hold_count o holds
   pub exits : e.unfinished ≡ Some (record { op = op.Exit; object = o })
 
@@ -309,14 +303,12 @@ module _ (heap : Heap) where
         monitor = λ l m same b. exit_rests l e o b.leaving b.calm (sym b.check ∙ b.leaving.unchecks) b.mine b.untold;
       })
       (record {
-        runs = a.runs;
-        unasks = unasking heap.shape k rest a.runs;
-        still = rest.still;
-        unchecks = refl;
-        live = a.live;
-        room = a.room;
-        object = reference.within;
-        known = reference.known;
+        works = record {
+          may = record { unchecks = refl; live = a.live; room = a.room; object = reference.within; known = reference.known };
+          runs = a.runs;
+          unasks = unasking heap.shape k rest a.runs;
+          still = rest.still;
+        };
         some = let x = below 0 (hold_count o k.holds) n.1 in omega arith;
         exits = refl;
       })

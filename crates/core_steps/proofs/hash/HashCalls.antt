@@ -44,6 +44,7 @@ use Rattle.core_law.proofs.Places.{bottom_here}
 use Rattle.core_law.specs.Logic.{Heap, SoundWorldWith, Keeps, Does}
 use Rattle.core_law.specs.Sound.{Finishes}
 use Rattle.core_law.specs.Begins.{BeginsWell}
+use Rattle.core_steps.proofs.WorksOn.{MayWorkOn}
 use Rattle.core_steps.proofs.Facts.{ready_here, Knows}
 use Rattle.core_law.proofs.Standing.{fits_here, home, away}
 use Rattle.core_steps.proofs.hash.HashRules.{finds_mark_rule, finds_record_rule, finds_header_rule, draws_mark_rule, draws_header_rule}
@@ -69,11 +70,8 @@ undumped_hash u o e h = let a = ap (is_of_kind op.Hash) (sym e ∙ h) in cc a
 -- The call is a hash of o. What holds where it begins: of the object, and of what it takes of its thread's knowledge.
 record IsHashOf (heap : Heap) (e : CallContext) (o : ℕ) (here : Local) : Type 0 where
   hashes : IsUnfinished e.unfinished op.Hash o
-  unchecks : e.check ≡ false
-  object : o < length heap.shape.objects
-  known : Knows heap here.log o
-  live : ends here.log ≡ false
-  room : length here.log < log_limit
+  may : MayWorkOn heap here.log e o
+  open may use *
   untold : (i : ℕ) → says_notified here.wait i ≡ false
 
 module _ (heap : Heap) (e : CallContext) (o : ℕ) (here : Local) (draws : ℕ) (start : IsHashOf heap e o here) where
@@ -314,11 +312,7 @@ module _ (heap : Heap) where
       let e = call_context (Hash o now) op.Hash o in
       let call : IsHashOf heap e o (local_of k) = record {
         hashes = refl;
-        unchecks = refl;
-        object = reference.within;
-        known = reference.known;
-        live = a.live;
-        room = let r = a.room in omega arith;
+        may = record { unchecks = refl; live = a.live; room = a.room; object = reference.within; known = reference.known };
         untold = rest.untold;
       } in
       closes heap true _ k (

@@ -1,5 +1,5 @@
 -- Notify and notifyAll begin well.
-use Rattle.std.proofs.Common.{◌≡◌, ℕ, ◌<◌, ◌≤◌, ◌==◌, ◌&&◌, true, false, length, Option, Some, None, refl, sym, ap, ◌∙◌, subst, inl, inr, arith}
+use Rattle.std.proofs.Common.{◌≡◌, ℕ, ◌≤◌, ◌==◌, ◌&&◌, true, false, Option, Some, None, refl, sym, ap, ◌∙◌, subst, inl, inr}
 use Rattle.mark_word.specs.declared.mark.MarkForm.{MarkForm}
 use Rattle.mark_word.specs.declared.mark.MarkForm.TheVariants.{Inflating, Neutral, Anonymous, Biased, Locked, Inflated, Marked}
 use Rattle.mark_word.specs.Mark.{read_mark}
@@ -15,11 +15,10 @@ use Rattle.core_world.specs.Trees.Calls.{steps_of, may_begin, may_operate}
 use Rattle.core_world.specs.Threads.References.{has_reference, has_object}
 use Rattle.core_world.specs.Words.Forms.{is_biased, is_biased_form, monitor_form, says_notified}
 use Rattle.core_world.specs.Threads.ThreadView.{ThreadView, local_of, start_of, last_seen}
-use Rattle.core_world.specs.Clauses.Lengths.{log_limit}
 use Rattle.core_world.specs.Locks.{hold_count}
 use Rattle.core_world.specs.Trees.Operations.{answer, and_then, goes_on_with, no_bias, unbias_steps, notify_at, notify_going, notify_all_at, notify_all_going}
 use Rattle.core_world.specs.Trees.Plans.{CallContext, call_context, load, done_with}
-use Rattle.core_world.specs.Clauses.Safepoints.{IsUnfinished, ends}
+use Rattle.core_world.specs.Clauses.Safepoints.{IsUnfinished}
 use Rattle.core_world.specs.Steps.{known_hit}
 use Rattle.core_world.specs.Trees.StepTree.{StepTree, ask, ◌>>=◌}
 use Rattle.core_world.specs.Valid.{RevokesWithin}
@@ -33,9 +32,9 @@ use Rattle.bias_law.specs.Steps.{SawUnbiased}
 use Rattle.core_law.specs.Logic.{Heap, SoundWorldWith, Does}
 use Rattle.core_law.specs.Sound.{Finishes}
 use Rattle.core_law.specs.Begins.{BeginsWell}
+use Rattle.core_steps.proofs.WorksOn.{MayWorkOn}
 use Rattle.core_steps.proofs.Looks.{looks_running}
 use Rattle.core_steps.proofs.enter_exit.ExitFacts.{unopen}
-use Rattle.core_steps.proofs.Facts.{Knows}
 use Rattle.core_law.proofs.Standing.{fits_here, away}
 use Rattle.core_steps.proofs.monitor.Inflations.{form_found}
 use Rattle.core_steps.proofs.safepoint.SafeCalls.{closes}
@@ -71,14 +70,7 @@ module _ (heap : Heap) (e : CallContext) (o : ℕ) where
   finds k x calm unbiased mark v found =
       let still : is_biased mark ≡ false = ap is_biased (sym found) ∙ unbiased_here heap false k o v x.runs (inr (refl, unbiased)) in record {
         tells = record {
-          runs = x.runs;
-          unasks = x.unasks;
-          still = x.still;
-          unchecks = x.unchecks;
-          live = x.live;
-          room = x.room;
-          object = x.object;
-          known = x.known;
+          works = x.works;
           holds = x.holds;
           mine = refl;
           check = refl;
@@ -146,6 +138,8 @@ module _ (heap : Heap) (k : ThreadView) (o now : ℕ) (rest : AtRest heap.shape 
       let m = both (has_reference heap.shape k o) (may_operate k (goes_on_with a o k.unfinished)) may in
       let operates_here = operates k (goes_on_with a o k.unfinished) m.1 in
       let reference = refers heap.shape k o m.0 in
+      let may_work : MayWorkOn heap k.log e o =
+      record { unchecks = unchecks; live = operates_here.live; room = operates_here.room; object = reference.within; known = reference.known } in
       let look = load e (id.Mark o) in
       binds heap true (unbias_steps heap.shape e (start_of heap.start k) (no_bias o now))
       (λ progress. and_then progress (λ u. ask look >>= (λ mark. steps (read_mark mark)))) k _ (
@@ -155,14 +149,12 @@ module _ (heap : Heap) (k : ThreadView) (o now : ℕ) (rest : AtRest heap.shape 
       (record {
         unbiased = λ l x bare.
             let tells : Telling heap e o l = record {
-              runs = x.runs;
-              unasks = x.unasks;
-              still = x.still;
-              unchecks = unchecks;
-              live = ap (λ z. ends z.log) x.local ∙ operates_here.live;
-              room = subst (λ z. length z.log < log_limit) (sym x.local) (let r = operates_here.room in omega arith);
-              object = reference.within;
-              known = subst (λ z. Knows heap z.log o) (sym x.local) reference.known;
+              works = record {
+                may = subst (λ z. MayWorkOn heap z.log e o) (sym x.local) may_work;
+                runs = x.runs;
+                unasks = x.unasks;
+                still = x.still;
+              };
               holds = subst (λ z. 1 ≤ hold_count o z.holds) (sym x.local) (some_named (hold_count o k.holds) some);
               mine = x.mine;
               check = x.check;

@@ -1,5 +1,5 @@
 -- The steps by which an owner looks at all waiting words, and tells those who wait.
-use Rattle.std.proofs.Common.{◌≡◌, ℕ, zero, suc, ◌+◌, ◌<◌, ◌≤◌, ◌^◌, ◌==◌, ne_eqb, Bool, true, false, cond, List, [], ◌∷◌}
+use Rattle.std.proofs.Common.{◌≡◌, ℕ, zero, suc, ◌+◌, ◌<◌, ◌≤◌, ◌^◌, ◌==◌, ne_eqb, Bool, false, cond, List, [], ◌∷◌}
 use Rattle.std.proofs.Common.{length, slice_index, Option, Some, None, refl, sym, ap, ◌∙◌, subst, inl, inr, arith}
 use Rattle.mark_word.specs.Wait.{wait_of}
 use Rattle.mark_word.specs.declared.wait.WaitForm.TheVariants.{Notified}
@@ -13,12 +13,11 @@ use Rattle.core_world.specs.declared.heap_call.Operation.TheVariants as op
 use Rattle.core_world.specs.declared.heap_call.Unfinished.{Unfinished}
 use Rattle.core_world.specs.Threads.AtRest.{AtRest}
 use Rattle.core_world.specs.Words.Forms.{waits_form, says_notified}
-use Rattle.core_world.specs.Threads.ThreadView.{ThreadView, Still, local_of, last_seen}
-use Rattle.core_world.specs.Clauses.Lengths.{log_limit}
+use Rattle.core_world.specs.Threads.ThreadView.{ThreadView, local_of, last_seen}
 use Rattle.core_world.specs.Locks.{hold_count}
 use Rattle.core_world.specs.Trees.Operations.{same_op}
 use Rattle.core_world.specs.Trees.Plans.{CallContext, load}
-use Rattle.core_world.specs.Clauses.Safepoints.{IsUnfinished, ends, is_ending}
+use Rattle.core_world.specs.Clauses.Safepoints.{IsUnfinished, is_ending}
 use Rattle.core_world.specs.Steps.{known_hit}
 use Rattle.core_world.specs.Threads.References.{HasReference}
 use Rattle.core_world.specs.Trees.StepTree.{done, ask, each_from, ◌>>=◌}
@@ -32,8 +31,9 @@ use Rattle.core_locks.proofs.wait.WakeOrder.{Remain, all_remain, oldest_seen, no
 use Rattle.core_locks.proofs.wait.Wakes.{other}
 use Rattle.bias_law.specs.Steps.{SawUnbiased, SawNone}
 use Rattle.core_law.specs.Logic.{Heap, SoundWorldWith, Does}
+use Rattle.core_steps.proofs.WorksOn.{WorksOn}
 use Rattle.core_steps.proofs.Looks.{looks_running}
-use Rattle.core_steps.proofs.Facts.{Untold, limits_here, ready_here, Knows}
+use Rattle.core_steps.proofs.Facts.{Untold, limits_here, ready_here}
 use Rattle.core_law.proofs.Standing.{fits_here, away, inside}
 use Rattle.std.specs.List.{AllByRecursion}
 use Rattle.plain_monitor.specs.Made.{hands_on}
@@ -63,14 +63,8 @@ telling_of a o no_wait no_enter no_dump = record {
 module _ (heap : Heap) (e : CallContext) (o : ℕ) where
   -- what a thread counts on that tells those who wait on o
   pub record Telling (k : ThreadView) : Type 0 where
-    pub runs : k.running ≡ true
-    pub unasks : k.requesting ≡ false
-    pub still : k.moving ≡ Still
-    pub unchecks : e.check ≡ false
-    pub live : ends k.log ≡ false
-    pub room : length k.log < log_limit
-    pub object : o < length heap.shape.objects
-    pub known : Knows heap k.log o
+    pub works : WorksOn heap k.running k.requesting k.moving k.log e o
+    pub open works use *
     pub holds : 1 ≤ hold_count o k.holds
     pub mine : k.unfinished ≡ e.unfinished
     pub check : e.check ≡ k.checking
@@ -116,14 +110,7 @@ module _ (heap : Heap) (e : CallContext) (o : ℕ) where
       (λ v. omega (arith, many)) (inl (sym x.mine)) tt) (λ word j was.
       let l = known_hit heap.shape heap.start look word k in
       let y : Telling l = record {
-        runs = x.runs;
-        unasks = x.unasks;
-        still = x.still;
-        unchecks = x.unchecks;
-        live = x.live;
-        room = x.room;
-        object = x.object;
-        known = x.known;
+        works = x.works;
         holds = x.holds;
         mine = refl;
         check = refl;
@@ -237,14 +224,7 @@ module _ (heap : Heap) (e : CallContext) (o : ℕ) where
       let l = known_hit heap.shape heap.start tell n k in
       each_does ps q (told + 1) l
       (record {
-        runs = x.runs;
-        unasks = x.unasks;
-        still = x.still;
-        unchecks = x.unchecks;
-        live = x.live;
-        room = x.room;
-        object = x.object;
-        known = x.known;
+        works = x.works;
         holds = x.holds;
         mine = refl;
         check = refl;

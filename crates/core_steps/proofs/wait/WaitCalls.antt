@@ -1,5 +1,5 @@
 -- Wait begins well: a call that begins it, and each later one.
-use Rattle.std.proofs.Common.{◌≡◌, ℕ, ◌+◌, ◌<◌, ◌≤◌, ◌==◌, ◌&&◌, nat_le, Bool, true, false, cond, length, Option, Some, refl, sym, ap, ◌∙◌, subst, inl, inr}
+use Rattle.std.proofs.Common.{◌≡◌, ℕ, ◌+◌, ◌≤◌, ◌==◌, ◌&&◌, nat_le, Bool, true, false, cond, length, Option, Some, refl, sym, ap, ◌∙◌, subst, inl, inr}
 use Rattle.core_world.specs.declared.word_id.WordId.TheVariants as id
 use Rattle.core_world.specs.declared.stage.Stage.TheVariants.{Settled}
 use Rattle.core_world.specs.declared.heap_call.Operation.TheVariants as op
@@ -9,7 +9,7 @@ use Rattle.core_world.specs.Threads.AtRest.{AtRest, MayAsk}
 use Rattle.core_world.specs.Trees.Calls.{steps_of, may_begin, may_operate, most_logged}
 use Rattle.core_world.specs.Threads.References.{has_reference, HasReference}
 use Rattle.core_world.specs.Words.Forms.{waits_on, says_notified}
-use Rattle.core_world.specs.Threads.ThreadView.{ThreadView, Local, Still, local_of, start_of}
+use Rattle.core_world.specs.Threads.ThreadView.{ThreadView, Local, local_of, start_of}
 use Rattle.core_world.specs.Clauses.Lengths.{log_limit}
 use Rattle.core_world.specs.Locks.{hold_count}
 use Rattle.core_world.specs.Trees.MonitorSteps.{inflate_steps}
@@ -26,7 +26,8 @@ use Rattle.bias_law.specs.Steps.{SawUnbiased}
 use Rattle.core_law.specs.Logic.{Heap, SoundWorldWith, Does}
 use Rattle.core_law.specs.Sound.{Finishes}
 use Rattle.core_law.specs.Begins.{BeginsWell}
-use Rattle.core_steps.proofs.Facts.{Unentering, fits_asking, ready_outside, Knows}
+use Rattle.core_steps.proofs.WorksOn.{MayWorkOn, WorksOn}
+use Rattle.core_steps.proofs.Facts.{Unentering, fits_asking, ready_outside}
 use Rattle.core_law.proofs.Standing.{fits_here, home}
 use Rattle.core_steps.proofs.monitor.Inflations.{SawNone, Unseen, Apart, inflate_does}
 use Rattle.core_steps.proofs.Resting.{rests, live_carries}
@@ -51,14 +52,9 @@ undumped_wait u o waits dumps = let a = ap (is_of_kind op.Wait) (sym waits ∙ d
 module _ (heap : Heap) (e : CallContext) (o : ℕ) where
   -- what a thread counts on that begins to wait on o
   record Beginning (k : ThreadView) : Type 0 where
-    runs : k.running ≡ true
-    unasks : k.requesting ≡ false
-    still : k.moving ≡ Still
-    unchecks : e.check ≡ false
-    live : ends k.log ≡ false
-    room : length k.log + 2 ≤ log_limit
-    object : o < length heap.shape.objects
-    known : Knows heap k.log o
+    works : WorksOn heap k.running k.requesting k.moving k.log e o
+    open works use *
+    two : length k.log + 2 ≤ log_limit
     holds : 1 ≤ hold_count o k.holds
     mine : k.unfinished ≡ e.unfinished
     check : e.check ≡ k.checking
@@ -68,14 +64,13 @@ module _ (heap : Heap) (e : CallContext) (o : ℕ) where
   -- steps that leave those parts leave all that
   beginning_apart : (k l : ThreadView) → Apart heap e o k l → Beginning k → Beginning l
   beginning_apart k l a x = record {
-    runs = a.running ∙ x.runs;
-    unasks = a.requesting ∙ x.unasks;
-    still = a.still;
-    unchecks = x.unchecks;
-    live = ap (λ (z : Local). ends z.log) a.local ∙ x.live;
-    room = subst (λ (z : Local). length z.log + 2 ≤ log_limit) (sym a.local) x.room;
-    object = x.object;
-    known = subst (λ z. Knows heap z.log o) (sym a.local) x.known;
+    works = record {
+      may = subst (λ z. MayWorkOn heap z.log e o) (sym a.local) x.may;
+      runs = a.running ∙ x.runs;
+      unasks = a.requesting ∙ x.unasks;
+      still = a.still;
+    };
+    two = subst (λ (z : Local). length z.log + 2 ≤ log_limit) (sym a.local) x.two;
     holds = subst (λ (z : Local). 1 ≤ hold_count o z.holds) (sym a.local) x.holds;
     mine = a.mine;
     check = a.check;
@@ -99,14 +94,8 @@ module _ (heap : Heap) (e : CallContext) (o : ℕ) where
   lets_go_does k m x calm inflated none =
       going heap (monitor_wait_steps e (local_of k) o m) (λ saved. monitor_resume_steps e k.thread saved o) k _ (
       follows heap false _ k _ _ (monitor_wait_does heap e o m k (record {
-        runs = x.runs;
-        unasks = x.unasks;
-        still = x.still;
-        unchecks = x.unchecks;
-        live = x.live;
-        room = x.room;
-        object = x.object;
-        known = x.known;
+        works = x.works;
+        two = x.two;
         holds = x.holds;
         mine = x.mine;
         check = x.check;
@@ -158,6 +147,9 @@ module _ (heap : Heap) (k : ThreadView) (o now : ℕ) (v : SoundWorldWith heap k
     reference : HasReference heap.shape k o
     reference = refers heap.shape k o here
 
+    may_work : MayWorkOn heap k.log e o
+    may_work = record { unchecks = refl; live = a.live; room = a.room; object = reference.within; known = reference.known }
+
     goes : GoesOn k e
     goes = goes_on_or_begins op.Wait o k.unfinished a.free
 
@@ -165,14 +157,7 @@ module _ (heap : Heap) (k : ThreadView) (o now : ℕ) (v : SoundWorldWith heap k
     later_does : waits_on k.wait o ≡ true → Does heap true (monitor_resume_steps e k.thread k.saved o) k (λ b r l. AtRest heap.shape l)
     later_does waits = by_flag (λ asks. let out = (asked asks).0 in absurd (cc (out, waits))) (λ unasks runs. monitor_resume_does heap e o true k
         (record {
-          runs = runs;
-          unasks = unasks;
-          still = rest.still;
-          unchecks = refl;
-          live = a.live;
-          room = a.room;
-          object = reference.within;
-          known = reference.known;
+          works = record { may = may_work; runs = runs; unasks = unasks; still = rest.still };
           mine = waiting_unfinished heap k v fits o waits;
           check = sym a.unchecking;
           waits = refl;
@@ -205,14 +190,13 @@ module _ (heap : Heap) (k : ThreadView) (o now : ℕ) (v : SoundWorldWith heap k
               (λ b r l. AtRest heap.shape l)) x.local
               (begun_does heap e o k.kept l
               (record {
-                runs = x.runs;
-                unasks = x.unasks;
-                still = x.still;
-                unchecks = refl;
-                live = ap (λ z. ends z.log) x.local ∙ a.live;
-                room = subst (λ z. length z.log + 2 ≤ log_limit) (sym x.local) two;
-                object = reference.within;
-                known = subst (λ z. Knows heap z.log o) (sym x.local) reference.known;
+                works = record {
+                  may = subst (λ z. MayWorkOn heap z.log e o) (sym x.local) may_work;
+                  runs = x.runs;
+                  unasks = x.unasks;
+                  still = x.still;
+                };
+                two = subst (λ z. length z.log + 2 ≤ log_limit) (sym x.local) two;
                 holds = subst (λ z. 1 ≤ hold_count o z.holds) (sym x.local) (some_named (hold_count o k.holds) some);
                 mine = x.mine;
                 check = x.check;

@@ -1,6 +1,6 @@
 -- The end of a wait that has let go: its thread looks whether it was notified, and takes the monitor again.
-use Rattle.std.proofs.Common.{◌≡◌, ◌⊎◌, ℕ, ◌<◌, ◌==◌, eq-eqb, eqb-true, Bool, true, false, cond}
-use Rattle.std.proofs.Common.{length, Option, Some, None, refl, sym, ap, ◌∙◌, subst, inl, inr}
+use Rattle.std.proofs.Common.{◌≡◌, ◌⊎◌, ℕ, ◌==◌, eq-eqb, eqb-true, Bool, true, false, cond}
+use Rattle.std.proofs.Common.{Option, Some, None, refl, sym, ap, ◌∙◌, subst, inl, inr}
 use Rattle.mark_word.specs.declared.owner.OwnerForm.{OwnerForm}
 use Rattle.mark_word.specs.declared.owner.OwnerForm.TheVariants.{Free, ByThread, ByRecord}
 use Rattle.mark_word.specs.declared.wait.WaitForm.{WaitForm}
@@ -14,10 +14,9 @@ use Rattle.core_world.specs.declared.stage.Stage.TheVariants.{Settled, Resumes}
 use Rattle.core_world.specs.declared.heap_call.Operation.TheVariants as op
 use Rattle.core_world.specs.Threads.AtRest.{AtRest}
 use Rattle.core_world.specs.Words.Forms.{waits_on, waits_form, says_notified, notified_form}
-use Rattle.core_world.specs.Threads.ThreadView.{ThreadView, Still, last_seen}
-use Rattle.core_world.specs.Clauses.Lengths.{log_limit}
+use Rattle.core_world.specs.Threads.ThreadView.{ThreadView, last_seen}
 use Rattle.core_world.specs.Trees.Plans.{CallContext, load}
-use Rattle.core_world.specs.Clauses.Safepoints.{IsUnfinished, ends}
+use Rattle.core_world.specs.Clauses.Safepoints.{IsUnfinished}
 use Rattle.core_world.specs.Steps.{is_idle, known_hit, known_miss}
 use Rattle.core_world.specs.Trees.WaitSteps.{resumed_steps, resume_owner_at, resume_owner_steps, resume_mark_at, resume_at}
 use Rattle.core_world.specs.Trees.WaitSteps.{monitor_resume_steps, restore_plan, regain_plan, log_resume_plan}
@@ -29,6 +28,7 @@ use Rattle.core_world.proofs.enter_exit.OwnersShown.{inflated_form}
 use Rattle.core_locks.specs.Knowing.{SawInflated, SawOwn}
 use Rattle.core_locks.proofs.wait.TellLists.{waits_untold}
 use Rattle.core_law.specs.Logic.{Heap, Does}
+use Rattle.core_steps.proofs.WorksOn.{WorksOn}
 use Rattle.core_steps.proofs.Looks.{looks_running}
 use Rattle.core_steps.proofs.monitor.Inflations.{SawNone}
 use Rattle.core_steps.proofs.LawRules.{readies}
@@ -41,19 +41,12 @@ use Rattle.core_steps.proofs.Tests.{is_of_kind}
 use Rattle.core_steps.proofs.Trees.{answers, chooses, exchanging, hitting}
 use Rattle.core_steps.proofs.wait.WaitFacts.{says_here, inflated_here, unowned_here}
 use Rattle.core_steps.proofs.wait.WaitRules.{logs_resume}
-use Rattle.core_steps.proofs.Facts.{Knows}
 
 module _ (heap : Heap) (e : CallContext) (o : ℕ) where
   -- what a thread counts on whose wait on o has let go
   pub record LetGo (k : ThreadView) : Type 0 where
-    pub runs : k.running ≡ true
-    pub unasks : k.requesting ≡ false
-    pub still : k.moving ≡ Still
-    pub unchecks : e.check ≡ false
-    pub live : ends k.log ≡ false
-    pub room : length k.log < log_limit
-    pub object : o < length heap.shape.objects
-    pub known : Knows heap k.log o
+    pub works : WorksOn heap k.running k.requesting k.moving k.log e o
+    pub open works use *
     pub mine : k.unfinished ≡ e.unfinished
     pub check : e.check ≡ k.checking
     pub waits : IsUnfinished e.unfinished op.Wait o
@@ -130,14 +123,7 @@ module _ (heap : Heap) (e : CallContext) (o : ℕ) where
       (sym (ap read_owner h ∙ read_owner-owner_of Free tt))
       (resumed_does l m
       (record {
-        runs = x.runs;
-        unasks = x.unasks;
-        still = x.still;
-        unchecks = x.unchecks;
-        live = x.live;
-        room = x.room;
-        object = x.object;
-        known = x.known;
+        works = x.works;
         mine = refl;
         check = refl;
         waits = x.waits;
@@ -147,14 +133,7 @@ module _ (heap : Heap) (e : CallContext) (o : ℕ) where
       (λ n i was h.
       missed_does (read_owner n) (known_miss heap.shape heap.start regain n k) m n
       (record {
-        runs = x.runs;
-        unasks = x.unasks;
-        still = x.still;
-        unchecks = x.unchecks;
-        live = x.live;
-        room = x.room;
-        object = x.object;
-        known = x.known;
+        works = x.works;
         mine = x.mine;
         check = x.check;
         waits = x.waits;
@@ -188,14 +167,7 @@ module _ (heap : Heap) (e : CallContext) (o : ℕ) where
       subst (λ f. Does heap false (resume_mark_at f e k.thread k.saved o) l (λ b r l. AtRest heap.shape l)) (sym (inflated_form (read_mark mark) is.0 is.1))
       (owner_does l is.0 word
       (record {
-        runs = x.runs;
-        unasks = x.unasks;
-        still = x.still;
-        unchecks = x.unchecks;
-        live = x.live;
-        room = x.room;
-        object = x.object;
-        known = x.known;
+        works = x.works;
         mine = refl;
         check = refl;
         waits = x.waits;
@@ -215,14 +187,7 @@ module _ (heap : Heap) (e : CallContext) (o : ℕ) where
       (λ word i was.
       at_does (read_wait word) (known_hit heap.shape heap.start look word k) word
       (record {
-        runs = x.runs;
-        unasks = x.unasks;
-        still = x.still;
-        unchecks = x.unchecks;
-        live = x.live;
-        room = x.room;
-        object = x.object;
-        known = x.known;
+        works = x.works;
         mine = refl;
         check = refl;
         waits = x.waits;

@@ -27,7 +27,7 @@ use Rattle.core_world.specs.Clauses.Lengths.{log_limit}
 use Rattle.core_world.specs.Locks.{hold_count}
 use Rattle.core_world.specs.Trees.MonitorSteps.{own_steps, take_over_plan, reset_count_plan}
 use Rattle.core_world.specs.Trees.Plans.{CallContext, quiet_plan, with_stage, with_own, load, next_stamp}
-use Rattle.core_world.specs.Clauses.Safepoints.{IsUnfinished, ends}
+use Rattle.core_world.specs.Clauses.Safepoints.{IsUnfinished}
 use Rattle.core_world.specs.Steps.{is_idle, known_hit, moving_after}
 use Rattle.core_world.specs.Threads.References.{numbering}
 use Rattle.core_world.specs.Trees.StepTree.{StepTree, done, ask, ◌>>=◌}
@@ -38,7 +38,8 @@ use Rattle.core_locks.specs.MonitorLaws.{MayCount}
 use Rattle.core_locks.proofs.wait.LeavesStamps.{next_fits}
 use Rattle.core_locks.proofs.WaitOut.{ready_is_out}
 use Rattle.core_law.specs.Logic.{Heap, SoundWorldWith, Keeps, Does}
-use Rattle.core_steps.proofs.Facts.{limits_here, Knows}
+use Rattle.core_steps.proofs.WorksOn.{WorksOn}
+use Rattle.core_steps.proofs.Facts.{limits_here}
 use Rattle.core_law.proofs.Standing.{fits_here, home}
 use Rattle.core_steps.proofs.monitor.Inflations.{SawNone}
 use Rattle.core_steps.proofs.LawRules.{raises}
@@ -54,14 +55,9 @@ use Rattle.core_locks.proofs.KnownMore.{knows_more}
 module _ (heap : Heap) (e : CallContext) (o m : ℕ) where
   -- what a thread counts on that is about to wait on o, whose monitor is m
   pub record Letting (k : ThreadView) : Type 0 where
-    pub runs : k.running ≡ true
-    pub unasks : k.requesting ≡ false
-    pub still : k.moving ≡ Still
-    pub unchecks : e.check ≡ false
-    pub live : ends k.log ≡ false
-    pub room : length k.log + 2 ≤ log_limit
-    pub object : o < length heap.shape.objects
-    pub known : Knows heap k.log o
+    pub works : WorksOn heap k.running k.requesting k.moving k.log e o
+    pub open works use *
+    pub two : length k.log + 2 ≤ log_limit
     pub holds : 1 ≤ hold_count o k.holds
     pub mine : k.unfinished ≡ e.unfinished
     pub check : e.check ≡ k.checking
@@ -77,14 +73,8 @@ module _ (heap : Heap) (e : CallContext) (o m : ℕ) where
     after_owner stage =
         let older = saw_older heap (with_stage stage (quiet_plan e (id.Owner m) act)) n k in
         record {
-          runs = x.runs;
-          unasks = x.unasks;
-          still = x.still;
-          unchecks = x.unchecks;
-          live = x.live;
-          room = x.room;
-          object = x.object;
-          known = x.known;
+          works = x.works;
+          two = x.two;
           holds = x.holds;
           mine = refl;
           check = refl;
@@ -99,14 +89,8 @@ module _ (heap : Heap) (e : CallContext) (o m : ℕ) where
     after_recursions keep still =
         let p = with_own keep (quiet_plan e (id.Recursions m) act) in
         record {
-          runs = x.runs;
-          unasks = x.unasks;
-          still = still;
-          unchecks = x.unchecks;
-          live = x.live;
-          room = x.room;
-          object = x.object;
-          known = x.known;
+          works = record { may = x.may; runs = x.runs; unasks = x.unasks; still = still };
+          two = x.two;
           holds = x.holds;
           mine = refl;
           check = refl;
@@ -187,7 +171,7 @@ module _ (heap : Heap) (e : CallContext) (o m : ℕ) where
       let wait : StepPlan = log_wait_plan e k.thread o stamp in
       let drop = drop_plan e o m in
       let quit = quit_plan e m in
-      let room = x.room in
+      let room = x.two in
       hitting heap false save _ k _ (λ n. refl) (λ i. saves_rule heap k e o m (λ v. (may_count k x owns, calm)) (inl (sym x.mine))) (λ n0 i0 was0.
       let k1 = known_hit heap.shape heap.start save n0 k in
       let x1 = after_recursions k x i0 Load n0 own.SaveRecursions x.still in
@@ -236,14 +220,18 @@ module _ (heap : Heap) (e : CallContext) (o m : ℕ) where
         thread = refl;
         kept = refl;
         let_go = record {
-          runs = x.runs;
-          unasks = x.unasks;
-          still = x.still;
-          unchecks = x.unchecks;
-          live = live_after k.log _ x.live refl;
-          room = fits_one k.log _ x.room;
-          object = x.object;
-          known = knows_more (numbering heap.shape) k.log _ o x.known;
+          works = record {
+            may = record {
+              unchecks = x.unchecks;
+              live = live_after k.log _ x.live refl;
+              room = fits_one k.log _ x.two;
+              object = x.object;
+              known = knows_more (numbering heap.shape) k.log _ o x.known;
+            };
+            runs = x.runs;
+            unasks = x.unasks;
+            still = x.still;
+          };
           mine = refl;
           check = refl;
           waits = x.waits;
