@@ -1,6 +1,12 @@
 -- What a thread has for itself, and takes along through the steps of a safepoint.
 use Rattle.std.proofs.Common.{◌≡◌, ℕ, List, Option, refl, sym, ◌∙◌, subst}
 use Rattle.core_world.specs.declared.heap_call.Unfinished.{Unfinished}
+use Rattle.core_world.specs.declared.stage.Stage.{Stage}
+use Rattle.core_world.specs.declared.word_id.WordId.{WordId}
+use Rattle.core_world.specs.Steps.{known_hit}
+use Rattle.core_world.specs.Trees.Plans.{CallContext, load_plan}
+use Rattle.core_world.proofs.ActsLook.{holds_load, wait_load}
+use Rattle.core_law.specs.Logic.{Heap}
 use Rattle.core_world.specs.Threads.ThreadView.{ThreadView, DumpShot, Local, local_of}
 use Rattle.core_steps.proofs.Resting.{Carries}
 
@@ -34,7 +40,18 @@ keeps_own_all a b c x y = record {
   shots = y.shots ∙ x.shots;
 }
 
--- what it carries from call to call it carries still, where it has as much in hand of the ring
+-- a load leaves it,
+pub load_keeps_own : (heap : Heap) (e : CallContext) (stage : Stage) (at : WordId) (n : ℕ) (k : ThreadView)
+    → KeepsOwn (own_of k) (own_of (known_hit heap.shape heap.start (load_plan e stage at) n k))
+load_keeps_own heap e stage at n k = record {
+  local = λ i. record { thread = k.thread; log = k.log; holds = holds_load at k i; wait = wait_load at k i };
+  kept = refl;
+  saved = refl;
+  draws = refl;
+  shots = refl;
+}
+
+-- and what it carries from call to call it carries still, where it has as much in hand of the ring
 pub still_carries : {u : Option Unfinished} (k l : ThreadView) → KeepsOwn (own_of k) (own_of l) → k.moving ≡ l.moving
     → Carries k.moving k.log k.wait k.holds k.shots u → Carries l.moving l.log l.wait l.holds l.shots u
 still_carries {u} k l x same carries =

@@ -31,17 +31,16 @@ use Rattle.core_bias.specs.Revoking.{IsNextStore, Leads, is_kept_on_request}
 use Rattle.core_bias.proofs.RevocationRuns.{steps_next}
 use Rattle.core_law.specs.Logic.{SoundWorldWith, Was, Does}
 use Rattle.core_steps.proofs.bias.SeenAtSafepoint.{SeenSince, since_more, SeenBut, but_more, but_less, goes_on_seeing}
-use Rattle.core_steps.proofs.bias.RevocationMiddle.{OneRevocation, Leaves, leaves_all, look_adds, number_of, MadeAll, middle_does}
-use Rattle.core_world.specs.Clauses.Safepoints.{ends}
-use Rattle.core_steps.proofs.OwnParts.{still_carries, same_own}
+use Rattle.core_steps.proofs.bias.RevocationMiddle.{OneRevocation, Leaves, leaves_all, look_adds, MadeAll, middle_does}
+use Rattle.core_steps.proofs.OwnParts.{same_own}
 use Rattle.core_steps.proofs.bias.BiasFacts.{valid_is}
 use Rattle.core_steps.proofs.bias.BiasRules.{begins_revoking_rule}
 use Rattle.core_steps.proofs.ClassSteps.{class_from, class_once, class_declared, class_made, declared_class, made_class, made_there, class_does}
 use Rattle.core_steps.proofs.Facts.{Knows}
 use Rattle.core_steps.proofs.LawRules.{limits}
 use Rattle.core_law.proofs.Standing.{home, away}
-use Rattle.core_steps.proofs.bias.RevocationTrees.{IsLooked, middle_binds, middle_verdict}
-use Rattle.core_steps.proofs.safepoint.SafepointLooks.{Reaches, keeps_look, going}
+use Rattle.core_steps.proofs.bias.RevocationTrees.{middle_binds, middle_verdict}
+use Rattle.core_steps.proofs.safepoint.SafepointLooks.{Reaches, keeps_look, going, reaches_on}
 use Rattle.core_law.proofs.SafepointSights.{forms_fit, fits_reached}
 use Rattle.core_steps.proofs.Trees.{hitting}
 
@@ -53,21 +52,6 @@ module _ (this : OneRevocation) where
 
   abbrev then_known : StepPlan → ℕ → ThreadView → ThreadView
   then_known p n k = known_hit heap.shape heap.start p n k
-
-  -- a load by which it hasn't begun to revoke leaves it there
-  reaches_after : (at : WordId) → IsLooked at → (n : ℕ) (k : ThreadView) → Reaches me k e → Reaches me (then_known (load e at) n k) e
-  reaches_after at h n k r =
-      let x = (look_adds this Settled at h n k).leaves in
-      record {
-        number = number_of this k (then_known (load e at) n k) r x;
-        reached = x.reached ∙ r.reached;
-        stopped = x.running ∙ r.stopped;
-        calm = refl;
-        check = refl;
-        mine = refl;
-        live = ap (λ z. ends z.log) x.local ∙ r.live;
-        carries = still_carries k (then_known (load e at) n k) x.own (sym x.moving) r.carries;
-      }
 
   -- a class word that was seen in the calls of the request
   class_stays : (k : ThreadView) (v : SoundWorldWith heap k) (m : ℕ) → k.reached ≡ true
@@ -267,11 +251,11 @@ module _ (this : OneRevocation) where
           hitting heap false (load e (id.Prototype c)) _ kc R (λ n. refl)
           (λ i. keeps_look heap me e (id.Prototype c) kc r1 (λ v. in_heap)) (λ prototype i1 was1.
           let k2 = then_known (load e (id.Prototype c)) prototype kc in
-          let r2 = reaches_after (id.Prototype c) tt prototype kc r1 in
+          let r2 = reaches_on heap me e (id.Prototype c) prototype kc r1 in
           hitting heap false (load e (id.Revocations c)) _ k2 R (λ n. refl)
           (λ i. keeps_look heap me e (id.Revocations c) k2 r2 (λ v. in_heap)) (λ count i2 was2.
           let k3 = then_known (load e (id.Revocations c)) count k2 in
-          let r3 = reaches_after (id.Revocations c) tt count k2 r2 in
+          let r3 = reaches_on heap me e (id.Revocations c) count k2 r2 in
           hitting heap false (load e (id.LastBulk c)) _ k3 R (λ n. refl) (λ i. keeps_look heap me e (id.LastBulk c) k3 r3 (λ v. in_heap)) (λ last i3 was3.
           let prototype_is : prototype ≡ saw.1 =
           sym was1.found ∙ still_prototype c kc was1.stands saw.1 r1.reached r1.calm
@@ -318,7 +302,7 @@ module _ (this : OneRevocation) where
       by_test z = cond z (done (class_in_shape heap.shape b.object)) (step (load e (id.Class b.object)) (λ word. done (word - 1))) >>= after_class mark
 
       reaches : Reaches me k1 e
-      reaches = reaches_after (id.Mark b.object) tt mark k0 r
+      reaches = reaches_on heap me e (id.Mark b.object) mark k0 r
 
       leaves : Leaves e k0 k1
       leaves = (look_adds this Settled (id.Mark b.object) tt mark k0).leaves
@@ -366,7 +350,7 @@ module _ (this : OneRevocation) where
           subst (λ c. Does heap false (after_class mark c) kc R) same
           (class_decides k0 r unwritten saw.2 mark
           (record { plan = load e (id.Class b.object); found = n } ∷ record { plan = load e (id.Mark b.object); found = mark } ∷ []) kc (record {
-            reaches = reaches_after (id.Class b.object) tt n k1 reaches;
+            reaches = reaches_on heap me e (id.Class b.object) n k1 reaches;
             leaves = leaves_all e k0 k1 kc leaves (look_adds this Settled (id.Class b.object) tt n k1).leaves;
             seen_at_safepoint = refl;
             unwritten = ap (λ z. (z ++ []) ++ []) unwritten;

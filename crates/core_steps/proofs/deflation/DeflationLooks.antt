@@ -13,6 +13,7 @@ use Rattle.core_world.specs.Trees.StepTree.{StepTree, ask, ◌>>=◌}
 use Rattle.core_world.specs.Trees.Plans.{CallContext, load_plan}
 use Rattle.core_world.specs.Threads.Stages.{revocation_in}
 use Rattle.core_world.specs.Words.Names.{same_name}
+use Rattle.core_world.proofs.ActsLook.{runs_load}
 use Rattle.core_world.proofs.Naming.{same_named, same_as_itself}
 use Rattle.core_locks.specs.SafepointLaws.{SeesEnded, SeesHeldUp}
 use Rattle.core_locks.specs.DeflationLaws.{Saw}
@@ -25,7 +26,7 @@ use Rattle.core_steps.proofs.deflation.Ringed.{IsOut, out_on}
 use Rattle.core_steps.proofs.LawRules.{standing_in_all}
 use Rattle.core_steps.proofs.safepoint.SafepointLooks.{stays_reached, stood_kept}
 use Rattle.core_steps.proofs.Trees.{hitting}
-use Rattle.core_steps.proofs.OwnParts.{KeepsOwn, own_of}
+use Rattle.core_steps.proofs.OwnParts.{KeepsOwn, own_of, keeps_own_all, load_keeps_own}
 
 -- A LOOK forgets no word, and gives no monitor back.
 pub record Looked (k l : ThreadView) : Type 0 where
@@ -200,23 +201,14 @@ module _ (this : OneDeflation) where
   still_looked_at at k n reached kept was = record { sights = still_seen_at at k n reached kept was; back = λ m. ap (λ z. is_taken_by z m) kept }
 
   pub idles_on : (at : WordId) (n : ℕ) (k : ThreadView) → Idles k → Idles (known_hit heap.shape heap.start (load_plan e st at) n k)
-  idles_on word_id.Safepoint n k x = record {
-    reached = stays_reached k.reached _ x.reached;
-    stopped = x.stopped;
+  idles_on at n k x = record {
+    reached = stays_reached at n k x.reached;
+    stopped = runs_load at n k ∙ x.stopped;
     stands = refl;
     check = refl;
     mine = refl;
     still = x.still;
-    own = x.own;
-  }
-  idles_on _ n k x = record {
-    reached = x.reached;
-    stopped = x.stopped;
-    stands = refl;
-    check = refl;
-    mine = refl;
-    still = x.still;
-    own = x.own;
+    own = keeps_own_all (own_of k0) (own_of k) _ x.own (load_keeps_own heap e st at n k);
   }
 
   -- a look, and what follows by the word that it finds

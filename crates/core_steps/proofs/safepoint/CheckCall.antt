@@ -34,7 +34,7 @@ use Rattle.core_world.specs.Trees.DeflateSteps.{deflate_steps}
 use Rattle.core_steps.proofs.OwnParts.{still_carries, same_own}
 use Rattle.core_steps.proofs.deflation.Deflations.{deflate_does}
 use Rattle.core_steps.proofs.LawRules.{releases, halts}
-use Rattle.core_steps.proofs.safepoint.SafepointLooks.{Reaches, keeps_look, Facts, each_does, going}
+use Rattle.core_steps.proofs.safepoint.SafepointLooks.{Reaches, keeps_look, Facts, each_does, going, reaches_on}
 use Rattle.core_law.proofs.SafepointSights.{Seeing, seeing_all, is_as_seen, fits_reached, saw_there, still_seen, found_formed}
 use Rattle.core_steps.proofs.Trees.{answers, chooses_then, follows, binds, hitting, finding}
 use Rattle.core_steps.proofs.safepoint.Requests.{Stood, safepoint_does}
@@ -72,7 +72,7 @@ module _ (heap : Heap) (e : CallContext) (me : ℕ) (checks : e.check ≡ true) 
       let l = known_hit heap.shape heap.start (load e (id.Owner m)) owner k in
       let seeing : Seeing k l = still_seen heap e (id.Owner m) k owner r.reached refl was in
       answers heap false (Some (can_acquire (read_owner owner) u)) l _ (
-        record { number = r.number; reached = r.reached; stopped = r.stopped; calm = refl; check = refl; mine = refl; live = r.live; carries = r.carries },
+        reaches_on heap me e (id.Owner m) owner k r,
         seeing_all k0 k l s seeing,
         cases owner l seeing (saw_there heap e (id.Owner m) k owner refl) (can_acquire (read_owner owner) u) refl,
       ))
@@ -102,16 +102,7 @@ module _ (heap : Heap) (e : CallContext) (me : ℕ) (checks : e.check ≡ true) 
       ] in
       let is : monitor_in mark ≡ Some inflated.0 = ap monitor_in (sym was.found) ∙ inflated.1 in
       subst (λ f. Does heap false (look_at_monitor f e u) l (λ b a l. After k0 u a l)) (sym (inflated_form (read_mark mark) inflated.0 is))
-      (monitor_does k0 l u o word mark inflated.0 (record {
-        number = r.number;
-        reached = r.reached;
-        stopped = r.stopped;
-        calm = refl;
-        check = refl;
-        mine = refl;
-        live = r.live;
-        carries = r.carries;
-      })
+      (monitor_does k0 l u o word mark inflated.0 (reaches_on heap me e (id.Mark o) mark k r)
       (seeing_all k0 k l s seeing) (seeing.saw (id.Waiting u) word saw) how (saw_there heap e (id.Mark o) k mark refl) is
       (subst (IsMark heap.shape) (inflated_form (read_mark mark) inflated.0 is) (found_formed heap k (id.Mark o) mark refl was))))
 
@@ -134,16 +125,7 @@ module _ (heap : Heap) (e : CallContext) (me : ℕ) (checks : e.check ≡ true) 
   pub turn_does : (u : ℕ) (k : ThreadView) → u < heap.shape.threads → Reaches me k e → Does heap false (turn_of u) k (λ b a l. After k u a l)
   turn_does u k thread r =
       hitting heap false _ _ k _ (λ n. refl) (λ i. keeps_look heap me e (id.Waiting u) k r (λ v. thread)) (λ word i was.
-      wait_does (read_wait word) k _ u word refl (found_formed heap k (id.Waiting u) word refl was) (record {
-        number = r.number;
-        reached = r.reached;
-        stopped = r.stopped;
-        calm = refl;
-        check = refl;
-        mine = refl;
-        live = r.live;
-        carries = r.carries;
-      })
+      wait_does (read_wait word) k _ u word refl (found_formed heap k (id.Waiting u) word refl was) (reaches_on heap me e (id.Waiting u) word k r)
       (still_seen heap e (id.Waiting u) k word r.reached refl was) (saw_there heap e (id.Waiting u) k word refl))
 
   here_stuck : (i : ℕ) (a : Option Bool) (xs : List (Option Bool)) (l : ThreadView) → Told i a l → none_goes_on (a ∷ xs) ≡ true → SeesEnded l i ⊎ SeesHeldUp l i

@@ -1,5 +1,5 @@
 -- A thread that looks at words of the heap at its reached safepoint; and a loop over threads.
-use Rattle.std.proofs.Common.{◌≡◌, ℕ, zero, suc, ◌+◌, ◌||◌, Bool, true, false, cond, List, [], ◌∷◌, refl, sym, ap, ◌<◌, ◌≤◌, arith}
+use Rattle.std.proofs.Common.{◌≡◌, ℕ, zero, suc, ◌+◌, ◌||◌, ◌&&◌, ◌∙◌, Bool, true, false, cond, List, [], ◌∷◌, refl, sym, ap, ◌<◌, ◌≤◌, arith}
 use Rattle.core_world.specs.declared.act.Act.TheVariants.{Load}
 use Rattle.core_world.specs.declared.word_id.WordId.{WordId}
 use Rattle.core_world.specs.declared.word_id.WordId.TheVariants as id
@@ -8,9 +8,12 @@ use Rattle.core_world.specs.Threads.ThreadView.{ThreadView}
 use Rattle.core_world.specs.Trees.Plans.{CallContext, load}
 use Rattle.core_world.specs.Clauses.Safepoints.{ends}
 use Rattle.core_world.specs.Trees.StepTree.{StepTree, done, unreachable, step, each_from, ◌>>=◌}
+use Rattle.core_world.specs.Words.Forms.{is_still}
+use Rattle.core_world.proofs.ActsLook.{runs_load}
+use Rattle.core_steps.proofs.OwnParts.{still_carries, load_keeps_own}
 use Rattle.core_steps.proofs.Looks.{looks_standing}
 use Rattle.core_steps.proofs.Resting.{Carries}
-use Rattle.core_world.specs.Steps.{seen_at_safepoint_before}
+use Rattle.core_world.specs.Steps.{known_hit, reached_after, seen_at_safepoint_before}
 use Rattle.core_world.specs.There.{IsIn}
 use Rattle.core_law.specs.Logic.{Heap, SoundWorldWith, Keeps, Does}
 use Rattle.core_law.proofs.SafepointSights.{Seeing, seeing_all, seeing_itself}
@@ -27,20 +30,34 @@ pub record Reaches (me : ℕ) (k : ThreadView) (e : CallContext) : Type 0 where
   pub live : ends k.log ≡ false
   pub carries : Carries k.moving k.log k.wait k.holds k.shots e.unfinished
 
--- a load there leaves the safepoint reached, and forgets nothing
-pub stays_reached : (a b : Bool) → a ≡ true → (a || b) ≡ true
-stays_reached true b e = refl
-stays_reached false b e = absurd (cc e)
+-- a load there leaves the safepoint reached,
+pub stays_reached : (at : WordId) (word : ℕ) (k : ThreadView) → k.reached ≡ true → reached_after at Load word k ≡ true
+stays_reached id.Safepoint word k reached = ap (λ b. b || (k.requesting && is_still word)) reached
+stays_reached _ word k reached = reached
 
+-- and forgets nothing
 pub stood_kept : (at : WordId) (k : ThreadView) → k.reached ≡ true → seen_at_safepoint_before at Load k ≡ k.seen_at_safepoint
 stood_kept id.Safepoint k reached = ap (λ (b : Bool). cond b k.seen_at_safepoint []) reached
 stood_kept _ k reached = refl
 
 module _ (heap : Heap) where
-  -- a load there
+  -- it keeps the world so, and the thread stands there still
   pub keeps_look : (me : ℕ) (e : CallContext) (at : WordId) (k : ThreadView)
       → Reaches me k e → (SoundWorldWith heap k → IsIn heap.shape at) → Keeps heap (load e at) k
   keeps_look me e at k r there = looks_standing heap k e Settled at r.reached r.stopped (sym r.calm) r.check r.mine there
+
+  pub reaches_on : (me : ℕ) (e : CallContext) (at : WordId) (n : ℕ) (k : ThreadView)
+      → Reaches me k e → Reaches me (known_hit heap.shape heap.start (load e at) n k) e
+  reaches_on me e at n k r = record {
+    number = r.number;
+    reached = stays_reached at n k r.reached;
+    stopped = runs_load at n k ∙ r.stopped;
+    calm = refl;
+    check = refl;
+    mine = refl;
+    live = r.live;
+    carries = still_carries k (known_hit heap.shape heap.start (load e at) n k) (load_keeps_own heap e Settled at n k) refl r.carries;
+  }
 
   -- where the first is to go on with the same flag
   pub going : {A B : Type 0} (d : StepTree A) (g : A → StepTree B) (k : ThreadView) (R : Bool → B → ThreadView → Type 0)

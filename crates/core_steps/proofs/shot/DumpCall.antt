@@ -48,7 +48,7 @@ use Rattle.core_world.proofs.There.{IsFormed, class_there}
 use Rattle.core_law.specs.Logic.{Heap, SoundWorldWith, Does}
 use Rattle.core_law.specs.Sound.{Finishes}
 use Rattle.core_law.specs.Begins.{BeginsWell}
-use Rattle.core_steps.proofs.OwnParts.{same_own}
+use Rattle.core_steps.proofs.OwnParts.{same_own, load_keeps_own}
 use Rattle.core_steps.proofs.Facts.{Untold, ready_here}
 use Rattle.core_law.proofs.Standing.{fits_here, home, valid_here, few_threads, inside}
 use Rattle.core_world.specs.Trees.DeflateSteps.{deflate_steps}
@@ -60,7 +60,7 @@ use Rattle.core_steps.proofs.FairSteps.{begins_going}
 use Rattle.core_steps.proofs.safepoint.Requests.{Asks, Stood, BeginsSafepoint, safepoint_does}
 use Rattle.core_steps.proofs.Resting.{Carries, logged_carries, rests}
 use Rattle.core_steps.proofs.safepoint.SafeCalls.{closes, released_unasks}
-use Rattle.core_steps.proofs.safepoint.SafepointLooks.{Reaches, stays_reached, stood_kept, keeps_look, going}
+use Rattle.core_steps.proofs.safepoint.SafepointLooks.{Reaches, stays_reached, stood_kept, keeps_look, going, reaches_on}
 use Rattle.core_law.proofs.SafepointSights.{Seeing, seeing_all, seeing_itself, saw_there, still_seen, found_formed}
 use Rattle.core_steps.proofs.safepoint.SafeWords.{reached_there, released_runs}
 use Rattle.core_steps.proofs.Tests.{asking_goes, free_runs, Operates, operates, going_is, goes_on_or_begins, is_of_kind}
@@ -147,38 +147,11 @@ module _ (heap : Heap) (me : ℕ) (here : Local) (shots : List DumpShot)
     shots_are : k.shots ≡ shots
 
   after_load : (at : WordId) (n : ℕ) (k : ThreadView) → Dumps k → Dumps (known_hit heap.shape heap.start (load dump_errand at) n k)
-  after_load id.Safepoint n k d =
-      let r = d.reaches in
-      record {
-        reaches = record {
-          number = r.number;
-          reached = stays_reached k.reached _ r.reached;
-          stopped = r.stopped;
-          calm = refl;
-          check = refl;
-          mine = refl;
-          live = r.live;
-          carries = r.carries;
-        };
-        same = d.same;
-        shots_are = d.shots_are;
-      }
-  after_load _ n k d =
-      let r = d.reaches in
-      record {
-        reaches = record {
-          number = r.number;
-          reached = r.reached;
-          stopped = r.stopped;
-          calm = refl;
-          check = refl;
-          mine = refl;
-          live = r.live;
-          carries = r.carries;
-        };
-        same = d.same;
-        shots_are = d.shots_are;
-      }
+  after_load at n k d = record {
+    reaches = reaches_on heap me dump_errand at n k d.reaches;
+    same = (load_keeps_own heap dump_errand Settled at n k).local ∙ d.same;
+    shots_are = d.shots_are;
+  }
 
   -- the looks, each of which stays seen
   looks_do : {A : Type 0} (d : StepTree A) (k : ThreadView) → Looks heap.shape dump_errand d → Dumps k
@@ -307,7 +280,7 @@ module _ (heap : Heap) (me : ℕ) (here : Local) (shots : List DumpShot)
       (λ v a m. shot_keeps v.world v.objects k.thread dump_errand (inside heap k v) m (ap making_in m.goes_on) a.fits a.made)) (λ n i was.
       let l = known_hit heap.shape heap.start p n k in
       answers heap false _ l _ (deflating_does l (shot_of heap.shape k) (record {
-        reached = stays_reached k.reached _ r.reached;
+        reached = stays_reached id.Safepoint n k r.reached;
         calm = refl;
         still = r.carries.still;
         mine = refl;
