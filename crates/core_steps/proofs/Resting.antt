@@ -39,53 +39,39 @@ unchecking s k rest unasks = cases k.checking rest.checks
     cases true f = let asks = f refl in absurd (cc (asks, unasks))
     cases false f = refl
 
--- so the thread is at rest where it asks for nothing
+-- So the thread is at rest by what it carries, with what its request and its check ask for,
+pub rests_with : (s : Shape) (k : ThreadView) → k.stage ≡ Settled → Carries k.moving k.log k.wait k.holds k.shots k.unfinished
+    → (k.requesting ≡ true → k.running ≡ false) → (k.requesting ≡ true → k.checking ≡ false → MayAsk s k k.unfinished)
+    → (k.checking ≡ true → k.requesting ≡ true) → AtRest s k
+rests_with s k calm carries stopped asks checks = record {
+  calm = calm;
+  still = carries.still;
+  ended = carries.ended;
+  place = carries.place;
+  untold = carries.untold;
+  shots = carries.shots_logged;
+  stopped = stopped;
+  asks = asks;
+  checks = checks;
+}
+
+-- where it asks for nothing,
 pub rests : (s : Shape) (k : ThreadView) → k.stage ≡ Settled → k.requesting ≡ false
     → k.checking ≡ false → Carries k.moving k.log k.wait k.holds k.shots k.unfinished → AtRest s k
-rests s k calm unasks unchecks carries = record {
-  calm = calm;
-  still = carries.still;
-  ended = carries.ended;
-  place = carries.place;
-  untold = carries.untold;
-  shots = carries.shots_logged;
-  stopped = λ asks. absurd (cc (asks, unasks));
-  asks = λ asks. absurd (cc (asks, unasks));
-  checks = λ checks. absurd (cc (checks, unchecks));
-}
+rests s k calm unasks unchecks carries =
+    rests_with s k calm carries (λ asks. absurd (cc (asks, unasks))) (λ asks. absurd (cc (asks, unasks))) (λ checks. absurd (cc (checks, unchecks)))
 
--- and where it has nothing unfinished but its request
+-- where it has nothing unfinished but its request,
 pub rests_asking : (s : Shape) (k : ThreadView) → k.stage ≡ Settled → k.running ≡ false → k.unfinished ≡ None
     → k.checking ≡ false → Carries k.moving k.log k.wait k.holds k.shots k.unfinished → AtRest s k
-rests_asking s k calm stopped nothing unchecks carries = record {
-  calm = calm;
-  still = carries.still;
-  ended = carries.ended;
-  place = carries.place;
-  untold = carries.untold;
-  shots = carries.shots_logged;
-  stopped = λ asks. stopped;
-  asks = λ asks unchecking. asks_nothing nothing;
-  checks = λ checks. absurd (cc (checks, unchecks));
-}
-  where
-    asks_nothing : k.unfinished ≡ None → MayAsk s k k.unfinished
-    asks_nothing e = subst (MayAsk s k) (sym e) tt
+rests_asking s k calm stopped nothing unchecks carries =
+    rests_with s k calm carries (λ asks. stopped) (λ asks unchecking. subst (MayAsk s k) (sym nothing) tt) (λ checks. absurd (cc (checks, unchecks)))
 
--- or only its check
+-- and where only its check
 pub rests_checking : (s : Shape) (k : ThreadView) → k.stage ≡ Settled → k.running ≡ false → k.requesting ≡ true
     → k.checking ≡ true → Carries k.moving k.log k.wait k.holds k.shots k.unfinished → AtRest s k
-rests_checking s k calm stopped asks checks carries = record {
-  calm = calm;
-  still = carries.still;
-  ended = carries.ended;
-  place = carries.place;
-  untold = carries.untold;
-  shots = carries.shots_logged;
-  stopped = λ asks. stopped;
-  asks = λ asks unchecks. absurd (cc (checks, unchecks));
-  checks = λ checks. asks;
-}
+rests_checking s k calm stopped asks checks carries =
+    rests_with s k calm carries (λ asks. stopped) (λ asks unchecks. absurd (cc (checks, unchecks))) (λ checks. asks)
 
 -- LIVE LOGS. An entry that ends nothing leaves a log as live as it was.
 pub live_after : (log : List Logged) (l : Logged) → ends log ≡ false → is_ending l.entry ≡ false → ends (log ++ l ∷ []) ≡ false

@@ -26,7 +26,7 @@ use Rattle.core_steps.proofs.Facts.{Knows}
 use Rattle.core_steps.proofs.bias.KeptHeaders.{works_on}
 use Rattle.core_steps.proofs.safepoint.Requests.{Asks, Since, Stood, BeginsSafepoint, safepoint_does}
 use Rattle.core_steps.proofs.OwnParts.{keeps_own_all, own_of}
-use Rattle.core_steps.proofs.Resting.{Carries}
+use Rattle.core_steps.proofs.Resting.{Carries, rests_with}
 use Rattle.core_steps.proofs.bias.RevocationMiddle.{OneRevocation}
 use Rattle.core_steps.proofs.bias.RevocationBegins.{revoke_does}
 use Rattle.core_steps.proofs.bias.RevocationEnds.{Released, Revoked, ending_steps, ending_does}
@@ -99,18 +99,9 @@ module _ (heap : Heap) (e : CallContext) (b : Revocation) where
     asked k may l a since unreached =
         let carries : Carries l.moving l.log l.wait l.holds l.shots l.unfinished = subst (Carries l.moving l.log l.wait l.holds l.shots) a.mine a.carries in
         let revokes : MayRevoke heap.shape l b.object = (saw_since k l may.saw since, unreached may.unreached, alone_since k l may.alone since) in
-        record {
-          calm = a.calm;
-          still = carries.still;
-          ended = carries.ended;
-          place = carries.place;
-          untold = carries.untold;
-          shots = carries.shots_logged;
-          stopped = λ asks. a.stopped;
-          asks = λ asks unchecked. subst (MayAsk heap.shape l) (sym unfinished ∙ a.mine)
-              (may_ask operation l allowed (λ waits. ap (λ z. waits_on z.wait b.object) since.local ∙ may.unwaiting waits) revokes);
-          checks = λ checks. let check = a.check in absurd (cc (checks, check, unchecks));
-        }
+        rests_with heap.shape l a.calm carries (λ asks. a.stopped) (λ asks unchecked. subst (MayAsk heap.shape l) (sym unfinished ∙ a.mine)
+        (may_ask operation l allowed (λ waits. ap (λ z. waits_on z.wait b.object) since.local ∙ may.unwaiting waits) revokes))
+        (λ checks. let check = a.check in absurd (cc (checks, check, unchecks)))
 
     abbrev made_by : ℕ → OneRevocation
     made_by me = record { heap = heap; call = e; revocation = b; thread = me }

@@ -58,7 +58,7 @@ use Rattle.core_made.proofs.ShotTaken.{shot_keeps}
 use Rattle.core_steps.proofs.LawRules.{keeps_made, calm_in_all, releases, publishes, limits}
 use Rattle.core_steps.proofs.FairSteps.{begins_going}
 use Rattle.core_steps.proofs.safepoint.Requests.{Asks, Stood, BeginsSafepoint, safepoint_does}
-use Rattle.core_steps.proofs.Resting.{Carries, logged_carries, rests}
+use Rattle.core_steps.proofs.Resting.{Carries, logged_carries, rests, rests_with}
 use Rattle.core_steps.proofs.safepoint.SafeCalls.{closes, released_unasks}
 use Rattle.core_steps.proofs.safepoint.SafepointLooks.{Reaches, stays_reached, stood_kept, keeps_look, going, reaches_on}
 use Rattle.core_law.proofs.SafepointSights.{Seeing, seeing_all, seeing_itself, saw_there, still_seen, found_formed}
@@ -318,17 +318,8 @@ module _ (heap : Heap) (me : ℕ) (here : Local) (shots : List DumpShot)
 module _ (heap : Heap) where
   -- a thread whose request for a dump stands is at rest
   asks_dump : (me : ℕ) (k : ThreadView) → Asks heap dump_errand me k → AtRest heap.shape k
-  asks_dump me k a = record {
-    calm = a.calm;
-    still = a.carries.still;
-    ended = λ ended. let live = a.live in absurd (cc (ended, live));
-    place = λ o h. absurd (unentering_dump k.unfinished (sym a.mine) o h);
-    untold = a.carries.untold;
-    shots = λ h. a.carries.shots_logged refl;
-    stopped = λ asks. a.stopped;
-    asks = λ asks unchecks. subst (MayAsk heap.shape k) a.mine tt;
-    checks = λ checks. let unchecks = a.check in absurd (cc (checks, unchecks));
-  }
+  asks_dump me k a = rests_with heap.shape k a.calm (subst (Carries k.moving k.log k.wait k.holds k.shots) a.mine a.carries)
+      (λ asks. a.stopped) (λ asks unchecks. subst (MayAsk heap.shape k) a.mine tt) (λ checks. let unchecks = a.check in absurd (cc (checks, unchecks)))
 
   -- where no dump is unfinished, each shot has its entry
   shots_logged : (k : ThreadView) → SoundWorldWith heap k → k.running ≡ true → k.unfinished ≡ None → length k.shots ≡ length (dumps_from 0 k.log)
