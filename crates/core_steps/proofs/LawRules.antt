@@ -241,14 +241,19 @@ module _ (heap : Heap) (k : ThreadView) where
       fair_quietly v.world v.objects a k.thread (plan k.thread (v.world.known k.thread))
       (away heap k v (λ s y. Quietly s y (plan k.thread y)) (quietly v)) (away heap k v (λ s y. Begins s y (plan k.thread y).after) begins)
 
+  -- which takes nothing, as it logs nothing
+  quiet_exactly_by : (plan : ℕ → ThreadView → StepPlan) → (SoundWorldWith heap k → Quietly heap.shape k (plan k.thread k)) → Stamping plan
+  quiet_exactly_by plan quietly v = quiet_exactly v.world k.thread (plan k.thread k) (quietly v).0
+
   -- of a thread that runs
   pub keeps : (May : Shape → ThreadView → Type 0) (plan : ℕ → ThreadView → StepPlan) → KeepsValid (λ w t. May w.shape (w.known t)) (λ w t. plan t (w.known t))
-      → KeepsBiases (λ w t. May w.shape (w.known t)) (λ w t. plan t (w.known t)) → Unrevoking plan → Stamping plan
+      → KeepsBiases (λ w t. May w.shape (w.known t)) (λ w t. plan t (w.known t)) → Unrevoking plan
       → ((s : Shape) (y : ThreadView) → May s y → y.running ≡ true)
       → (SoundWorldWith heap k → IsThere heap.shape k (plan k.thread k)) → (SoundWorldWith heap k → May heap.shape k)
       → (SoundWorldWith heap k → Quietly heap.shape k (plan k.thread k)) → Begins heap.shape k (plan k.thread k).after → Keeps heap (plan k.thread k) k
-  keeps May plan law biases unrevoking exact runs there may quietly begins =
-      keeps_in_all May plan law biases unrevoking exact (λ v. runs_in_all v (runs heap.shape k (may v))) there may (fair_here plan quietly begins)
+  keeps May plan law biases unrevoking runs there may quietly begins =
+      keeps_in_all May plan law biases unrevoking (quiet_exactly_by plan quietly) (λ v. runs_in_all v (runs heap.shape k (may v))) there may
+      (fair_here plan quietly begins)
 
   -- whether it tells the entry that it logs as the law of what is there asks for
   abbrev pub Telling : (ℕ → ThreadView → StepPlan) → (ℕ → Entry) → Shape → ThreadView → Type 0
@@ -306,8 +311,8 @@ module _ (heap : Heap) (k : ThreadView) where
   -- THE SAFEPOINT WORD
   pub stops : (e : CallContext) → MayStop k e → Keeps heap (stop_plan e k.thread) k
   stops e may =
-      keeps (λ s y. MayStop y e) (λ t y. stop_plan e t) (stopping_valid e) (quiet.stops e) (λ t y h. refl) (λ v. tt) (λ s y a. a.runs) (λ v. (tt, tt))
-      (λ v. may) (λ v. (refl, tt, inl may.runs)) (inl may.goes_on)
+      keeps (λ s y. MayStop y e) (λ t y. stop_plan e t) (stopping_valid e) (quiet.stops e) (λ t y h. refl) (λ s y a. a.runs) (λ v. (tt, tt)) (λ v. may)
+      (λ v. (refl, tt, inl may.runs)) (inl may.goes_on)
 
   pub resumes : (e : CallContext) (word : ℕ) → MayResume k e word → Keeps heap (resume_plan e k.thread word) k
   resumes e word may = record {
@@ -332,21 +337,21 @@ module _ (heap : Heap) (k : ThreadView) where
 
   pub requests : (e : CallContext) (word : ℕ) → MayRequest k e word → Begins heap.shape k e.unfinished → Keeps heap (request_plan e k.thread word) k
   requests e word may begins =
-      keeps (λ s y. MayRequest y e word) (λ t y. request_plan e t word) (requesting_valid e word) (quiet.requests e word) (λ t y h. refl) (λ v. tt)
-      (λ s y a. a.runs) (λ v. (tt, tt)) (λ v. may) (λ v. (refl, tt, inr tt)) begins
+      keeps (λ s y. MayRequest y e word) (λ t y. request_plan e t word) (requesting_valid e word) (quiet.requests e word) (λ t y h. refl) (λ s y a. a.runs)
+      (λ v. (tt, tt)) (λ v. may) (λ v. (refl, tt, inr tt)) begins
 
   -- at its reached safepoint, in the middle of nothing
   pub keeps_calm : (May : Shape → ThreadView → Type 0) (plan : ℕ → ThreadView → StepPlan)
       → KeepsValid (λ w t. May w.shape (w.known t)) (λ w t. plan t (w.known t))
-      → KeepsBiases (λ w t. May w.shape (w.known t)) (λ w t. plan t (w.known t)) → Unrevoking plan → Stamping plan
+      → KeepsBiases (λ w t. May w.shape (w.known t)) (λ w t. plan t (w.known t)) → Unrevoking plan
       → k.reached ≡ true → k.stage ≡ Settled → (SoundWorldWith heap k → IsThere heap.shape k (plan k.thread k)) → (SoundWorldWith heap k → May heap.shape k)
       → (SoundWorldWith heap k → Quietly heap.shape k (plan k.thread k)) → Begins heap.shape k (plan k.thread k).after → Keeps heap (plan k.thread k) k
-  keeps_calm May plan law biases unrevoking exact reached calm there may quietly begins =
-      keeps_in_all May plan law biases unrevoking exact (λ v. calm_in_all v reached calm) there may (fair_here plan quietly begins)
+  keeps_calm May plan law biases unrevoking reached calm there may quietly begins =
+      keeps_in_all May plan law biases unrevoking (quiet_exactly_by plan quietly) (λ v. calm_in_all v reached calm) there may (fair_here plan quietly begins)
 
   pub releases : (e : CallContext) → MayRelease k e → Keeps heap (release_plan e Settled k.thread) k
   releases e may =
-      keeps_calm (λ s y. MayRelease y e) (λ t y. release_plan e Settled t) (releasing_valid e) (quiet.releases e) (λ t y h. refl) (λ v. tt) may.reached may.calm
+      keeps_calm (λ s y. MayRelease y e) (λ t y. release_plan e Settled t) (releasing_valid e) (quiet.releases e) (λ t y h. refl) may.reached may.calm
       (λ v. (tt, tt)) (λ v. may) (λ v. (refl, tt, inr tt)) (inl may.goes_on)
 
   -- where it has given itself a bias
@@ -359,13 +364,13 @@ module _ (heap : Heap) (k : ThreadView) where
 
   pub halts : (e : CallContext) → MayHalt heap.shape.threads k e → Keeps heap (halt_plan e k.thread) k
   halts e may =
-      keeps_calm (λ s y. MayHalt s.threads y e) (λ t y. halt_plan e t) (halting_valid e) (quiet.halts e) (λ t y h. refl) (λ v. tt) may.reached may.calm
-      (λ v. (tt, tt)) (λ v. may) (λ v. (refl, tt, inr tt)) (inl may.goes_on)
+      keeps_calm (λ s y. MayHalt s.threads y e) (λ t y. halt_plan e t) (halting_valid e) (quiet.halts e) (λ t y h. refl) may.reached may.calm (λ v. (tt, tt))
+      (λ v. may) (λ v. (refl, tt, inr tt)) (inl may.goes_on)
 
   -- THE JOURNAL
   pub publishes_all : (e : CallContext) → MayPublishLog k e → Keeps heap (publish_log_plan e k.thread (length k.log)) k
   publishes_all e may =
-      keeps (λ s y. MayPublishLog y e) (λ t y. publish_log_plan e t (length y.log)) (publish_all_law e) (quiet.publishes_all e) (λ t y h. refl) (λ v. tt)
+      keeps (λ s y. MayPublishLog y e) (λ t y. publish_log_plan e t (length y.log)) (publish_all_law e) (quiet.publishes_all e) (λ t y h. refl)
       (λ s y a. a.runs) (λ v. (v.within, tt)) (λ v. may) (λ v. (refl, tt, tt)) (inl may.goes_on)
 
   pub gets : (e : CallContext) (o slot : ℕ) → (SoundWorldWith heap k → MayGet heap.shape k e o slot)
@@ -407,8 +412,8 @@ module _ (heap : Heap) (k : ThreadView) where
   pub raises : (e : CallContext) (o : ℕ) → o < length heap.shape.objects → (SoundWorldWith heap k → MayRaise k e o) → Begins heap.shape k e.unfinished
       → Keeps heap (raise_stamp_plan e o (next_stamp (local_of k))) k
   raises e o object may begins =
-      keeps (λ s y. MayRaise y e o) (λ t y. raise_stamp_plan e o (next_stamp (local_of y))) (raising_valid e o) (quiet.raises_stamp e o)
-      (λ t y h. refl) (λ v. tt) (λ s y a. a.runs) (λ v. (object, tt)) may (λ v. (refl, tt, λ n. max_left n (next_stamp (local_of k)))) begins
+      keeps (λ s y. MayRaise y e o) (λ t y. raise_stamp_plan e o (next_stamp (local_of y))) (raising_valid e o) (quiet.raises_stamp e o) (λ t y h. refl)
+      (λ s y a. a.runs) (λ v. (object, tt)) may (λ v. (refl, tt, λ n. max_left n (next_stamp (local_of k)))) begins
 
   pub logs_enter : (e : CallContext) (o p : ℕ) (path : Path)
       → (SoundWorldWith heap k → MayLogEnter heap.shape k o p path) → Keeps heap (log_enter_plan e o path) k
@@ -426,27 +431,27 @@ module _ (heap : Heap) (k : ThreadView) where
   pub readies : (e : CallContext) → (SoundWorldWith heap k → MayBeReady k e)
       → Begins heap.shape k e.unfinished → Keeps heap (store_ready_plan e k.stage k.thread) k
   readies e may begins =
-      keeps (λ s y. MayBeReady y e) (λ t y. store_ready_plan e y.stage t) (ready_valid e) (quiet.says_ready e) (λ t y h. h) (λ v. tt) (λ s y a. a.runs)
+      keeps (λ s y. MayBeReady y e) (λ t y. store_ready_plan e y.stage t) (ready_valid e) (quiet.says_ready e) (λ t y h. h) (λ s y a. a.runs)
       (λ v. (v.within, tt)) may (λ v. (refl, tt, tt)) begins
 
   pub says_ended_rule : (e : CallContext) → (SoundWorldWith heap k → MayEnd k e) → Begins heap.shape k e.unfinished → Keeps heap (store_ended_plan e k.thread) k
   says_ended_rule e may begins =
-      keeps (λ s y. MayEnd y e) (λ t y. store_ended_plan e t) (ended_valid e) (quiet.says_ended e) (λ t y h. refl) (λ v. tt) (λ s y a. a.runs)
-      (λ v. (v.within, tt)) may (λ v. (refl, tt, tt)) begins
+      keeps (λ s y. MayEnd y e) (λ t y. store_ended_plan e t) (ended_valid e) (quiet.says_ended e) (λ t y h. refl) (λ s y a. a.runs) (λ v. (v.within, tt)) may
+      (λ v. (refl, tt, tt)) begins
 
   -- LOCK RECORDS
   pub displaces_rule : (e : CallContext) (p d : ℕ) → (SoundWorldWith heap k → MayDisplace k e p) → Begins heap.shape k e.unfinished
       → Keeps heap (displace_plan e k.stage k.thread p d) k
   displaces_rule e p d may begins =
-      keeps (λ s y. MayDisplace y e p) (λ t y. displace_plan e y.stage t p d) (displaces e p d) (quiet.displaces e p d) (λ t y h. h) (λ v. tt) (λ s y a. a.runs)
+      keeps (λ s y. MayDisplace y e p) (λ t y. displace_plan e y.stage t p d) (displaces e p d) (quiet.displaces e p d) (λ t y h. h) (λ s y a. a.runs)
       (λ v. ((v.within, (may v).free.place), tt)) may (λ v. (refl, tt, tt)) begins
 
   pub seizes_rule : (e : CallContext) (o mark p : ℕ) → HasReference heap.shape k o
       → (SoundWorldWith heap k → MaySeize k e o mark p) → Begins heap.shape k e.unfinished
       → Keeps heap (seize_plan e k.thread o mark p) k
   seizes_rule e o mark p object may begins =
-      keeps (λ s y. MaySeize y e o mark p) (λ t y. seize_plan e t o mark p) (seizes e o mark p) (quiet.seizes e o mark p) (λ t y h. refl) (λ v. tt)
-      (λ s y a. a.runs) (λ v. (object.within, tt)) may (λ v. (refl, tt, object.known)) begins
+      keeps (λ s y. MaySeize y e o mark p) (λ t y. seize_plan e t o mark p) (seizes e o mark p) (quiet.seizes e o mark p) (λ t y h. refl) (λ s y a. a.runs)
+      (λ v. (object.within, tt)) may (λ v. (refl, tt, object.known)) begins
 
   pub holds_rule : (e : CallContext) (o d p : ℕ) (path : Path)
       → (SoundWorldWith heap k → MayHold heap.shape k e o d p × WentBefore heap.biasing heap.shape k o p path) → Begins heap.shape k e.unfinished
@@ -486,7 +491,7 @@ module _ (heap : Heap) (k : ThreadView) where
       → (SoundWorldWith heap k → MayClear k e o p) → Begins heap.shape k e.unfinished
       → Keeps heap (clear_plan e k.thread p) k
   clears_rule e o p place may begins =
-      keeps (λ s y. MayClear y e o p) (λ t y. clear_plan e t p) (cleared_valid e o p) (quiet.clears e o p) (λ t y h. refl) (λ v. tt) (λ s y a. a.runs)
+      keeps (λ s y. MayClear y e o p) (λ t y. clear_plan e t p) (cleared_valid e o p) (quiet.clears e o p) (λ t y h. refl) (λ s y a. a.runs)
       (λ v. ((v.within, place v), tt)) may (λ v. (refl, tt, λ n i names. let none = names_none i in absurd (cc (names, none)))) begins
 
   -- whether the exchange hits or misses

@@ -69,8 +69,7 @@ module _ (heap : Heap) (k : ThreadView) where
   rebiases_rule e o mark prototype epoch object may begins =
       keeps heap k (λ s y. MayRebias s y e o mark epoch × MayTakeBias s y e o mark prototype epoch) (λ t y. rebias_plan e t o mark epoch)
       (λ w P t within m valid. rebias_valid e o mark epoch w P t within m.0 valid)
-      (λ w P t within m v law. bias_taken w P t e o mark prototype epoch within m.1 v law) (λ t y h. refl)
-      (λ v. tt) (λ s y a. a.1.runs) (λ v. (object.within, tt)) may
+      (λ w P t within m v law. bias_taken w P t e o mark prototype epoch within m.1 v law) (λ t y h. refl) (λ s y a. a.1.runs) (λ v. (object.within, tt)) may
       (λ v. (refl, tt, object.known)) begins
 
   -- and for a mark without the bias pattern
@@ -80,9 +79,8 @@ module _ (heap : Heap) (k : ThreadView) where
   unbiases_rule e o mark prototype neutral object may begins =
       keeps heap k (λ s y. MayUnbias s y e o mark neutral × MayDropBias s y e o mark prototype neutral) (λ t y. unbias_plan e o mark neutral)
       (λ w P t within m valid. drop_valid e o mark neutral w P t within m.0 valid)
-      (λ w P t within m v law. bias_dropped w P t e o mark prototype neutral within m.1 v law) (λ t y h. refl)
-      (λ v. tt) (λ s y a. a.1.runs) (λ v. (object.within, tt)) may
-      (λ v. (refl, tt, object.known)) begins
+      (λ w P t within m v law. bias_dropped w P t e o mark prototype neutral within m.1 v law) (λ t y h. refl) (λ s y a. a.1.runs) (λ v. (object.within, tt))
+      may (λ v. (refl, tt, object.known)) begins
 
   -- A REVOCATION: its first store, with which the laws hold of the world before
   pub begins_revoking_rule : (e : CallContext) (b : Revocation) (class : ℕ) (verdict : Verdict) (reset : Bool) (at : WordId) (word : ℕ)

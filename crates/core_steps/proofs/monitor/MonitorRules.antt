@@ -85,103 +85,98 @@ module _ (heap : Heap) (k : ThreadView) where
   pub saves_rule : (e : CallContext) (o m : ℕ) → (SoundWorldWith heap k → MayCount k e o m × (k.stage ≡ Settled))
       → Begins heap.shape k e.unfinished → Keeps heap (save_count_plan e m) k
   saves_rule e o m may begins =
-      keeps heap k (λ s y. MaySaveCount y e o m) (λ t y. save_count_plan e m) (saves_count e o m) (quiet.saves_count e o m) (λ t y h. refl) (λ v. tt)
-      (λ s y a. a.counts.runs)
-      (λ v. let a = may v in (monitor_in_heap heap k o m a.0.runs a.0.inflated v, tt)) (λ v. let a = may v in record { counts = a.0; calm = a.1 })
-      (λ v. (refl, tt, tt)) begins
+      keeps heap k (λ s y. MaySaveCount y e o m) (λ t y. save_count_plan e m) (saves_count e o m) (quiet.saves_count e o m) (λ t y h. refl)
+      (λ s y a. a.counts.runs) (λ v. let a = may v in (monitor_in_heap heap k o m a.0.runs a.0.inflated v, tt))
+      (λ v. let a = may v in record { counts = a.0; calm = a.1 }) (λ v. (refl, tt, tt)) begins
 
   -- A NEW MONITOR is claimed by its ring position, which is loaded, and its words are stored.
   pub claims_rule : (e : CallContext) → (SoundWorldWith heap k → MayClaim k e) → Begins heap.shape k e.unfinished → Keeps heap (claim_plan e) k
   claims_rule e may begins =
-      keeps heap k (λ s y. MayClaim y e) (λ t y. claim_plan e) (claims_one e) (quiet.claims e) (λ t y h. refl) (λ v. tt) (λ s y a. a.runs) (λ v. (tt, tt)) may
+      keeps heap k (λ s y. MayClaim y e) (λ t y. claim_plan e) (claims_one e) (quiet.claims e) (λ t y h. refl) (λ s y a. a.runs) (λ v. (tt, tt)) may
       (λ v. (refl, tt, tt)) begins
 
   pub fetches_rule : (e : CallContext) (p : ℕ) → (SoundWorldWith heap k → MayFetch k e p)
       → Begins heap.shape k e.unfinished → Keeps heap (fetch_plan e heap.shape p) k
   fetches_rule e p may begins =
       keeps heap k (λ s y. (s ≡ heap.shape) × MayFetch y e p) (λ t y. fetch_plan e heap.shape p) (fetches_in heap.shape e p) (fetches_biases heap.shape e p)
-      (λ t y h. refl) (λ v. tt) (λ s y a. a.1.runs) (λ v. (mod_below p (ring_places heap.shape) (pow_pos (ring_bits heap.shape)), tt)) (λ v. (refl, may v))
+      (λ t y h. refl) (λ s y a. a.1.runs) (λ v. (mod_below p (ring_places heap.shape) (pow_pos (ring_bits heap.shape)), tt)) (λ v. (refl, may v))
       (λ v. (refl, tt, tt)) begins
 
   pub prepares_owner_rule : (e : CallContext) (m word : ℕ) → (SoundWorldWith heap k → MayPrepareOwner heap.shape k e m word)
       → Begins heap.shape k e.unfinished → Keeps heap (prepare_plan e k.stage (id.Owner m) word) k
   prepares_owner_rule e m word may begins =
       keeps heap k (λ s y. MayPrepareOwner s y e m word) (λ t y. prepare_plan e y.stage (id.Owner m) word) (prepares_owner e m word)
-      (quiet.prepares_owner e m word) (λ t y h. h) (λ v. tt) (λ s y a. a.prepares.runs)
-      (λ v. let a = may v in (kept_in heap k m a.prepares.runs a.prepares.kept v, tt)) may (λ v. (refl, tt, tt)) begins
+      (quiet.prepares_owner e m word) (λ t y h. h) (λ s y a. a.prepares.runs) (λ v. let a = may v in (kept_in heap k m a.prepares.runs a.prepares.kept v, tt))
+      may (λ v. (refl, tt, tt)) begins
 
   pub prepares_recursions_rule : (e : CallContext) (m word : ℕ) → (SoundWorldWith heap k → MayPrepare k e m)
       → Begins heap.shape k e.unfinished → Keeps heap (prepare_plan e k.stage (id.Recursions m) word) k
   prepares_recursions_rule e m word may begins =
       keeps heap k (λ s y. MayPrepare y e m) (λ t y. prepare_plan e y.stage (id.Recursions m) word) (prepares_recursions e m word)
-      (quiet.prepares_recursions e m word) (λ t y h. h) (λ v. tt) (λ s y a. a.runs) (λ v. let a = may v in (kept_in heap k m a.runs a.kept v, tt)) may
+      (quiet.prepares_recursions e m word) (λ t y h. h) (λ s y a. a.runs) (λ v. let a = may v in (kept_in heap k m a.runs a.kept v, tt)) may
       (λ v. (refl, tt, tt)) begins
 
   pub prepares_header_rule : (e : CallContext) (m word : ℕ) → (SoundWorldWith heap k → MayPrepare k e m)
       → Begins heap.shape k e.unfinished → Keeps heap (prepare_plan e k.stage (id.Header m) word) k
   prepares_header_rule e m word may begins =
-      keeps heap k (λ s y. MayPrepare y e m) (λ t y. prepare_plan e y.stage (id.Header m) word) (prepares_header e m word)
-      (quiet.prepares_header e m word) (λ t y h. h) (λ v. tt) (λ s y a. a.runs) (λ v. let a = may v in (kept_in heap k m a.runs a.kept v, tt)) may
-      (λ v. (refl, tt, tt)) begins
+      keeps heap k (λ s y. MayPrepare y e m) (λ t y. prepare_plan e y.stage (id.Header m) word) (prepares_header e m word) (quiet.prepares_header e m word)
+      (λ t y h. h) (λ s y a. a.runs) (λ v. let a = may v in (kept_in heap k m a.runs a.kept v, tt)) may (λ v. (refl, tt, tt)) begins
 
   pub prepares_object_rule : (e : CallContext) (m word : ℕ) → (SoundWorldWith heap k → MayPrepareObject heap.shape k e m word)
       → Begins heap.shape k e.unfinished → Keeps heap (prepare_plan e k.stage (id.Object m) word) k
   prepares_object_rule e m word may begins =
       keeps heap k (λ s y. MayPrepareObject s y e m word) (λ t y. prepare_plan e y.stage (id.Object m) word) (prepares_object e m word)
-      (quiet.prepares_object e m word) (λ t y h. h) (λ v. tt) (λ s y a. a.prepares.runs)
-      (λ v. let a = may v in (kept_in heap k m a.prepares.runs a.prepares.kept v, tt)) may (λ v. (refl, tt, tt)) begins
+      (quiet.prepares_object e m word) (λ t y h. h) (λ s y a. a.prepares.runs) (λ v. let a = may v in (kept_in heap k m a.prepares.runs a.prepares.kept v, tt))
+      may (λ v. (refl, tt, tt)) begins
 
   -- INFLATION
   pub inflates_rule : (e : CallContext) (o mark u p : ℕ) → HasReference heap.shape k o → (SoundWorldWith heap k → MayInflate k e o mark u p)
       → Begins heap.shape k e.unfinished → Keeps heap (inflate_plan e o mark u p) k
   inflates_rule e o mark u p object may begins =
       keeps heap k (λ s y. MayInflate y e o mark u p) (λ t y. inflate_plan e o mark u p) (inflates_locked e o mark u p) (quiet.inflates e o mark u p)
-      (λ t y h. refl) (λ v. tt) (λ s y a. a.runs) (λ v. (object.within, tt)) may (λ v. (refl, tt, object.known)) begins
+      (λ t y h. refl) (λ s y a. a.runs) (λ v. (object.within, tt)) may (λ v. (refl, tt, object.known)) begins
 
   pub names_rule : (e : CallContext) (o m u p h : ℕ) → (SoundWorldWith heap k → MayName heap.shape k e o m u p h)
       → Begins heap.shape k e.unfinished → Keeps heap (name_plan e o m) k
   names_rule e o m u p h may begins =
-      keeps heap k (λ s y. MayName s y e o m u p h) (λ t y. name_plan e o m) (names_inflated e o m u p h) (quiet.names e o m u p h) (λ t y h. refl) (λ v. tt)
+      keeps heap k (λ s y. MayName s y e o m u p h) (λ t y. name_plan e o m) (names_inflated e o m u p h) (quiet.names e o m u p h) (λ t y h. refl)
       (λ s y a. a.runs) (λ v. ((may v).ready.object.within, tt)) may (λ v. (refl, tt, (may v).ready.object.known)) begins
 
   pub names_neutral_rule : (e : CallContext) (o mark m : ℕ) → (SoundWorldWith heap k → MayNameNeutral heap.shape k e o mark m)
       → Begins heap.shape k e.unfinished → Keeps heap (name_neutral_plan e o mark m) k
   names_neutral_rule e o mark m may begins =
-      keeps heap k (λ s y. MayNameNeutral s y e o mark m) (λ t y. name_neutral_plan e o mark m) (names_neutral e o mark m)
-      (quiet.names_neutral e o mark m) (λ t y h. refl) (λ v. tt) (λ s y a. a.runs) (λ v. ((may v).ready.object.within, tt)) may
-      (λ v. (refl, tt, (may v).ready.object.known)) begins
+      keeps heap k (λ s y. MayNameNeutral s y e o mark m) (λ t y. name_neutral_plan e o mark m) (names_neutral e o mark m) (quiet.names_neutral e o mark m)
+      (λ t y h. refl) (λ s y a. a.runs) (λ v. ((may v).ready.object.within, tt)) may (λ v. (refl, tt, (may v).ready.object.known)) begins
 
   -- THE OWNER WORD AND THE RECURSIONS
   pub grabs_rule : (e : CallContext) (o m : ℕ) → (SoundWorldWith heap k → MayGrab k e o m)
       → Begins heap.shape k e.unfinished → Keeps heap (grab_plan e k.thread o m) k
   grabs_rule e o m may begins =
-      keeps heap k (λ s y. MayGrab y e o m) (λ t y. grab_plan e t o m) (grabs_free e o m) (quiet.grabs e o m) (λ t y h. refl) (λ v. tt) (λ s y a. a.runs)
+      keeps heap k (λ s y. MayGrab y e o m) (λ t y. grab_plan e t o m) (grabs_free e o m) (quiet.grabs e o m) (λ t y h. refl) (λ s y a. a.runs)
       (λ v. let a = may v in (monitor_in_heap heap k o m a.runs a.inflated v, tt)) may (λ v. (refl, tt, tt)) begins
 
   pub mans_rule : (e : CallContext) (o m p : ℕ) → (SoundWorldWith heap k → MayTakeOver k e o m p)
       → Begins heap.shape k e.unfinished → Keeps heap (take_over_plan e k.thread o m) k
   mans_rule e o m p may begins =
-      keeps heap k (λ s y. MayTakeOver y e o m p) (λ t y. take_over_plan e t o m) (takes_over_own e o m p) (quiet.takes_over e o m p) (λ t y h. refl) (λ v. tt)
+      keeps heap k (λ s y. MayTakeOver y e o m p) (λ t y. take_over_plan e t o m) (takes_over_own e o m p) (quiet.takes_over e o m p) (λ t y h. refl)
       (λ s y a. a.runs) (λ v. let a = may v in (monitor_in_heap heap k o m a.runs a.inflated v, tt)) may (λ v. (refl, tt, tt)) begins
 
   pub raises_count_rule : (e : CallContext) (o m r : ℕ) → (SoundWorldWith heap k → MayRaiseCount k e o m r)
       → Begins heap.shape k e.unfinished → Keeps heap (raise_count_plan e o m r) k
   raises_count_rule e o m r may begins =
-      keeps heap k (λ s y. MayRaiseCount y e o m r) (λ t y. raise_count_plan e o m r) (raises_count e o m r) (quiet.raises_count e o m r)
-      (λ t y h. refl) (λ v. tt) (λ s y a. a.counts.runs) (λ v. let a = may v in (monitor_in_heap heap k o m a.counts.runs a.counts.inflated v, tt)) may
-      (λ v. (refl, tt, tt)) begins
+      keeps heap k (λ s y. MayRaiseCount y e o m r) (λ t y. raise_count_plan e o m r) (raises_count e o m r) (quiet.raises_count e o m r) (λ t y h. refl)
+      (λ s y a. a.counts.runs) (λ v. let a = may v in (monitor_in_heap heap k o m a.counts.runs a.counts.inflated v, tt)) may (λ v. (refl, tt, tt)) begins
 
   pub lowers_count_rule : (e : CallContext) (o m r : ℕ) → (SoundWorldWith heap k → MayLowerCount k e o m r)
       → Begins heap.shape k e.unfinished → Keeps heap (lower_count_plan e o m r) k
   lowers_count_rule e o m r may begins =
-      keeps heap k (λ s y. MayLowerCount y e o m r) (λ t y. lower_count_plan e o m r) (lowers_count e o m r) (quiet.lowers_count e o m r)
-      (λ t y h. refl) (λ v. tt) (λ s y a. a.counts.runs) (λ v. let a = may v in (monitor_in_heap heap k o m a.counts.runs a.counts.inflated v, tt)) may
-      (λ v. (refl, tt, tt)) begins
+      keeps heap k (λ s y. MayLowerCount y e o m r) (λ t y. lower_count_plan e o m r) (lowers_count e o m r) (quiet.lowers_count e o m r) (λ t y h. refl)
+      (λ s y a. a.counts.runs) (λ v. let a = may v in (monitor_in_heap heap k o m a.counts.runs a.counts.inflated v, tt)) may (λ v. (refl, tt, tt)) begins
 
   pub resets_count_rule : (e : CallContext) (o m : ℕ) → (SoundWorldWith heap k → MayResetCount k e o m)
       → Begins heap.shape k e.unfinished → Keeps heap (reset_count_plan e m) k
   resets_count_rule e o m may begins =
-      keeps heap k (λ s y. MayResetCount y e o m) (λ t y. reset_count_plan e m) (resets_count e o m) (quiet.resets_count e o m) (λ t y h. refl) (λ v. tt)
+      keeps heap k (λ s y. MayResetCount y e o m) (λ t y. reset_count_plan e m) (resets_count e o m) (quiet.resets_count e o m) (λ t y h. refl)
       (λ s y a. a.counts.runs) (λ v. let a = may v in (monitor_in_heap heap k o m a.counts.runs a.counts.inflated v, tt)) may (λ v. (refl, tt, tt)) begins
 
   pub frees_rule : (e : CallContext) (o m p stamp : ℕ) → (SoundWorldWith heap k → MayFree heap.shape k o m stamp)
@@ -196,22 +191,22 @@ module _ (heap : Heap) (k : ThreadView) where
   -- A WAIT lets go, and takes the monitor again.
   pub drops_rule : (e : CallContext) (o m : ℕ) → (SoundWorldWith heap k → MayDrop k e o m) → Begins heap.shape k e.unfinished → Keeps heap (drop_plan e o m) k
   drops_rule e o m may begins =
-      keeps heap k (λ s y. MayDrop y e o m) (λ t y. drop_plan e o m) (drops_recursions e o m) (quiet.drops e o m) (λ t y h. refl) (λ v. tt) (λ s y a. a.runs)
+      keeps heap k (λ s y. MayDrop y e o m) (λ t y. drop_plan e o m) (drops_recursions e o m) (quiet.drops e o m) (λ t y h. refl) (λ s y a. a.runs)
       (λ v. let a = may v in (monitor_in_heap heap k o m a.runs a.inflated v, tt)) may (λ v. (refl, tt, tt)) begins
 
   pub quits_rule : (e : CallContext) (o m : ℕ) → (SoundWorldWith heap k → MayQuit k e o m) → Begins heap.shape k e.unfinished → Keeps heap (quit_plan e m) k
   quits_rule e o m may begins =
-      keeps heap k (λ s y. MayQuit y e o m) (λ t y. quit_plan e m) (quits_monitor e o m) (quiet.quits e o m) (λ t y h. refl) (λ v. tt) (λ s y a. a.drops.runs)
+      keeps heap k (λ s y. MayQuit y e o m) (λ t y. quit_plan e m) (quits_monitor e o m) (quiet.quits e o m) (λ t y h. refl) (λ s y a. a.drops.runs)
       (λ v. let a = may v in (monitor_in_heap heap k o m a.drops.runs a.drops.inflated v, tt)) may (λ v. (refl, tt, tt)) begins
 
   pub regains_rule : (e : CallContext) (o m : ℕ) → (SoundWorldWith heap k → MayRegain k e o m)
       → Begins heap.shape k e.unfinished → Keeps heap (regain_plan e k.thread o m) k
   regains_rule e o m may begins =
-      keeps heap k (λ s y. MayRegain y e o m) (λ t y. regain_plan e t o m) (regains_free e o m) (quiet.regains e o m) (λ t y h. refl) (λ v. tt)
-      (λ s y a. a.runs) (λ v. let a = may v in (monitor_in_heap heap k o m a.runs a.inflated v, tt)) may (λ v. (refl, tt, tt)) begins
+      keeps heap k (λ s y. MayRegain y e o m) (λ t y. regain_plan e t o m) (regains_free e o m) (quiet.regains e o m) (λ t y h. refl) (λ s y a. a.runs)
+      (λ v. let a = may v in (monitor_in_heap heap k o m a.runs a.inflated v, tt)) may (λ v. (refl, tt, tt)) begins
 
   pub restores_rule : (e : CallContext) (o m word : ℕ) → (SoundWorldWith heap k → MayRestore k e o m)
       → Begins heap.shape k e.unfinished → Keeps heap (restore_plan e o m word) k
   restores_rule e o m word may begins =
-      keeps heap k (λ s y. MayRestore y e o m) (λ t y. restore_plan e o m word) (restores_recursions e o m word) (quiet.restores e o m word)
-      (λ t y h. refl) (λ v. tt) (λ s y a. a.runs) (λ v. let a = may v in (monitor_in_heap heap k o m a.runs a.inflated v, tt)) may (λ v. (refl, tt, tt)) begins
+      keeps heap k (λ s y. MayRestore y e o m) (λ t y. restore_plan e o m word) (restores_recursions e o m word) (quiet.restores e o m word) (λ t y h. refl)
+      (λ s y a. a.runs) (λ v. let a = may v in (monitor_in_heap heap k o m a.runs a.inflated v, tt)) may (λ v. (refl, tt, tt)) begins

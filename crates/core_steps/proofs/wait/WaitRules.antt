@@ -28,7 +28,7 @@ module _ (heap : Heap) (k : ThreadView) where
   pub stands_rule : (e : CallContext) (o m : ℕ) → (SoundWorldWith heap k → MayStand heap.shape k e o m)
       → Begins heap.shape k e.unfinished → Keeps heap (store_entering_plan e k.thread o) k
   stands_rule e o m may begins =
-      keeps heap k (λ s y. MayStand s y e o m) (λ t y. store_entering_plan e t o) (entering_valid e o m) (quiet.says_entering e o m) (λ t y h. refl) (λ v. tt)
+      keeps heap k (λ s y. MayStand s y e o m) (λ t y. store_entering_plan e t o) (entering_valid e o m) (quiet.says_entering e o m) (λ t y h. refl)
       (λ s y a. a.runs) (λ v. (v.within, tt)) may (λ v. (refl, tt, tt)) begins
 
   pub logs_wait : (e : CallContext) (o m stamp : ℕ) → (SoundWorldWith heap k → MayWait heap.shape k e o m stamp)
@@ -58,9 +58,8 @@ module _ (heap : Heap) (k : ThreadView) where
   pub wakes_next_rule : (e : CallContext) (o u n : ℕ) → (SoundWorldWith heap k → MayWakeNext heap.shape k e o u n)
       → Begins heap.shape k e.unfinished → Keeps heap (wake_next_plan e o u (n + 1)) k
   wakes_next_rule e o u n may begins =
-      keeps heap k (λ s y. MayWakeNext s y e o u n) (λ t y. wake_next_plan e o u (n + 1)) (waking_next_valid e o u n) (quiet.wakes_next e o u n)
-      (λ t y h. refl) (λ v. tt) (λ s y a. a.wakes.runs) (λ v. (waits_there o u n (may v).wakes v, tt)) may
-      (λ v. (refl, tt, tt)) begins
+      keeps heap k (λ s y. MayWakeNext s y e o u n) (λ t y. wake_next_plan e o u (n + 1)) (waking_next_valid e o u n) (quiet.wakes_next e o u n) (λ t y h. refl)
+      (λ s y a. a.wakes.runs) (λ v. (waits_there o u n (may v).wakes v, tt)) may (λ v. (refl, tt, tt)) begins
 
   pub notifies_rule : (e : CallContext) (o u : ℕ) → (SoundWorldWith heap k → MayNotify heap.shape k o u) → Keeps heap (notify_plan e o u) k
   notifies_rule e o u may =
