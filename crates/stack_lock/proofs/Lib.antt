@@ -1,3 +1,3 @@
 mod Never
 mod Room
-mod Seizing
+pub mod StepsLeft

@@ -1,113 +1,44 @@
-use Rattle.std.proofs.Common.{◌≡◌, refl, sym, ap, ◌∙◌, subst, Option, Some}
+use Rattle.std.proofs.Common.{◌≡◌, refl, sym, ap, ◌∙◌, Option, Some}
 use Rattle.mark_word.specs.declared.mark.MarkForm.{MarkForm}
-use Rattle.mark_word.specs.declared.mark.MarkForm.TheVariants.{Inflating, Inflated}
 use Rattle.mark_word.specs.Mark.{read_mark}
-use Rattle.core_world.specs.declared.answer.StackOut.TheVariants.{Monitor, Not}
-use Rattle.core_world.specs.declared.answer.PendingCause.TheVariants as why
-use Rattle.core_world.specs.declared.word_id.WordId.TheVariants.{Mark}
-use Rattle.core_world.specs.Threads.ThreadView.{Local, local_of}
-use Rattle.core_world.specs.Trees.LockSteps.{stack_exit_at, stack_exit_by}
-use Rattle.core_world.specs.Trees.Plans.{load}
-use Rattle.heap_table.specs.Parts.{IsDueOn, HasMadeSteps}
-use Rattle.heap_table.proofs.Parts.{can, rest_due, stepped, ends}
+use Rattle.core_world.specs.Threads.ThreadView.{local_of}
+use Rattle.core_world.specs.Trees.LockSteps.{stack_exit_at}
+use Rattle.stack_lock.specs.inner.Parts.{marked_exit}
 use Rattle.stack_lock.proofs.Never.{never_left}
-use Rattle.heap_table.proofs.Ruled.{not_due}
+use Rattle.stack_lock.proofs.StepsLeft.{AreLeft, all_left, can_make, step_made, left_as, all_made, never}
 use Rattle.stack_lock.proofs.exits.leave_lock.Goals as goal
+use Rattle.stack_lock.proofs.exits.leave_lock.Goals.{After-load-mark}
 
 pub load-mark-requires : goal.load-mark-requires
-load-mark-requires c = let a = c.args in
-    can a.heap.now a.pass.now a.call.now.task (load a.call.now (Mark a.object)) _ c.requires.due refl c.requires.heap tt refl
+load-mark-requires c = can_make (all_left c.requires.heap c.requires.due) refl refl refl tt
+
+-- what is left once the mark is loaded, by its form
+by_form : (c : After-load-mark) (f : Option MarkForm) → read_mark c.load-mark.result ≡ f → AreLeft c.args.heap.now c.args.call.now.task c.args.pass.now
+    (marked_exit c.args.call.now (local_of c.args.pass.now.known) c.args.object c.args.header) c.load-mark.new.pass
+    (stack_exit_at f c.args.call.now (local_of c.load-mark.new.pass.known) c.args.object c.args.header c.load-mark.result)
+by_form c f form = left_as (step_made (all_left c.requires.heap c.requires.due) refl refl refl c.load-mark.ensures)
+    (λ i. stack_exit_at (form i) c.args.call.now (sym (ap local_of c.load-mark.ensures.known) i) c.args.object c.args.header c.load-mark.result)
 
 pub let_go-requires-clause-due : goal.let_go-requires-clause-due
 let_go-requires-clause-due c =
-    let a = c.args in
-    let h = a.heap.now in
-    let e = a.call.now in
-    let l = local_of a.pass.now.known in
-    let q = c.load-mark.new.pass in
-    let mark = c.load-mark.result in
-    let plan = load e (Mark a.object) in
-    let s = c.load-mark.ensures in
-    let form = sym c.mark_of_word.ensures ∙ c.in-Some.is ∙ ap Some c.in-Locked.is in
-    let local : local_of q.known ≡ l = ap local_of s.known in
-    let rest = rest_due h a.pass.now e.task plan _ c.requires.due refl q mark s in
-    subst (λ (x : Local). IsDueOn h q e.task (stack_exit_by e x a.object a.header mark)) (sym local)
-    (subst (λ (f : Option MarkForm). IsDueOn h q e.task (stack_exit_at f e l a.object a.header mark)) form rest)
+    (by_form (goal.at.let_go-requires-clause-due c).After-load-mark _ (sym c.mark_of_word.ensures ∙ c.in-Some.is ∙ ap Some c.in-Locked.is)).due
 
 pub unreachable-requires : goal.unreachable-requires
 unreachable-requires c =
-    let a = c.args in
-    let h = a.heap.now in
-    let e = a.call.now in
-    let l = local_of a.pass.now.known in
-    let q = c.load-mark.new.pass in
-    let mark = c.load-mark.result in
-    let plan = load e (Mark a.object) in
-    let s = c.load-mark.ensures in
-    let rest = rest_due h a.pass.now e.task plan _ c.requires.due refl q mark s in
-    let form = c.in-Some.form in
-    not_due h q e.task (stack_exit_at (read_mark mark) e l a.object a.header mark) s.heap rest
-    (ap (λ (f : Option MarkForm). stack_exit_at f e l a.object a.header mark) (sym c.mark_of_word.ensures ∙ c.in-Some.is)
-    ∙ never_left form e l a.object a.header mark c.in_default.not-Inflating c.in_default.not-Locked c.in_default.not-Inflated)
+    never (by_form (goal.at.unreachable-requires c).After-load-mark _ (sym c.mark_of_word.ensures ∙ c.in-Some.is))
+    (never_left c.in-Some.form _ _ _ _ _ c.in_default.not-Inflating c.in_default.not-Locked c.in_default.not-Inflated)
 
 pub unreachable-requires-in-None : goal.unreachable-requires-in-None
-unreachable-requires-in-None c =
-    let a = c.args in
-    let h = a.heap.now in
-    let e = a.call.now in
-    let l = local_of a.pass.now.known in
-    let q = c.load-mark.new.pass in
-    let mark = c.load-mark.result in
-    let plan = load e (Mark a.object) in
-    let s = c.load-mark.ensures in
-    let rest = rest_due h a.pass.now e.task plan _ c.requires.due refl q mark s in
-    not_due h q e.task (stack_exit_at (read_mark mark) e l a.object a.header mark) s.heap rest
-    (ap (λ (f : Option MarkForm). stack_exit_at f e l a.object a.header mark) (sym c.mark_of_word.ensures ∙ c.in-None.is))
+unreachable-requires-in-None c = never (by_form (goal.at.unreachable-requires-in-None c).After-load-mark _ (sym c.mark_of_word.ensures ∙ c.in-None.is)) refl
 
 pub returns-in-Locked : goal.returns-in-Locked
 returns-in-Locked c =
-    let a = c.args in
-    let h = a.heap.now in
-    let e = a.call.now in
-    let l = local_of a.pass.now.known in
-    let q = c.load-mark.new.pass in
-    let mark = c.load-mark.result in
-    let plan = load e (Mark a.object) in
-    let s = c.load-mark.ensures in
-    let form = sym c.mark_of_word.ensures ∙ c.in-Some.is ∙ ap Some c.in-Locked.is in
-    let local : local_of q.known ≡ l = ap local_of s.known in
-    let r = c.let_go.new.pass in
-    let out = c.let_go.result in
-    let run = subst (λ (x : Local). HasMadeSteps h (stack_exit_by e x a.object a.header mark) q r out) local c.let_go.ensures in
-    stepped h a.pass.now q r plan _ mark out s refl
-    (subst (λ (f : Option MarkForm). HasMadeSteps h (stack_exit_at f e l a.object a.header mark) q r out) (sym form) run)
+    (by_form (goal.at.returns-in-Locked c).After-load-mark _ (sym c.mark_of_word.ensures ∙ c.in-Some.is ∙ ap Some c.in-Locked.is)).whole _ _ c.let_go.ensures
 
 pub returns-in-Inflating : goal.returns-in-Inflating
 returns-in-Inflating c =
-    let a = c.args in
-    let h = a.heap.now in
-    let e = a.call.now in
-    let l = local_of a.pass.now.known in
-    let q = c.load-mark.new.pass in
-    let mark = c.load-mark.result in
-    let plan = load e (Mark a.object) in
-    let s = c.load-mark.ensures in
-    let form : read_mark mark ≡ Some Inflating = sym c.mark_of_word.ensures ∙ c.in-Some.is ∙ ap Some c.in-Inflating.is in
-    let out = Not why.Inflating in
-    stepped h a.pass.now q q plan _ mark out s refl
-    (subst (λ (f : Option MarkForm). HasMadeSteps h (stack_exit_at f e l a.object a.header mark) q q out) (sym form) (ends h q out s.heap))
+    all_made (by_form (goal.at.returns-in-Inflating c).After-load-mark _ (sym c.mark_of_word.ensures ∙ c.in-Some.is ∙ ap Some c.in-Inflating.is))
 
 pub returns-in-Inflated : goal.returns-in-Inflated
 returns-in-Inflated c =
-    let a = c.args in
-    let h = a.heap.now in
-    let e = a.call.now in
-    let l = local_of a.pass.now.known in
-    let q = c.load-mark.new.pass in
-    let mark = c.load-mark.result in
-    let plan = load e (Mark a.object) in
-    let s = c.load-mark.ensures in
-    let form : read_mark mark ≡ Some (Inflated c.in-Inflated.monitor) = sym c.mark_of_word.ensures ∙ c.in-Some.is ∙ ap Some c.in-Inflated.is in
-    let out = Monitor c.in-Inflated.monitor in
-    stepped h a.pass.now q q plan _ mark out s refl
-    (subst (λ (f : Option MarkForm). HasMadeSteps h (stack_exit_at f e l a.object a.header mark) q q out) (sym form) (ends h q out s.heap))
+    all_made (by_form (goal.at.returns-in-Inflated c).After-load-mark _ (sym c.mark_of_word.ensures ∙ c.in-Some.is ∙ ap Some c.in-Inflated.is))
