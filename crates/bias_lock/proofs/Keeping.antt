@@ -1,5 +1,5 @@
 -- What runs of the steps leave of their thread's knowledge, where no hold was taken or left.
-use Rattle.std.proofs.Common.{◌≡◌, ℕ, ◌==◌, Bool, true, false, if◌then◌else◌, Option, Some, None, sym, ap, ◌∙◌, subst}
+use Rattle.std.proofs.Common.{◌≡◌, ℕ, ◌==◌, Bool, true, false, if◌then◌else◌, Option, Some, None, refl, sym, ap, ◌∙◌, subst}
 use Rattle.mark_word.specs.declared.mark.MarkForm.{MarkForm}
 use Rattle.mark_word.specs.declared.mark.MarkForm.TheVariants.{Inflating, Neutral, Anonymous, Biased, Locked, Inflated, Marked}
 use Rattle.mark_word.specs.Mark.{mark_of, read_mark}
@@ -21,9 +21,9 @@ use Rattle.core_world.specs.Trees.LockSteps.{hold_steps}
 use Rattle.core_world.specs.Trees.Plans.{CallContext, load, load_plan, class_steps}
 use Rattle.core_world.specs.Trees.StepTree.{StepTree, done, unreachable, step, ◌>>=◌}
 use Rattle.heap_table.proofs.ClassSteps.{class_splits}
+use Rattle.stack_lock.proofs.StepsLeft.{known_alike}
 use Rattle.bias_lock.specs.inner.Parts.{prototype_enter, prototype_drop}
 use Rattle.bias_lock.specs.Kept.{IsKeptUnlessTook}
-use Rattle.bias_lock.proofs.Taking.{unbiased, rebiased}
 
 kept : (out : BiasTry) (before after : Local) → after ≡ before → IsKeptUnlessTook out before after
 kept (Took path) before after e = tt
@@ -47,8 +47,8 @@ module _ (s : Shape) (start : ℕ) where
       m = known_after s start (unbias_plan e o mark neutral) found k
 
       cases : (b : Bool) → Runs s start (if b then done (Unbiased neutral) else done (Raced mark found)) m l out → local_of l ≡ local_of k
-      cases true run = ap local_of run.0 ∙ unbiased s start e o mark neutral found k
-      cases false run = ap local_of run.0 ∙ unbiased s start e o mark neutral found k
+      cases true run = ap local_of run.0 ∙ (known_alike s start (unbias_plan e o mark neutral) found k refl refl refl).local
+      cases false run = ap local_of run.0 ∙ (known_alike s start (unbias_plan e o mark neutral) found k refl refl refl).local
 
   -- ENTERS
   module _ (e : CallContext) (t : Local) (o mark : ℕ) (l : ThreadView) (out : BiasTry) where
@@ -61,7 +61,8 @@ module _ (s : Shape) (start : ℕ) where
         cases : (b : Bool) → Runs s start (if b then took_steps e t o BiasTaken else done (Raced mark found)) m l out
             → IsKeptUnlessTook out (local_of k) (local_of l)
         cases true run = taken (hold_steps e t o BiasTaken) m l out (local_of k) (local_of l) run
-        cases false run = kept out (local_of k) (local_of l) (ap local_of run.0 ∙ rebiased s start e t.thread o mark epoch found k)
+        cases false run = kept out (local_of k) (local_of l)
+            (ap local_of run.0 ∙ (known_alike s start (rebias_plan e t.thread o mark epoch) found k refl refl refl).local)
 
     valid_keeps : (b : Bool) (k : ThreadView) → Runs s start (if b then took_steps e t o BiasOwn else done (Valid mark)) k l out
         → IsKeptUnlessTook out (local_of k) (local_of l)

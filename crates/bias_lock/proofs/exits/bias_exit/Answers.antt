@@ -1,16 +1,12 @@
-use Rattle.std.proofs.Common.{◌==◌, refl, sym, ap, ◌∙◌, subst, arith}
-use Rattle.core_world.specs.Locks.{hold_count}
+use Rattle.std.proofs.Common.{refl, sym, ap, ◌∙◌, arith}
 use Rattle.core_world.specs.Threads.ThreadView.{Local, local_of}
-use Rattle.core_world.specs.Trees.LockSteps.{raise_stamp_plan, raise_steps}
-use Rattle.core_world.specs.Trees.Plans.{next_stamp, top_place}
-use Rattle.core_world.specs.Trees.StepTree.{done}
-use Rattle.core_world.proofs.CallRests.{part_due}
-use Rattle.heap_table.specs.Parts.{IsDueOn, HasMadeSteps}
-use Rattle.heap_table.proofs.Parts.{in_turn}
-use Rattle.heap_table.proofs.Arms.{after_choice}
+use Rattle.core_world.specs.Trees.BiasSteps.{bias_exit_steps}
+use Rattle.core_world.specs.Trees.Plans.{top_place}
 use Rattle.heap_table.proofs.Ruled.{few_objects}
+use Rattle.stack_lock.proofs.StepsLeft.{AreLeft, all_left, left_as, part_of, choice_left}
 use Rattle.bias_lock.specs.inner.Parts.{marked_exit}
 use Rattle.bias_lock.proofs.exits.bias_exit.Goals as goal
+use Rattle.bias_lock.proofs.exits.bias_exit.Goals.{After-raise}
 
 pub place_at_depth-place-requires-clause-object : goal.place_at_depth-place-requires-clause-object
 place_at_depth-place-requires-clause-object c =
@@ -18,41 +14,25 @@ place_at_depth-place-requires-clause-object c =
 
 pub raise-requires-clause-due : goal.raise-requires-clause-due
 raise-requires-clause-due c =
-    let a = c.args in
-    let h = a.heap.now in
-    let e = a.call.now in
-    let k = a.pass.now.known in
-    part_due h.heap.shape h.heap.start h.heap.biasing k e.task (raise_steps e (local_of k) a.object) (λ _. marked_exit e (local_of k) a.object)
-    c.requires.due
+    part_of (λ _. marked_exit c.args.call.now (local_of c.args.pass.now.known) c.args.object) (all_left c.requires.heap c.requires.due)
+
+raised : (c : After-raise) → AreLeft c.args.heap.now c.args.call.now.task c.args.pass.now
+    (bias_exit_steps c.args.call.now (local_of c.args.pass.now.known) c.args.object) c.raise.new.pass
+    (marked_exit c.args.call.now (local_of c.raise.new.pass.known) c.args.object)
+raised c =
+    let rest = choice_left _ _ _ _ (λ _. marked_exit c.args.call.now (local_of c.args.pass.now.known) c.args.object) c.raise.ensures.run refl
+    (all_left c.requires.heap c.requires.due) in
+    left_as rest (λ i. marked_exit c.args.call.now (sym c.raise.ensures.kept i) c.args.object)
 
 pub leave_marked-requires-clause-due : goal.leave_marked-requires-clause-due
-leave_marked-requires-clause-due c =
-    let a = c.args in
-    let h = a.heap.now in
-    let e = a.call.now in
-    let k = a.pass.now.known in
-    let q = c.raise.new.pass in
-    let plan = raise_stamp_plan e a.object (next_stamp (local_of k)) in
-    let one = hold_count a.object k.holds == 1 in
-    let rest =
-    after_choice h a.pass.now q e.task plan (λ n. done tt) tt (λ _. marked_exit e (local_of k) a.object) tt one c.requires.due refl c.raise.ensures.run in
-    subst (λ (l : Local). IsDueOn h q e.task (marked_exit e l a.object)) (sym c.raise.ensures.kept) rest
+leave_marked-requires-clause-due c = (raised (goal.at.leave_marked-requires-clause-due c).After-raise).due
 
 pub leave_marked-requires-clause-place : goal.leave_marked-requires-clause-place
 leave_marked-requires-clause-place c =
     c.place_at_depth-place.ensures.place ∙ ap (λ (l : Local). top_place c.args.object l.holds) (sym c.raise.ensures.kept)
 
 pub returns-clause-run : goal.returns-clause-run
-returns-clause-run c =
-    let a = c.args in
-    let h = a.heap.now in
-    let e = a.call.now in
-    let k = a.pass.now.known in
-    let q = c.raise.new.pass in
-    let r = c.leave_marked.new.pass in
-    let out = c.leave_marked.result in
-    let run = subst (λ (l : Local). HasMadeSteps h (marked_exit e l a.object) q r out) c.raise.ensures.kept c.leave_marked.ensures.run in
-    in_turn h a.pass.now q r (raise_steps e (local_of k) a.object) (λ _. marked_exit e (local_of k) a.object) tt out c.raise.ensures.run run
+returns-clause-run c = (raised (goal.at.returns-clause-run c).After-raise).whole _ _ c.leave_marked.ensures.run
 
 pub returns-clause-kept : goal.returns-clause-kept
 returns-clause-kept c = λ none. c.leave_marked.ensures.kept none ∙ c.raise.ensures.kept
