@@ -14,7 +14,7 @@ use Rattle.core_world.specs.Trees.Plans.{CallContext, load}
 use Rattle.core_world.specs.Trees.StepTree.{StepTree, done, ◌>>=◌, ask, all_from}
 use Rattle.core_world.specs.Threads.ThreadView.{ThreadView, Local, start_of}
 use Rattle.core_world.specs.Words.Shape.{Shape, monitor_count}
-use Rattle.safepoint_work.specs.ShotParts.{HasShot}
+use Rattle.heap_census.specs.ShotParts.{HasShot}
 use Rattle.heap_table.specs.Parts.{HasMadeSteps}
 use Rattle.heap_table.specs.Seen.{HeapSeen, PassSeen, IsOf}
 use Rattle.heap_table.specs.Resting.{MayCall, Rests}

@@ -20,11 +20,12 @@ ghost use Rattle.lock_runtime.specs.Shots.{HasShots};
 
 use crate::contexts::unfinished;
 use core_world::{HeapCall, Operation, Progress, Stage, TooManyDumps};
+use heap_census::{stands_still, take_shot};
 use heap_table::{CallContext, Heap, Pass};
 use object_monitor::publish;
 use plain_monitor::Entry;
 use safepoint::{halt, release, safepoint};
-use safepoint_work::{deflate_idle, stands_still, take_shot};
+use safepoint_work::deflate_idle;
 
 // The thread's safepoint ends: by the halt where the run stands still, and else by the release.
 fn end_check(heap: &Heap, pass: &mut Pass, context: &CallContext, still: bool) -> Progress<bool>

@@ -1,2 +1,1 @@
-pub mod ShotParts
 pub mod inner

@@ -1,5 +1,4 @@
-//! What a thread does at its reached safepoint: it revokes a bias, takes a shot, or looks whether the run is stuck, and
-//! gives idle monitors back.
+//! What a thread changes at its reached safepoint: it revokes a bias, and gives idle monitors back.
 //!
 //! Revocation is after OpenJDK 8's `biasedLocking.cpp`: one bias, or all of a class at once. Deflation is after its
 //! `synchronizer.cpp`. Each function makes the steps of its tree in `core_world`, as they are due, on the words of a
@@ -11,8 +10,6 @@ mod deflates;
 mod outcome;
 mod revocation;
 mod revokes;
-mod shots;
-mod stands;
 mod steps;
 mod verdicts;
 mod visit;
@@ -22,6 +19,4 @@ mod words;
 pub use deflates::deflate_idle;
 pub use outcome::Outcome;
 pub use revocation::Revocation;
-pub use shots::take_shot;
-pub use stands::stands_still;
 pub use verdicts::revoke_at_safepoint;

@@ -22,8 +22,8 @@ pub fn object_of_hold(word: u64) -> Option<u32>
     }
 }
 
-/// 1 where the test holds, and else 0.
-pub fn one_if(test: bool) -> u32
+// 1 where the test holds, and else 0.
+fn one_if(test: bool) -> u32
     ensures value { result ≡ one_if test }
     ensures few { result ≤ 1 }
 {

@@ -1,0 +1,5 @@
+mod Standing
+mod StandLoop
+mod Later
+mod Parting
+mod Cells

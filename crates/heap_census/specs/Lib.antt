@@ -1,0 +1,2 @@
+pub mod ShotParts
+pub mod inner
