@@ -42,7 +42,8 @@ use Rattle.core_law.specs.BiasLaw.{BiasLawHolds}
 use Rattle.core_law.specs.Logic.{Heap, SoundWorldWith, Keeps}
 use Rattle.core_steps.proofs.FairSteps.{Begins, begins_none, works_making_none, told}
 use Rattle.core_steps.proofs.FairLooks.{Sees}
-use Rattle.core_steps.proofs.LawRules.{kept_in, monitor_in_heap, keeps, enters_in_log, looks}
+use Rattle.core_steps.proofs.LawRules.{kept_in, monitor_in_heap, keeps, enters_in_log}
+use Rattle.core_steps.proofs.Looks.{looks_where}
 
 -- the heap has the words of a monitor that it has
 word_in : (s : Shape) (n : WordId) (m : ℕ) → IsOfMonitor m n → m < monitor_count s → IsIn s n
@@ -69,17 +70,9 @@ module _ (heap : Heap) (k : ThreadView) where
   -- LOOKS at a word of o's monitor, which a mark that was seen in this call names
   pub looks_at_monitor : (e : CallContext) (n : WordId) (o m : ℕ) → IsOfMonitor m n → k.running ≡ true → SawInflated k o m → GoesOn k e → e.check ≡ k.checking
       → Begins heap.shape k e.unfinished → Keeps heap (load_plan e k.stage n) k
-  looks_at_monitor e n o m its runs saw goes check begins = looks heap k (load_plan e k.stage n) (record {
-    act = refl;
-    note = refl;
-    own = refl;
-    stage = refl;
-    check = check;
-    after = goes;
-    may = record {
-      outside = λ stopped. absurd (cc (stopped, runs));
-      found = λ r a of. subst (HasFound k) (same_Some _ _ (sym its ∙ of)) (found_by_mark k o m saw);
-    };
+  looks_at_monitor e n o m its runs saw goes check begins = looks_where heap k e k.stage n refl check goes (record {
+    outside = λ stopped. absurd (cc (stopped, runs));
+    found = λ r a of. subst (HasFound k) (same_Some _ _ (sym its ∙ of)) (found_by_mark k o m saw);
   }) (λ v. word_in heap.shape n m its (monitor_in_heap heap k o m runs saw v)) begins (sees_none heap.shape k n m its)
 
   pub saves_rule : (e : CallContext) (o m : ℕ) → (SoundWorldWith heap k → MayCount k e o m × (k.stage ≡ Settled))

@@ -17,11 +17,11 @@ use Rattle.core_world.specs.RevocationRules.{writes_in}
 use Rattle.core_world.specs.Steps.{is_idle, known_hit, seen_before, only_headers}
 use Rattle.core_locks.specs.Knowing.{GoesOn}
 use Rattle.core_law.specs.Logic.{Heap, Does}
-use Rattle.core_steps.proofs.LawRules.{looks, requests}
+use Rattle.core_steps.proofs.Looks.{looks_safe}
+use Rattle.core_steps.proofs.LawRules.{requests}
 use Rattle.core_steps.proofs.OwnParts.{KeepsOwn, own_of, same_own}
 use Rattle.core_steps.proofs.Resting.{Carries, unasking, unchecking, rests}
 use Rattle.core_steps.proofs.FairSteps.{Begins}
-use Rattle.core_steps.proofs.safepoint.SafeCalls.{look_safe}
 use Rattle.core_steps.proofs.safepoint.SafepointLooks.{Reaches}
 use Rattle.core_steps.proofs.safepoint.SafeWords.{requested_asks, requested_runs}
 use Rattle.core_steps.proofs.SeenSteps.{newest_or}
@@ -97,7 +97,7 @@ module _ (heap : Heap) (e : CallContext) (me : ℕ) where
         → Does heap fresh (reached_steps e) k (λ b r l. (b ≡ false) × Stood k0 r l)
     reached_does fresh k a since unreached =
         hitting heap fresh _ _ k _ (λ n. refl)
-        (λ i. looks heap k (load e id.Safepoint) (look_safe k e a.calm a.check (inl a.mine)) (λ v. tt) (inl a.mine) tt) (λ word i was.
+        (λ i. looks_safe heap k e a.calm a.check (inl a.mine) (inl a.mine)) (λ word i was.
         let l = known_hit heap.shape heap.start (load e id.Safepoint) word k in
         let now : Since k0 l = record {
           own = since.own;
@@ -148,8 +148,8 @@ module _ (heap : Heap) (e : CallContext) (me : ℕ) where
         let rest = may.rest in
         let k = k0 in
         let unasks = unasking heap.shape k rest runs in
-        hitting heap fresh _ _ k _ (λ n. refl) (λ i. looks heap k (load (record e { check = false }) id.Safepoint)
-        (look_safe k (record e { check = false }) rest.calm (sym (unchecking heap.shape k rest unasks)) goes) (λ v. tt) may.begins tt) (λ word i was.
+        hitting heap fresh _ _ k _ (λ n. refl) (λ i. looks_safe heap k (record e { check = false }) rest.calm
+        (sym (unchecking heap.shape k rest unasks)) goes may.begins) (λ word i was.
         let l = known_hit heap.shape heap.start (load (record e { check = false }) id.Safepoint) word k in
         let exchange = request_plan e k.thread word in
         chooses heap false (has_requester word) _ _ _ _ (λ h. answers heap false _ _ _ (refl, rests heap.shape _ refl unasks refl may.carries)) (λ free.

@@ -1,37 +1,29 @@
 -- The calls on the safepoint word begin well.
-use Rattle.std.proofs.Common.{◌≡◌, ◌⊎◌, ℕ, ◌==◌, eq-eqb, Bool, true, false, cond, Option, Some, None, refl, sym, ap, ◌∙◌, subst, inl, inr}
+use Rattle.std.proofs.Common.{◌≡◌, ℕ, ◌==◌, eq-eqb, Bool, true, false, cond, Option, Some, None, refl, sym, ap, ◌∙◌, subst, inl, inr}
 use Rattle.mark_word.specs.Safe.{read_safe}
 use Rattle.core_world.specs.declared.answer.Progress.{Progress}
 use Rattle.core_world.specs.declared.answer.PendingCause.{PendingCause}
 use Rattle.core_world.specs.declared.answer.PendingCause.TheVariants as why
-use Rattle.core_world.specs.declared.word_id.WordId.TheVariants as id
-use Rattle.core_world.specs.declared.stage.Stage.TheVariants.{Settled}
 use Rattle.core_world.specs.declared.heap_call.HeapCall.TheVariants.{Poll, Stop, Resume, Request, Reached, Release}
 use Rattle.core_world.specs.Threads.AtRest.{AtRest}
 use Rattle.core_world.specs.Trees.Calls.{steps_of, may_begin, side_context, end}
 use Rattle.core_world.specs.Words.Forms.{requester_in, asks_in, runs_in, is_halted, is_still}
 use Rattle.core_world.specs.Threads.ThreadView.{ThreadView, local_of, start_of}
-use Rattle.core_world.specs.Looking.{IsLook}
 use Rattle.core_world.specs.Trees.Operations.{lone_context}
-use Rattle.core_world.specs.Trees.Plans.{CallContext, load, done_with, pending_for}
+use Rattle.core_world.specs.Trees.Plans.{CallContext, done_with, pending_for}
 use Rattle.core_world.specs.Trees.SafepointSteps.{has_requester, running_too, requested_by, reached_word, released_word}
 use Rattle.core_world.specs.Trees.SafepointSteps.{bar, unless, poll_steps, resume_steps, request_steps, reached_steps}
 use Rattle.core_world.specs.Trees.StepTree.{StepTree, ◌>>=◌}
-use Rattle.core_locks.proofs.LookOn.{may_look_safe}
 use Rattle.core_law.specs.Logic.{Heap, SoundWorldWith, Does}
 use Rattle.core_law.specs.Sound.{Finishes}
 use Rattle.core_law.specs.Begins.{BeginsWell}
-use Rattle.core_steps.proofs.LawRules.{looks, stops, resumes, requests, releases, publishes_all}
+use Rattle.core_steps.proofs.Looks.{looks_safe}
+use Rattle.core_steps.proofs.LawRules.{stops, resumes, requests, releases, publishes_all}
 use Rattle.core_steps.proofs.Resting.{Carries, carried, unasking, unchecking, rests, rests_asking}
 use Rattle.core_steps.proofs.safepoint.SafeWords.{stopped_asks, resumed_asks, requested_runs, reached_there, released_asks}
 use Rattle.core_law.proofs.Standing.{few_threads}
 use Rattle.core_steps.proofs.Tests.{both, not_true, none_is, unsome}
 use Rattle.core_steps.proofs.Trees.{answers, follows, binds, chooses, hitting, finding, swapping}
-
--- a load of the safepoint word is a look
-pub look_safe : (k : ThreadView) (e : CallContext) → k.stage ≡ Settled → e.check ≡ k.checking → (e.unfinished ≡ k.unfinished) ⊎ (k.unfinished ≡ None)
-    → IsLook k (load e id.Safepoint)
-look_safe k e calm check after = record { act = refl; note = refl; own = refl; stage = sym calm; check = check; after = after; may = may_look_safe k }
 
 module _ (heap : Heap) where
   -- a call that tells nobody what its tree answers
@@ -84,7 +76,7 @@ module _ (heap : Heap) where
       let carries : Carries k.moving k.log k.wait k.holds k.shots e.unfinished =
       subst (Carries k.moving k.log k.wait k.holds k.shots) (sym goes) (carried heap.shape k rest) in
       let unchecks = check ∙ unchecking heap.shape k rest unasks in
-      hitting heap true _ _ k _ (λ n. refl) (λ i. looks heap k _ (look_safe k e rest.calm check (inl goes)) (λ v. tt) (inl goes) tt) (λ word i was.
+      hitting heap true _ _ k _ (λ n. refl) (λ i. looks_safe heap k e rest.calm check (inl goes) (inl goes)) (λ word i was.
       by_bar (bar word) _ _ _ (λ b a. rests heap.shape _ refl unasks unchecks carries) (λ free.
       let f = no_bar word free in
       swapping heap false _ word _ (λ n. done_with tt) (λ n. unless (bar n) (pending_for (why.Raced word n))) _ _ refl
@@ -115,7 +107,7 @@ module _ (heap : Heap) where
       let unasks = unasking heap.shape k rest runs in
       let unchecks = unchecking heap.shape k rest unasks in
       closes true (poll_steps e) k (
-      hitting heap true _ _ k _ (λ n. refl) (λ i. looks heap k _ (look_safe k e rest.calm refl (inl refl)) (λ v. tt) (inl refl) tt) (λ word i was.
+      hitting heap true _ _ k _ (λ n. refl) (λ i. looks_safe heap k e rest.calm refl (inl refl) (inl refl)) (λ word i was.
       chooses heap false (has_requester word) _ _ _ _
       (λ h. answers heap false _ _ _ (rests heap.shape _ refl unasks unchecks (carried heap.shape k rest)))
       (λ h. answers heap false _ _ _ (rests heap.shape _ refl unasks unchecks (carried heap.shape k rest)))))
@@ -136,7 +128,7 @@ module _ (heap : Heap) where
       subst (Carries k.moving k.log k.wait k.holds k.shots) nothing (carried heap.shape k rest) in
       closes true (request_steps e k.thread) k (
       hitting heap true _ _ k _ (λ n. refl)
-      (λ i. looks heap k _ (look_safe k e rest.calm (sym (not_true _ m.1)) (inr nothing)) (λ v. tt) (inl (sym nothing)) tt) (λ word i was.
+      (λ i. looks_safe heap k e rest.calm (sym (not_true _ m.1)) (inr nothing) (inl (sym nothing))) (λ word i was.
       chooses heap false (has_requester word) _ _ _ _ (λ h. answers heap false _ _ _ (rests heap.shape _ refl unasks refl carries)) (λ free.
       swapping heap false _ word _ (λ n. done_with tt) (λ n. cond (has_requester n) (pending_for (why.Requested n)) (pending_for (why.Raced word n))) _ _ refl
       (λ i. requests heap _ e word (record {
@@ -168,8 +160,8 @@ module _ (heap : Heap) where
       let carries : Carries k.moving k.log k.wait k.holds k.shots None =
       subst (Carries k.moving k.log k.wait k.holds k.shots) nothing (carried heap.shape k rest) in
       closes true (reached_steps (lone_context Reached)) k (
-      hitting heap true _ _ k _ (λ n. refl) (λ i. looks heap k _ (look_safe k (lone_context Reached) rest.calm (sym (not_true _ m.1)) (inr nothing)) (λ v. tt)
-      (inl (sym nothing)) tt) (λ word i was.
+      hitting heap true _ _ k _ (λ n. refl)
+      (λ i. looks_safe heap k (lone_context Reached) rest.calm (sym (not_true _ m.1)) (inr nothing) (inl (sym nothing))) (λ word i was.
       chooses heap false (is_still word) _ _ _ _
       (λ h. answers heap false _ _ _ (rests_asking heap.shape _ refl (rest.stopped n.0) refl refl carries))
       (λ h. answers heap false _ _ _ (rests_asking heap.shape _ refl (rest.stopped n.0) refl refl carries))))
