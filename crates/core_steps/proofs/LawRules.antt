@@ -20,10 +20,9 @@ use Rattle.core_world.specs.declared.plan.LogEffect.TheVariants.{Quiet}
 use Rattle.core_world.specs.declared.plan.StepPlan.{StepPlan}
 use Rattle.core_world.specs.declared.stage.Stage.TheVariants.{Settled, BiasAcquired}
 use Rattle.core_world.specs.Words.Shape.{Shape, IsInLimits, monitor_count}
-use Rattle.core_world.specs.There.{HasPlace, IsIn, IsThere}
+use Rattle.core_world.specs.There.{IsThere}
 use Rattle.core_world.specs.Threads.References.{HasReference, HasValue, making_in}
 use Rattle.core_world.specs.Threads.ThreadView.{ThreadView, local_of}
-use Rattle.core_world.specs.Looking.{IsLook}
 use Rattle.core_world.specs.Trees.LockSteps.{displace_plan, seize_plan, hold_plan, store_ready_plan, log_enter_plan}
 use Rattle.core_world.specs.Trees.LockSteps.{raise_stamp_plan, leave_plan, let_go_plan, clear_plan}
 use Rattle.core_world.specs.Trees.Operations.{get_plan, put_plan, store_ended_plan}
@@ -79,7 +78,7 @@ use Rattle.core_made.specs.Steps.{IsFairQuietly}
 use Rattle.core_made.proofs.Quiets.{quiet_keeps}
 use Rattle.core_steps.proofs.FairSteps.{KnowsBy, Begins, begins_none, works_making_none, Spares, KeepsShots, TakesAt, told}
 use Rattle.core_steps.proofs.FairSteps.{Tells, Quietly, fair, fair_quietly, missed_made, quiet_made, told_made}
-use Rattle.core_steps.proofs.FairLooks.{Sees, look_whole, resume_missed}
+use Rattle.core_steps.proofs.FairLooks.{resume_missed}
 use Rattle.core_law.proofs.Wholes.{All, all_unless, stops_all, was_asked, requester_is, kept_whole}
 
 -- A step that logs nothing takes nothing, nor does one that tells what others may see.
@@ -293,20 +292,6 @@ module _ (heap : Heap) (k : ThreadView) where
   enters_in_log May plan entry law biases unrevoking exact runs there may tells begins =
       enters_in_log_with May (λ y. Unit {0}) plan entry law (λ w P t within m v biased. biases w P t within m.0 v biased) unrevoking exact runs there
       (λ v. (may v, tt)) tells begins
-
-  -- LOADS
-  pub looks : (p : StepPlan) → IsLook k p → (SoundWorldWith heap k → IsIn heap.shape p.at)
-      → Begins heap.shape k p.after → Sees heap.shape k p.at → Keeps heap p k
-  looks p look there begins sees = record {
-    there = λ v. (there v, subst (λ o. HasPlace o (length k.shots)) (sym look.own) tt);
-    exact = λ v. quiet_exactly v.world k.thread p look.note;
-    by = λ v. record {
-      objects = v.objects;
-      is =
-          look_whole v.world v.objects k.thread (inside heap k v) p (away heap k v (λ s y. IsLook y p) look) (away heap k v (λ s y. Begins s y p.after) begins)
-          (away heap k v (λ s y. Sees s y p.at) sees) v.valid;
-    };
-  }
 
   -- THE SAFEPOINT WORD
   pub stops : (e : CallContext) → MayStop k e → Keeps heap (stop_plan e k.thread) k
