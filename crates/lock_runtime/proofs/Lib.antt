@@ -1,6 +1,7 @@
 pub mod Begins
 pub mod LeftNothing
 pub mod After
+pub mod EachStep
 pub mod PartMade
 pub mod Goes
 pub mod Entered

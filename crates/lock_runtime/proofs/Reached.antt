@@ -1,6 +1,6 @@
 -- A dump whose safepoint is done has reached it: its release, which is to come, finds the word of a reached safepoint.
 use Rattle.std.specs.List.{list_all}
-use Rattle.std.proofs.Common.{◌≡◌, ℕ, zero, suc, ◌+◌, ◌<◌, nat_lt, ◌==◌, ◌||◌, ◌&&◌, Bool, true, false, cond, if◌then◌else◌}
+use Rattle.std.proofs.Common.{◌≡◌, ℕ, ◌<◌, nat_lt, ◌==◌, ◌||◌, ◌&&◌, Bool, true, false, cond, if◌then◌else◌}
 use Rattle.std.proofs.Common.{Option, Some, length, inl, inr, refl, sym, ap, ◌∙◌, subst, eq-eqb, eqb-true, arith}
 use Rattle.mark_word.specs.declared.mark.MarkForm.{MarkForm}
 use Rattle.mark_word.specs.declared.mark.MarkForm.TheVariants.{Biased, Locked, Inflated}
@@ -52,6 +52,7 @@ use Rattle.heap_table.specs.Parts.{IsDueOn, HasMadeSteps}
 use Rattle.heap_table.proofs.Loops.{binds}
 use Rattle.heap_table.proofs.Knows.{same_thread, told_here}
 use Rattle.lock_runtime.specs.inner.LookParts.{reached_dump, numbered_dump}
+use Rattle.lock_runtime.proofs.EachStep.{EachStep, each_either, each_then, each_of_all, each_of_list}
 
 -- STEPS THAT LEAVE THE SAFEPOINT WORD: loads, and whatever is done with other words
 abbrev leaves_safepoint : WordId → Act → Bool
@@ -59,31 +60,15 @@ leaves_safepoint id.Safepoint Load = true
 leaves_safepoint id.Safepoint _ = false
 leaves_safepoint _ act = true
 
+abbrev Leaves : StepPlan → Type 0
+Leaves p = leaves_safepoint p.at p.act ≡ true
+
 abbrev pub LeaveSafepoint : {A : Type 0} → StepTree A → Type 0
-LeaveSafepoint (done a) = Unit {0}
-LeaveSafepoint unreachable = Unit {0}
-LeaveSafepoint (step p f) = (leaves_safepoint p.at p.act ≡ true) × ((n : ℕ) → LeaveSafepoint (f n))
-
-leave_then : {A B : Type 0} (d : StepTree A) (g : A → StepTree B) → LeaveSafepoint d → ((a : A) → LeaveSafepoint (g a)) → LeaveSafepoint (d >>= g)
-leave_then (done a) g one two = two a
-leave_then unreachable g one two = tt
-leave_then (step p f) g one two = (one.0, λ n. leave_then (f n) g (one.1 n) two)
-
-all_leave : (i n : ℕ) (f : ℕ → StepTree (Unit {0})) → ((j : ℕ) → LeaveSafepoint (f j)) → LeaveSafepoint (all_from i n f)
-all_leave i zero f each = tt
-all_leave i (suc n) f each = leave_then (f i) _ (each i) (λ _. all_leave (i + 1) n f each)
-
-each_leave : {A : Type 0} (i n : ℕ) (f : ℕ → StepTree A) → ((j : ℕ) → LeaveSafepoint (f j)) → LeaveSafepoint (each_from i n f)
-each_leave i zero f each = tt
-each_leave i (suc n) f each = leave_then (f i) _ (each i) (λ first. leave_then (each_from (i + 1) n f) _ (each_leave (i + 1) n f each) (λ others. tt))
-
-either_leave : {A : Type 0} (b : Bool) (x y : StepTree A) → LeaveSafepoint x → LeaveSafepoint y → LeaveSafepoint (if b then x else y)
-either_leave true x y one two = one
-either_leave false x y one two = two
+LeaveSafepoint d = EachStep Leaves d
 
 module _ (e : CallContext) (s : Shape) where
   holds_leave : (t : ℕ) → LeaveSafepoint (look_at_holds e t)
-  holds_leave t = all_leave 0 most_holds (λ p. ask (load e (id.Hold t p)) >>= (λ _. done tt)) (λ p. (refl, λ n. tt))
+  holds_leave t = each_of_all Leaves 0 most_holds (λ p. ask (load e (id.Hold t p)) >>= (λ _. done tt)) (λ p. (refl, λ n. tt))
 
   owner_leaves : (f : Option OwnerForm) → LeaveSafepoint (look_at_owner f e)
   owner_leaves (Some (ByThread thread)) = holds_leave thread
@@ -91,43 +76,43 @@ module _ (e : CallContext) (s : Shape) where
   owner_leaves _ = tt
 
   class_leaves : (o : ℕ) → LeaveSafepoint (class_steps e Settled s o)
-  class_leaves o = either_leave (nat_lt o s.declared) _ _ tt (refl, λ n. tt)
+  class_leaves o = each_either Leaves (nat_lt o s.declared) _ _ tt (refl, λ n. tt)
 
   mark_leaves : (f : Option MarkForm) (o : ℕ) → LeaveSafepoint (look_at_named f e s o)
-  mark_leaves (Some (Biased thread epoch age)) o = leave_then (class_steps e Settled s o) _ (class_leaves o)
-      (λ class. (refl, λ n. either_leave (has_epoch (epoch_in n) epoch) _ _ (holds_leave thread) tt))
+  mark_leaves (Some (Biased thread epoch age)) o = each_then Leaves (class_steps e Settled s o) _ (class_leaves o)
+      (λ class. (refl, λ n. each_either Leaves (has_epoch (epoch_in n) epoch) _ _ (holds_leave thread) tt))
   mark_leaves (Some (Locked thread place)) o = holds_leave thread
   mark_leaves (Some (Inflated monitor)) o = (refl, λ n. owner_leaves (read_owner n))
   mark_leaves _ o = tt
 
   pub shot_leaves : LeaveSafepoint (take_shot_steps e s)
-  shot_leaves = leave_then (look_at_objects e s) _ (all_leave 0 (length s.objects)
+  shot_leaves = each_then Leaves (look_at_objects e s) _ (each_of_all Leaves 0 (length s.objects)
       (λ o. ask (load e (id.Mark o)) >>= (λ mark. look_at_named (read_mark mark) e s o)) (λ o. (refl, λ mark. mark_leaves (read_mark mark) o)))
-      (λ _. leave_then (all_from 0 s.threads (λ t. ask (load e (id.Length t)) >>= (λ _. done tt))) _
-      (all_leave 0 s.threads (λ t. ask (load e (id.Length t)) >>= (λ _. done tt)) (λ t. (refl, λ n. tt))) (λ _. (refl, λ n. tt)))
+      (λ _. each_then Leaves (all_from 0 s.threads (λ t. ask (load e (id.Length t)) >>= (λ _. done tt))) _
+      (each_of_all Leaves 0 s.threads (λ t. ask (load e (id.Length t)) >>= (λ _. done tt)) (λ t. (refl, λ n. tt))) (λ _. (refl, λ n. tt)))
 
   module _ (stage : Stage) where
     gives_leave : (o m : ℕ) → LeaveSafepoint (give_back_steps s e stage o m)
     gives_leave o m = (refl, λ header. (refl, λ end. (refl, λ _. (refl, λ _. (refl, λ _. (refl, λ _. (refl, λ _. (refl, λ _. (refl, λ _. tt)))))))))
 
     free_leaves : (o m : ℕ) → LeaveSafepoint (deflate_free s e stage o m)
-    free_leaves o m = leave_then (each_from 0 s.threads (λ t. look_at e stage (id.Waiting t))) _
-        (each_leave 0 s.threads (λ t. look_at e stage (id.Waiting t)) (λ t. (refl, λ n. tt)))
-        (λ words. either_leave (list_all (λ w. is_untouched o w) words) (give_back_steps s e stage o m) (done tt) (gives_leave o m) tt)
+    free_leaves o m = each_then Leaves (each_from 0 s.threads (λ t. look_at e stage (id.Waiting t))) _
+        (each_of_list Leaves 0 s.threads (λ t. look_at e stage (id.Waiting t)) (λ t. (refl, λ n. tt)))
+        (λ words. each_either Leaves (list_all (λ w. is_untouched o w) words) (give_back_steps s e stage o m) (done tt) (gives_leave o m) tt)
 
     monitor_leaves : (m : ℕ) → LeaveSafepoint (deflate_monitor s e stage m)
     monitor_leaves m = (
       refl,
       λ o. (
         refl,
-        λ mark. either_leave (names_monitor (monitor_in mark) m) (deflate_named s e stage o m) (done tt)
-            (refl, λ owner. either_leave (owner == owner_of Free) (deflate_free s e stage o m) (done tt) (free_leaves o m) tt) tt,
+        λ mark. each_either Leaves (names_monitor (monitor_in mark) m) (deflate_named s e stage o m) (done tt)
+            (refl, λ owner. each_either Leaves (owner == owner_of Free) (deflate_free s e stage o m) (done tt) (free_leaves o m) tt) tt,
       ),
     )
 
     pub deflation_leaves : LeaveSafepoint (deflate_steps s e stage)
-    deflation_leaves = either_leave (length s.objects == 0) (done tt) (all_from 0 (monitor_count s) (λ m. deflate_monitor s e stage m)) tt
-        (all_leave 0 (monitor_count s) (λ m. deflate_monitor s e stage m) monitor_leaves)
+    deflation_leaves = each_either Leaves (length s.objects == 0) (done tt) (all_from 0 (monitor_count s) (λ m. deflate_monitor s e stage m)) tt
+        (each_of_all Leaves 0 (monitor_count s) (λ m. deflate_monitor s e stage m) monitor_leaves)
 
 -- Such a step leaves the word, and the request.
 word_stays : (at : WordId) (a : Act) (f : WordId → ℕ) → leaves_safepoint at a ≡ true → with_word at (word_after a (f at)) f id.Safepoint ≡ f id.Safepoint
@@ -378,4 +363,4 @@ dump_is_reached h p q e k number requesting due run thread =
     ∙ sym (binds shot (λ _. deflation) (λ _. release >>= (λ u. told u >>= left.0))) in
     done_reached s h.heap.start e q.known k.thread requesting p.known run.ran.by
     (still_asks h q k.thread (shot >>= (λ _. deflation)) e (λ u. told u >>= left.0) run.heap thread
-    (leave_then shot (λ _. deflation) (shot_leaves e s) (λ _. deflation_leaves e s Settled)) rest)
+    (each_then Leaves shot (λ _. deflation) (shot_leaves e s) (λ _. deflation_leaves e s Settled)) rest)

@@ -1,30 +1,22 @@
 -- How a thread stands as a call begins.
 use Rattle.std.proofs.Common.{◌≡◌, ℕ, ◌==◌, ◌&&◌, ◌||◌, not, cond, Bool, true, false, Option, Some}
-use Rattle.std.proofs.Common.{None, refl, sym, ap, ◌∙◌, true≢false, eqb-true, nat_lt, length}
+use Rattle.std.proofs.Common.{None, refl, sym, ap, ◌∙◌, true≢false, eqb-true}
 use Rattle.core_world.specs.declared.heap_call.Operation.{Operation}
 use Rattle.core_world.specs.declared.heap_call.Operation.TheVariants as op
 use Rattle.core_world.specs.declared.heap_call.Unfinished.{Unfinished}
-use Rattle.core_world.specs.Clauses.Lengths.{log_limit}
 use Rattle.core_world.specs.Clauses.Safepoints.{ends}
 use Rattle.core_world.specs.Threads.AtRest.{AtRest, MayAsk}
 use Rattle.core_world.specs.Threads.ThreadView.{ThreadView}
-use Rattle.core_world.specs.Trees.Calls.{may_operate, may_act, is_free_for}
+use Rattle.core_world.specs.Trees.Calls.{may_operate, may_act}
 use Rattle.core_world.specs.Trees.Operations.{same_op, goes_on_with}
 use Rattle.core_world.specs.Words.Forms.{waits_on}
 use Rattle.core_world.specs.Words.Shape.{Shape}
+use Rattle.lock_runtime.proofs.Begins.{first_of, second_of}
 
--- the conditions of an operation
-runs_or_asks : (checking running requesting going free ended room : Bool)
-    → (not checking && (running || (requesting && going)) && free && not ended && room) ≡ true → (running || (requesting && going)) ≡ true
-runs_or_asks true running requesting going free ended room e = absurd (cc e)
-runs_or_asks false true requesting going free ended room e = refl
-runs_or_asks false false true true free ended room e = refl
-runs_or_asks false false true false free ended room e = absurd (cc e)
-runs_or_asks false false false going free ended room e = absurd (cc e)
-
-no_check : (checking b free ended room : Bool) → (not checking && b && free && not ended && room) ≡ true → checking ≡ false
-no_check true b free ended room e = absurd (cc e)
-no_check false b free ended room e = refl
+-- THE CONDITIONS OF AN OPERATION
+not_checking : (checking : Bool) → not checking ≡ true → checking ≡ false
+not_checking true e = absurd (cc e)
+not_checking false e = refl
 
 runs_unless : (running requesting going : Bool) → (running || (requesting && going)) ≡ true → (requesting ≡ true → running ≡ false)
     → not requesting ≡ running
@@ -61,8 +53,12 @@ module _ (s : Shape) (k : ThreadView) (rest : AtRest s k) where
   unasked runs = not_true k.requesting (λ asks. true≢false (sym runs ∙ rest.stopped asks))
 
   module _ (going : Bool) (may : may_operate k going ≡ true) where
+    -- the conditions on a check and on running come first
+    both : (not k.checking && (k.running || (k.requesting && going))) ≡ true
+    both = first_of _ _ (first_of _ _ (first_of _ _ may))
+
     either : (k.running || (k.requesting && going)) ≡ true
-    either = runs_or_asks k.checking k.running k.requesting going (is_free_for k going) (ends k.log) (nat_lt (length k.log) log_limit) may
+    either = second_of (not k.checking) _ both
 
     -- it runs, unless it asks
     pub stands_before : not k.requesting ≡ k.running
@@ -71,7 +67,7 @@ module _ (s : Shape) (k : ThreadView) (rest : AtRest s k) where
     asking : k.requesting ≡ true → (going ≡ true) × MayAsk s k k.unfinished
     asking asks = (
       asks_going k.running k.requesting going either rest.stopped asks,
-      rest.asks asks (no_check k.checking (k.running || (k.requesting && going)) (is_free_for k going) (ends k.log) (nat_lt (length k.log) log_limit) may),
+      rest.asks asks (not_checking k.checking (first_of (not k.checking) _ both)),
     )
 
   pub exit_unasked : (o : ℕ) → may_operate k (goes_on_with op.Exit o k.unfinished) ≡ true → k.requesting ≡ false
