@@ -1,9 +1,11 @@
 -- A call that is not refused makes the steps of its operation, in the context that its code has for them, and answers what they answer.
-use Rattle.std.proofs.Common.{◌≡◌, Bool, false, if◌then◌else◌, Result, Ok, refl, sym, subst}
+use Rattle.std.proofs.Common.{◌≡◌, ℕ, ◌==◌, Bool, false, if◌then◌else◌, Result, Ok, Err, refl, sym, subst}
+use Rattle.core_world.specs.declared.answer.IllegalMonitorState.{IllegalMonitorState}
+use Rattle.core_world.specs.Locks.{hold_count}
 use Rattle.core_world.specs.Trees.Calls.{steps_of, end}
 use Rattle.core_world.specs.Trees.Operations.{answer}
 use Rattle.core_world.specs.Trees.Plans.{CallContext}
-use Rattle.core_world.specs.Trees.StepTree.{StepTree, ◌>>=◌}
+use Rattle.core_world.specs.Trees.StepTree.{StepTree, done, ◌>>=◌}
 use Rattle.heap_table.specs.Parts.{IsDueOn, HasMadeSteps}
 use Rattle.heap_table.specs.Resting.{MayCall, Rests, start_now}
 use Rattle.heap_table.specs.Seen.{HeapSeen, PassSeen}
@@ -19,6 +21,10 @@ pub record Goes {A E : Type 0} (h : HeapSeen) (p : PassSeen) (refuses : Bool) (r
   pub steps : steps_of h.heap.shape e.task (start_now h p) ≡ ((if refuses then refusal else (d e >>= answer)) >>= end)
   pub goes : refuses ≡ false
   pub context : w ≡ e
+
+-- one on o that is refused unless its thread has a hold on o
+abbrev pub GoesIfHeld : {A : Type 0} → HeapSeen → PassSeen → ℕ → (CallContext → StepTree A) → CallContext → CallContext → Type 0
+GoesIfHeld h p o d e w = Goes {E = IllegalMonitorState} h p (hold_count o p.known.holds == 0) (done (Err (record {}))) d e w
 
 module _ {A E : Type 0} {h : HeapSeen} {p : PassSeen} {refuses : Bool} {refusal : StepTree (Result A E)} {d : CallContext → StepTree A} {e w : CallContext}
     (g : Goes h p refuses refusal d e w) where

@@ -1,7 +1,11 @@
 -- A call is refused exactly where by its own log the thread has no hold: its hold words follow from its log.
-use Rattle.std.proofs.Common.{◌≡◌, ℕ, zero, suc, ◌<◌, ◌≤◌, ◌==◌, true, false, sym, ap, ◌∙◌, subst, eq-eqb, ne_eqb, arith}
+use Rattle.std.proofs.Common.{◌≡◌, ℕ, zero, suc, ◌<◌, ◌≤◌, ◌==◌, false, List, [], refl, sym, ap, ◌∙◌, subst, ne_eqb, arith}
 use Rattle.plain_history.specs.HeldByLog.{held_by, nothing_held}
 use Rattle.core_world.specs.Locks.{hold_count}
+use Rattle.core_world.specs.Threads.ThreadView.{StepMade}
+use Rattle.core_world.specs.Trees.StepTree.{done}
+use Rattle.core_calls.specs.Paths.{Tells}
+use Rattle.core_calls.proofs.Runs.{tells}
 use Rattle.heap_table.specs.Resting.{Rests}
 use Rattle.heap_table.specs.Seen.{HeapSeen, PassSeen}
 use Rattle.own_logs.proofs.OwnHolds.{own_number}
@@ -14,8 +18,10 @@ some_held (suc n) e = omega arith
 pub differs : {seen n m : ℕ} → seen ≡ n → (seen ≡ m → ⊥) → (n == m) ≡ false
 differs {m = m} same other = ap (λ x. x == m) (sym same) ∙ ne_eqb _ _ other
 
-pub equals : {seen n m : ℕ} → seen ≡ n → seen ≡ m → (n == m) ≡ true
-equals same is = eq-eqb _ _ (sym same ∙ is)
+-- and its steps, which are none, tell nothing
+pub tells_nothing : (h : HeapSeen) (p : PassSeen) {P : List StepMade → Type 0} → P [] → Tells p.known p.known P
+tells_nothing h p {P = P} so =
+    tells {s = h.heap.shape} {start = h.heap.start} {d = done (tt {0})} {P = λ ms _. P ms} (record { by = so }) (record { by = (refl, refl) })
 
 module _ (h : HeapSeen) (p : PassSeen) (rests : Rests h p) (o : ℕ) where
   pub unheld : hold_count o p.known.holds ≡ 0 → held_by nothing_held p.known.log o ≡ 0

@@ -1,13 +1,13 @@
 -- A thread that lets go logs one entry. By which marks no notify comes to an end, and what whole waits and notifies begin with.
-use Rattle.std.proofs.Common.{◌≡◌, ℕ, ◌+◌, Bool, true, if◌then◌else◌, List, [], ◌∷◌, Some, Err, length, length-append, refl, ap, ◌∙◌}
+use Rattle.std.proofs.Common.{◌≡◌, ℕ, ◌+◌, List, [], ◌∷◌, Some, length, length-append, refl, ap, ◌∙◌}
 use Rattle.mark_word.specs.declared.mark.MarkForm.{MarkForm}
 use Rattle.mark_word.specs.declared.mark.MarkForm.TheVariants.{Inflating, Locked, Inflated}
 use Rattle.plain_monitor.specs.declared.entry.Entry.TheVariants as entry
 use Rattle.plain_monitor.specs.declared.entry.Logged.{Logged}
 use Rattle.core_world.specs.Threads.ThreadView.{Local, Start}
-use Rattle.core_world.specs.Trees.Operations.{answer, no_bias, wait_going, wait_beginning, notify_at, notify_going, notify_all_at, notify_all_going}
+use Rattle.core_world.specs.Trees.Operations.{no_bias, wait_going, wait_beginning, notify_at, notify_going, notify_all_at, notify_all_going}
 use Rattle.core_world.specs.Trees.Plans.{CallContext}
-use Rattle.core_world.specs.Trees.StepTree.{StepTree, done, unreachable, ◌>>=◌}
+use Rattle.core_world.specs.Trees.StepTree.{unreachable}
 use Rattle.core_world.specs.Trees.WaitSteps.{monitor_wait_steps, monitor_resume_steps}
 use Rattle.core_world.specs.Words.Forms.{waits_on}
 use Rattle.core_world.specs.Words.Shape.{Shape}
@@ -15,9 +15,7 @@ use Rattle.core_calls.specs.Paths.{Says}
 use Rattle.core_calls.proofs.Runs.{tells, did, did_one}
 use Rattle.core_calls.proofs.wait.WaitsSay.{LetGo, monitor_wait_says}
 use Rattle.heap_table.specs.Parts.{HasMadeSteps}
-use Rattle.heap_table.specs.Seen.{HeapSeen, PassSeen, IsOf}
-use Rattle.heap_table.proofs.Arms.{run_then}
-use Rattle.heap_table.proofs.Parts.{ends}
+use Rattle.heap_table.specs.Seen.{HeapSeen, PassSeen}
 use Rattle.heap_table.proofs.Resting.{IsCallOf}
 use Rattle.lock_runtime.specs.inner.WaitParts.{inflated_wait, marked_notify, marked_notify_all}
 use Rattle.lock_runtime.proofs.After.{arm_first}
@@ -59,9 +57,3 @@ first_to_notify s e k o now = first_after s e k (no_bias o now) (marked_notify s
 
 pub first_to_notify_all : (s : Shape) (e : CallContext) (k : Start) (o now : ℕ) → IsCallOf e.task (notify_all_going s e k o now)
 first_to_notify_all s e k o now = first_after s e k (no_bias o now) (marked_notify_all s e k.local o) refl
-
--- one that is refused makes no step
-pub refused_run : {A E : Type 0} (h : HeapSeen) (p : PassSeen) (refuses : Bool) (err : E) (d : StepTree A) → refuses ≡ true → IsOf h p
-    → HasMadeSteps h (if refuses then done (Err err) else (d >>= answer)) p p (Err err)
-refused_run {A = A} {E = E} h p refuses err d refused is_of =
-    run_then h p refuses (done (Err err)) (d >>= (answer {A = A} {E = E})) p (Err err) refused (ends h p (Err err) is_of)

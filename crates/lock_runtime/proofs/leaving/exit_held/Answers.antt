@@ -1,17 +1,14 @@
-use Rattle.std.proofs.Common.{◌==◌, Err, refl}
-use Rattle.core_world.specs.declared.answer.IllegalMonitorState.{IllegalMonitorState}
+use Rattle.std.proofs.Common.{refl}
 use Rattle.core_world.specs.declared.heap_call.HeapCall.TheVariants.{Exit}
 use Rattle.core_world.specs.declared.heap_call.Operation.TheVariants as op
-use Rattle.core_world.specs.Locks.{hold_count}
 use Rattle.core_world.specs.Threads.ThreadView.{local_of}
 use Rattle.core_world.specs.Trees.Calls.{steps_of}
 use Rattle.core_world.specs.Trees.Operations.{exit_going}
 use Rattle.core_world.specs.Trees.Plans.{call_context}
-use Rattle.core_world.specs.Trees.StepTree.{done}
 use Rattle.core_calls.proofs.enter_exit.EntersSay.{exit_says}
 use Rattle.core_calls.proofs.Runs.{tells}
 use Rattle.heap_table.specs.Resting.{start_now}
-use Rattle.lock_runtime.proofs.Goes.{Goes, goes_due, goes_made, goes_rests}
+use Rattle.lock_runtime.proofs.Goes.{GoesIfHeld, goes_due, goes_made, goes_rests}
 use Rattle.lock_runtime.proofs.LeftNothing.{first_to_exit}
 use Rattle.lock_runtime.proofs.Refused.{some_by_log, goes_by_log}
 use Rattle.lock_runtime.proofs.StandsCalls.{exit_leaves}
@@ -22,9 +19,9 @@ pub leave_held-requires-clause-held : goal.leave_held-requires-clause-held
 leave_held-requires-clause-held c = some_by_log c.args.heap.now c.args.pass.now c.requires.may.call.rests c.args.object c.requires.held
 
 -- the thread has a hold on the object, so the call goes on
-goes : (c : After-unfinished-context) → let a = c.args in let p = a.pass.now in
-    Goes {E = IllegalMonitorState} a.heap.now p (hold_count a.object p.known.holds == 0) (done (Err (record {})))
-    (λ e. exit_going e (local_of p.known) a.object) (call_context (Exit a.object) op.Exit a.object) c.unfinished-context.result
+goes : (c : After-unfinished-context) → let a = c.args in
+    GoesIfHeld a.heap.now a.pass.now a.object (λ e. exit_going e (local_of a.pass.now.known) a.object) (call_context (Exit a.object) op.Exit a.object)
+    c.unfinished-context.result
 unfolding steps_of
 goes c = record {
   call = c.requires.may.call;

@@ -1,45 +1,33 @@
-use Rattle.std.proofs.Common.{◌==◌, Ok, Err, refl, sym, ◌∙◌}
-use Rattle.core_world.specs.declared.answer.IllegalMonitorState.{IllegalMonitorState}
+use Rattle.std.proofs.Common.{Ok, refl, sym, ◌∙◌}
 use Rattle.core_world.specs.declared.heap_call.Operation.TheVariants as op
 use Rattle.core_world.specs.declared.heap_call.HeapCall.TheVariants.{NotifyAll}
-use Rattle.core_world.specs.Locks.{hold_count}
 use Rattle.core_world.specs.Trees.Calls.{steps_of}
 use Rattle.core_world.specs.Trees.Operations.{notify_all_going, notify_all_steps}
 use Rattle.core_world.specs.Trees.Plans.{call_context}
-use Rattle.core_world.specs.Trees.StepTree.{done}
 use Rattle.core_calls.proofs.Runs.{tells}
 use Rattle.core_calls.proofs.wait.WaitCallsSay.{notify_all_says}
 use Rattle.core_calls.specs.Woken.{WakesEach}
 use Rattle.heap_table.specs.Resting.{start_now}
-use Rattle.lock_runtime.proofs.Goes.{Goes, goes_due, goes_made, goes_rests}
+use Rattle.lock_runtime.proofs.Goes.{GoesIfHeld, goes_due, goes_made, goes_rests}
 use Rattle.lock_runtime.proofs.LockedPaths.{notify_all_paths}
 use Rattle.lock_runtime.proofs.Looked.{run_thread}
 use Rattle.lock_runtime.proofs.OwnLocks.{notify_all_goes, owner_tells}
-use Rattle.lock_runtime.proofs.Refused.{differs, equals, unheld, held}
+use Rattle.lock_runtime.proofs.Refused.{differs, tells_nothing, unheld, held}
 use Rattle.lock_runtime.proofs.StandsCalls.{notify_all_leaves}
-use Rattle.lock_runtime.proofs.Waits.{first_to_notify_all, refused_run}
+use Rattle.lock_runtime.proofs.Waits.{first_to_notify_all}
 use Rattle.lock_runtime.proofs.waiting.notify_all.Goals as goal
 use Rattle.lock_runtime.proofs.waiting.notify_all.Goals.{After-unfinished-context}
 
 pub returns-then-held-eq0-clause-owner : goal.returns-then-held-eq0-clause-owner
 returns-then-held-eq0-clause-owner c =
-    let a = c.args in unheld a.heap.now a.pass.now c.requires.call.rests a.object (sym c.held.ensures.held ∙ c.if-held-eq0.true)
+    unheld c.args.heap.now c.args.pass.now c.requires.call.rests c.args.object (sym c.held.ensures.held ∙ c.if-held-eq0.true)
 
 pub returns-then-held-eq0-clause-wakes : goal.returns-then-held-eq0-clause-wakes
-returns-then-held-eq0-clause-wakes c =
-    let a = c.args in
-    let h = a.heap.now in
-    let p = a.pass.now in
-    let k = start_now h p in
-    let going = notify_all_going h.heap.shape (call_context (NotifyAll a.object a.now) op.NotifyAll a.object) k a.object a.now in
-    tells (notify_all_paths h.heap.shape k a.object a.now)
-    (refused_run h p (hold_count a.object p.known.holds == 0) (record {}) going (equals c.held.ensures.held c.if-held-eq0.true)
-    c.requires.call.rests.is_of).ran
+returns-then-held-eq0-clause-wakes c = tells_nothing c.args.heap.now c.args.pass.now tt
 
 -- the thread has a hold on the object, so the call goes on
-goes : (c : After-unfinished-context) → let a = c.args in let h = a.heap.now in let p = a.pass.now in
-    Goes {E = IllegalMonitorState} h p (hold_count a.object p.known.holds == 0) (done (Err (record {})))
-    (λ e. notify_all_going h.heap.shape e (start_now h p) a.object a.now) (call_context (NotifyAll a.object a.now) op.NotifyAll a.object)
+goes : (c : After-unfinished-context) → let a = c.args in let h = a.heap.now in let k = start_now h a.pass.now in
+    GoesIfHeld h a.pass.now a.object (λ e. notify_all_going h.heap.shape e k a.object a.now) (call_context (NotifyAll a.object a.now) op.NotifyAll a.object)
     c.unfinished-context.result
 unfolding steps_of
 goes c = record {

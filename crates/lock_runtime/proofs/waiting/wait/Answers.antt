@@ -1,17 +1,14 @@
-use Rattle.std.proofs.Common.{◌==◌, Err, refl, sym, ◌∙◌}
-use Rattle.core_world.specs.declared.answer.IllegalMonitorState.{IllegalMonitorState}
+use Rattle.std.proofs.Common.{refl, sym, ◌∙◌}
 use Rattle.core_world.specs.declared.heap_call.Operation.TheVariants as op
 use Rattle.core_world.specs.declared.heap_call.HeapCall.TheVariants.{Wait}
-use Rattle.core_world.specs.Locks.{hold_count}
 use Rattle.core_world.specs.Trees.Calls.{steps_of}
 use Rattle.core_world.specs.Trees.Operations.{wait_going}
 use Rattle.core_world.specs.Trees.Plans.{call_context}
-use Rattle.core_world.specs.Trees.StepTree.{done}
 use Rattle.core_calls.proofs.Runs.{tells}
 use Rattle.core_calls.proofs.wait.WaitCallsSay.{wait_says}
 use Rattle.heap_table.specs.Resting.{start_now}
 use Rattle.lock_runtime.proofs.Begins.{first_of}
-use Rattle.lock_runtime.proofs.Goes.{Goes, goes_due, goes_made, goes_rests}
+use Rattle.lock_runtime.proofs.Goes.{GoesIfHeld, goes_due, goes_made, goes_rests}
 use Rattle.lock_runtime.proofs.Refused.{differs, unheld, held}
 use Rattle.lock_runtime.proofs.StandsCalls.{wait_leaves}
 use Rattle.lock_runtime.proofs.Waits.{first_to_wait}
@@ -20,12 +17,12 @@ use Rattle.lock_runtime.proofs.waiting.wait.Goals.{After-unfinished-context}
 
 pub returns-then-held-eq0-clause-owner : goal.returns-then-held-eq0-clause-owner
 returns-then-held-eq0-clause-owner c =
-    let a = c.args in unheld a.heap.now a.pass.now c.requires.call.rests a.object (sym c.held.ensures.held ∙ c.if-held-eq0.true)
+    unheld c.args.heap.now c.args.pass.now c.requires.call.rests c.args.object (sym c.held.ensures.held ∙ c.if-held-eq0.true)
 
 -- the thread has a hold on the object, so the call goes on
-goes : (c : After-unfinished-context) → let a = c.args in let h = a.heap.now in let p = a.pass.now in
-    Goes {E = IllegalMonitorState} h p (hold_count a.object p.known.holds == 0) (done (Err (record {})))
-    (λ e. wait_going h.heap.shape e (start_now h p) a.object a.now) (call_context (Wait a.object a.now) op.Wait a.object) c.unfinished-context.result
+goes : (c : After-unfinished-context) → let a = c.args in let h = a.heap.now in let k = start_now h a.pass.now in
+    GoesIfHeld h a.pass.now a.object (λ e. wait_going h.heap.shape e k a.object a.now) (call_context (Wait a.object a.now) op.Wait a.object)
+    c.unfinished-context.result
 unfolding steps_of
 goes c = record {
   call = c.requires.call;
