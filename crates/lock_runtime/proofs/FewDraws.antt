@@ -14,9 +14,9 @@ use Rattle.core_world.specs.Valid.{Fits, IsValid}
 use Rattle.core_world.specs.Words.Shape.{Shape}
 use Rattle.core_world.specs.World.{World, logs_from}
 use Rattle.core_world.proofs.KnowledgeParts.{by_equal}
-use Rattle.core_law.specs.Logic.{SoundWorldWith}
-use Rattle.core_law.proofs.Standing.{home, valid_here}
+use Rattle.core_law.proofs.Standing.{home, inside, valid_here}
 use Rattle.heap_table.specs.Seen.{HeapSeen, PassSeen, IsOf}
+use Rattle.lock_runtime.proofs.Stands.{sound_world}
 
 -- how many draws of a log are for the objects below n, and whether a draw is
 abbrev below : ℕ → List Logged → ℕ
@@ -110,15 +110,6 @@ valid_few w P t within (inr s) =
 
 pub few_draws : (h : HeapSeen) (p : PassSeen) → IsOf h p → p.known.draws ≤ most_in_all
 few_draws h p is_of =
-    let r = is_of.real in
-    let stands : SoundWorldWith h.heap p.known = record {
-      world = r.world;
-      objects = r.sound.valid.objects;
-      is_of = r.is_of;
-      knows = r.knew;
-      within = is_of.within;
-      valid = r.sound.valid.is;
-    } in
-    let there : p.known.thread < r.world.shape.threads = subst (λ z. p.known.thread < z.shape.threads) (sym r.is_of) is_of.within in
-    home h.heap p.known stands (λ s y. y.draws ≤ most_in_all)
-    (valid_few r.world r.sound.valid.objects p.known.thread there (valid_here h.heap p.known stands))
+    let v = sound_world h p is_of in
+    home h.heap p.known v (λ s k. k.draws ≤ most_in_all)
+    (valid_few v.world v.objects p.known.thread (inside h.heap p.known v) (valid_here h.heap p.known v))

@@ -5,9 +5,9 @@ use Rattle.core_world.specs.Threads.ThreadView.{ThreadView, DumpShot}
 use Rattle.core_world.specs.Valid.{IsValid}
 use Rattle.core_world.specs.World.{World}
 use Rattle.core_world.proofs.KnowledgeParts.{by_equal}
-use Rattle.core_world.proofs.bias.LookWhileRevoking.{forgotten}
-use Rattle.core_law.specs.WholeLaw.{LawsHold}
+use Rattle.core_law.proofs.Standing.{home, valid_here}
 use Rattle.heap_table.specs.Seen.{HeapSeen, PassSeen, IsOf}
+use Rattle.lock_runtime.proofs.Stands.{sound_world}
 
 -- also while a bias is being revoked, since that takes none
 valid_few : (w : World) (P : List PlainObject) → IsValid w P → (t : ℕ) → length (w.known t).shots ≤ 4
@@ -23,6 +23,5 @@ valid_few w P (inr s) t =
 
 pub few_shots : (h : HeapSeen) (p : PassSeen) → IsOf h p → length p.known.shots ≤ 4
 few_shots h p is_of =
-    let r = is_of.real in
-    let v = r.sound.valid in
-    subst (λ (k : ThreadView). length k.shots ≤ 4) r.knew (valid_few r.world v.objects (forgotten LawsHold r.world v.objects v.is) p.known.thread)
+    let v = sound_world h p is_of in
+    home h.heap p.known v (λ s k. length k.shots ≤ 4) (valid_few v.world v.objects (valid_here h.heap p.known v) p.known.thread)

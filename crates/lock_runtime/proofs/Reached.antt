@@ -53,6 +53,7 @@ use Rattle.heap_table.proofs.Loops.{binds}
 use Rattle.heap_table.proofs.Knows.{same_thread, told_here}
 use Rattle.lock_runtime.specs.inner.LookParts.{reached_dump, numbered_dump}
 use Rattle.lock_runtime.proofs.EachStep.{EachStep, each_either, each_then, each_of_all, each_of_list}
+use Rattle.lock_runtime.proofs.Stands.{sound_world}
 
 -- STEPS THAT LEAVE THE SAFEPOINT WORD: loads, and whatever is done with other words
 abbrev leaves_safepoint : WordId → Act → Bool
@@ -236,15 +237,8 @@ still_asks h q t d e g is_of thread loads left =
     let within : k.thread < r.world.shape.threads = subst (λ (z : Heap). k.thread < z.shape.threads) (sym r.is_of) is_of.within in
     let goes : Finishes h.heap false (rest_of_call h.heap.shape k) k = subst (λ (z : Heap). Finishes z false (rest_of_call z.shape k) k) r.is_of
     (subst (λ (x : ThreadView). Finishes (heap_of r.world) false (rest_of_call r.world.shape x) x) r.knew (r.sound.goes_on k.thread within)) in
-    let stands : SoundWorldWith h.heap k = record {
-      world = r.world;
-      objects = r.sound.valid.objects;
-      is_of = r.is_of;
-      knows = r.knew;
-      within = is_of.within;
-      valid = r.sound.valid.is;
-    } in
-    let word = r.world.words id.Safepoint in
+    let stands = sound_world h q is_of in
+    let word = stands.world.words id.Safepoint in
     let here : At h.heap word k.requesting t (d >>= (λ _. release_safepoint e t >>= g)) k = record {
       stands = stands;
       found = refl;

@@ -16,7 +16,7 @@ use Rattle.core_world.specs.Valid.{FormsFit, SafepointFits}
 use Rattle.core_world.specs.Words.Forms.{runs_in, asks_in}
 use Rattle.core_world.specs.Words.Shape.{Shape}
 use Rattle.core_world.specs.World.{World}
-use Rattle.core_law.specs.Logic.{Heap}
+use Rattle.core_law.specs.Logic.{Heap, SoundWorldWith}
 use Rattle.core_law.proofs.Standing.{few_threads}
 use Rattle.core_calls.specs.Paths.{Says}
 use Rattle.core_calls.specs.Stands.{Stand, IsTrueOf, FoundTrue, ThreadStandsAlong, ProgressStands, ResultStands, stand_of, stand_after_steps, begun}
@@ -69,13 +69,16 @@ module _ (heap : Heap) (t : ℕ) (k : ThreadView) (thread : k.thread ≡ t) (bas
     found_true ms were.1,
   )
 
+-- what a pass knows, it knew in a sound world
+pub sound_world : (h : HeapSeen) (p : PassSeen) → IsOf h p → SoundWorldWith h.heap p.known
+sound_world h p is_of =
+    let r = is_of.real in
+    record { world = r.world; objects = r.sound.valid.objects; is_of = r.is_of; knows = r.knew; within = is_of.within; valid = r.sound.valid.is }
+
 module _ (h : HeapSeen) (p q : PassSeen) (of_p : IsOf h p) (of_q : IsOf h q) where
   -- its thread has a bit in the word
   pub low : p.known.thread < 32
-  low =
-      let r = of_p.real in
-      few_threads h.heap p.known
-      (record { world = r.world; objects = r.sound.valid.objects; is_of = r.is_of; knows = r.knew; within = of_p.within; valid = r.sound.valid.is })
+  low = few_threads h.heap p.known (sound_world h p of_p)
 
   module _ {A : Type 0} (d : StepTree A) (a : A) (ran : Ran h.heap.shape h.heap.start d p.known q.known a) where
     -- all steps that the pass made in this run were made in sound worlds
