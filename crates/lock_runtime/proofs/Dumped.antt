@@ -1,5 +1,5 @@
 -- Dumps: runs whatever became of the pass's draft of a shot.
-use Rattle.std.proofs.Common.{ℕ, zero, suc, ◌+◌, ◌==◌, Bool, true, false, [], length, Result, Ok, Err, refl}
+use Rattle.std.proofs.Common.{ℕ, zero, suc, ◌+◌, ◌==◌, Bool, true, false, List, [], length, Option, Result, Ok, Err, refl}
 use Rattle.mark_word.specs.Mark.{read_mark}
 use Rattle.core_world.specs.declared.answer.TooManyDumps.{TooManyDumps}
 use Rattle.core_world.specs.declared.answer.Progress.{Progress}
@@ -30,9 +30,9 @@ use Rattle.lock_runtime.proofs.After.{first_then, arm_first}
 abbrev pub bare : PassSeen → PassSeen
 bare p = record p { cut = []; cells = [] }
 
--- of which heap a pass is, does not go by its draft
-bare_of : (h : HeapSeen) (p : PassSeen) → IsOf h p → IsOf h (bare p)
-bare_of h p i = record {
+-- a pass is of its heap whatever its draft is
+redrafted : (h : HeapSeen) (p : PassSeen) (cut : List ℕ) (cells : List (Option ℕ × ℕ)) → IsOf h p → IsOf h (record p { cut = cut; cells = cells })
+redrafted h p cut cells i = record {
   table = i.table;
   room = i.room;
   within = i.within;
@@ -43,17 +43,11 @@ bare_of h p i = record {
   real = i.real;
 }
 
+bare_of : (h : HeapSeen) (p : PassSeen) → IsOf h p → IsOf h (bare p)
+bare_of h p i = redrafted h p [] [] i
+
 of_bare : (h : HeapSeen) (p : PassSeen) → IsOf h (bare p) → IsOf h p
-of_bare h p i = record {
-  table = i.table;
-  room = i.room;
-  within = i.within;
-  classes = i.classes;
-  first = i.first;
-  threads = i.threads;
-  objects = i.objects;
-  real = i.real;
-}
+of_bare h p i = redrafted h (bare p) p.cut p.cells i
 
 pub bare_call : (h : HeapSeen) (p : PassSeen) (t : HeapCall) → MayCall h p t → MayCall h (bare p) t
 bare_call h p t c = record { rests = record { is_of = bare_of h p c.rests.is_of; over = c.rests.over }; may = c.may }

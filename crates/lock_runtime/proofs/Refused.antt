@@ -18,7 +18,7 @@ some_held (suc n) e = omega arith
 pub differs : {seen n m : ℕ} → seen ≡ n → (seen ≡ m → ⊥) → (n == m) ≡ false
 differs {m = m} same other = ap (λ x. x == m) (sym same) ∙ ne_eqb _ _ other
 
--- and its steps, which are none, tell nothing
+-- where a call makes no step, nothing is told
 pub tells_nothing : (h : HeapSeen) (p : PassSeen) {P : List StepMade → Type 0} → P [] → Tells p.known p.known P
 tells_nothing h p {P = P} so =
     tells {s = h.heap.shape} {start = h.heap.start} {d = done (tt {0})} {P = λ ms _. P ms} (record { by = so }) (record { by = (refl, refl) })

@@ -70,19 +70,21 @@ module _ (s : Shape) (k : ThreadView) (rest : AtRest s k) where
       rest.asks asks (not_checking k.checking (first_of (not k.checking) _ both)),
     )
 
-  pub exit_unasked : (o : ℕ) → may_operate k (goes_on_with op.Exit o k.unfinished) ≡ true → k.requesting ≡ false
-  exit_unasked o may = not_true k.requesting (λ asks. let x = asking (goes_on_with op.Exit o k.unfinished) may asks in cases k.unfinished x.0 x.1)
+  -- where the operation that goes on may not ask
+  unasked_by : (which : Operation) (o : ℕ) → may_operate k (goes_on_with which o k.unfinished) ≡ true
+      → ((u : Unfinished) → (same_op u.op which && (u.object == o)) ≡ true → MayAsk s k (Some u) → ⊥) → k.requesting ≡ false
+  unasked_by which o may never =
+      not_true k.requesting (λ asks. let x = asking (goes_on_with which o k.unfinished) may asks in cases k.unfinished x.0 x.1)
     where
-      cases : (u : Option Unfinished) → goes_on_with op.Exit o u ≡ true → MayAsk s k u → ⊥
+      cases : (u : Option Unfinished) → goes_on_with which o u ≡ true → MayAsk s k u → ⊥
       cases None e a = absurd (cc e)
-      cases (Some u) e a = exit_asks s k u.op u.object o e a
+      cases (Some u) e a = never u e a
+
+  pub exit_unasked : (o : ℕ) → may_operate k (goes_on_with op.Exit o k.unfinished) ≡ true → k.requesting ≡ false
+  exit_unasked o may = unasked_by op.Exit o may (λ u. exit_asks s k u.op u.object o)
 
   pub wait_unasked : (o : ℕ) → may_operate k (goes_on_with op.Wait o k.unfinished) ≡ true → waits_on k.wait o ≡ true → k.requesting ≡ false
-  wait_unasked o may waits = not_true k.requesting (λ asks. let x = asking (goes_on_with op.Wait o k.unfinished) may asks in cases k.unfinished x.0 x.1)
-    where
-      cases : (u : Option Unfinished) → goes_on_with op.Wait o u ≡ true → MayAsk s k u → ⊥
-      cases None e a = absurd (cc e)
-      cases (Some u) e a = wait_asks s k u.op u.object o e waits a
+  wait_unasked o may waits = unasked_by op.Wait o may (λ u e. wait_asks s k u.op u.object o e waits)
 
   pub act_unasked : may_act k ≡ true → k.requesting ≡ false
   act_unasked may = not_true k.requesting (λ asks. absurd (cc ((asking false may asks).0)))
