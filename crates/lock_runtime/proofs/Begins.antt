@@ -1,7 +1,8 @@
 -- What the conditions of a call give its code.
-use Rattle.std.proofs.Common.{◌≡◌, ℕ, ◌<◌, ◌≤◌, ◌&&◌, Bool, true, false, cond, length, refl, arith, ltb-true}
+use Rattle.std.proofs.Common.{◌≡◌, ℕ, ◌<◌, ◌≤◌, ◌&&◌, Bool, true, false, cond, length, arith, ltb-true}
 use Rattle.std.proofs.lemmas.Float.{T_from_true}
 use Rattle.std.specs.Int.Signed.{le_z_yes}
+use Rattle.std.proofs.lemmas.Bool.{and_parts}
 use Rattle.plain_monitor.specs.Limits.{most_in_all}
 use Rattle.plain_monitor.specs.declared.entry.Value.{Value}
 use Rattle.plain_monitor.specs.declared.entry.Value.TheVariants.{Nil, Int, Ref}
@@ -17,12 +18,10 @@ use Rattle.heap_table.specs.Resting.{MayOperate}
 use Rattle.heap_table.specs.Seen.{HeapSeen, PassSeen}
 
 pub first_of : (a b : Bool) → (a && b) ≡ true → a ≡ true
-first_of true b e = refl
-first_of false b e = absurd (cc e)
+first_of a b e = (and_parts a b e).0
 
 pub second_of : (a b : Bool) → (a && b) ≡ true → b ≡ true
-second_of true b e = e
-second_of false b e = absurd (cc e)
+second_of a b e = (and_parts a b e).1
 
 -- the object is there
 pub object_there : (s : Shape) (k : ThreadView) (o : ℕ) (b : Bool) → (has_reference s k o && b) ≡ true → o < length s.objects

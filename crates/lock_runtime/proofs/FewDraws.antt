@@ -16,6 +16,7 @@ use Rattle.core_world.specs.World.{World, logs_from}
 use Rattle.core_world.proofs.KnowledgeParts.{by_equal}
 use Rattle.core_law.proofs.Standing.{home, inside, valid_here}
 use Rattle.heap_table.specs.Seen.{HeapSeen, PassSeen, IsOf}
+use Rattle.lock_runtime.proofs.FewShots.{as_before}
 use Rattle.lock_runtime.proofs.Stands.{sound_world}
 
 -- how many draws of a log are for the objects below n, and whether a draw is
@@ -103,10 +104,8 @@ valid_few w P t within (inl fits) = fits_few w P t within fits
 valid_few w P t within (inr s) =
     let there : t < s.before.shape.threads = subst (λ (z : Shape). t < z.threads) s.shape within in
     let before = fits_few s.before P t there s.fits in
-    by_equal t s.requester
-    (λ e. let same : (w.known t).draws ≡ (s.before.known t).draws =
-    ap (λ u. (w.known u).draws) e ∙ ap (λ (k : ThreadView). k.draws) s.knows ∙ ap (λ u. (s.before.known u).draws) (sym e) in omega (arith, same, before))
-    (λ d. let same = ap (λ (k : ThreadView). k.draws) (s.others t d) in omega (arith, same, before))
+    let same = as_before w P s (λ (k : ThreadView). k.draws) (ap (λ (k : ThreadView). k.draws) s.knows) t in
+    omega (arith, same, before)
 
 pub few_draws : (h : HeapSeen) (p : PassSeen) → IsOf h p → p.known.draws ≤ most_in_all
 few_draws h p is_of =

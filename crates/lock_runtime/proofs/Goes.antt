@@ -31,17 +31,19 @@ module _ {A E : Type 0} {h : HeapSeen} {p : PassSeen} {refuses : Bool} {refusal 
   abbrev whole : StepTree (Result A E)
   whole = if refuses then refusal else (d e >>= answer)
 
+  -- its steps are due
   pub goes_due : IsDueOn h p w.task (d w)
   goes_due =
       subst (λ (x : CallContext). IsDueOn h p x.task (d x)) (sym g.context)
       (first_due (answer {A = A} {E = E}) (due_else h p refuses refusal (d e >>= answer) e.task (whole_due h p e.task g.call whole g.steps) g.goes))
 
+  -- when they are made, the whole call is
   pub goes_made : {q : PassSeen} {a : A} → HasMadeSteps h (d w) p q a → HasMadeSteps h (if refuses then refusal else (d e >>= answer)) p q (Ok a)
   goes_made {q = q} {a = a} made =
       run_else h p refuses refusal (d e >>= answer) q (Ok a) g.goes
       (then_ends (answer {A = A} {E = E}) refl (subst (λ (x : CallContext). HasMadeSteps h (d x) p q a) g.context made))
 
-  -- after it the thread rests
+  -- and the thread rests
   pub goes_rests : {q : PassSeen} {a : A} → IsCallOf e.task refusal → IsCallOf e.task (d e) → HasMadeSteps h (d w) p q a → Rests h q
   goes_rests {q = q} {a = a} refused first made =
       rests_after h p e.task g.call whole g.steps

@@ -28,24 +28,26 @@ then_ends {B = B} {h = h} {p = p} {q = q} {d = d} {a = a} {out = out} next is ma
 
 -- the part d of a call t made its steps, and answered a; by that the tree goes on
 pub record PartMade {A B : Type 0} (h : HeapSeen) (p q : PassSeen) (t : HeapCall) (d : StepTree A) (next : A → StepTree B) (a : A) : Type 0 where
+  -- all of this was due
   pub due : IsDueOn h p t (d >>= next)
   pub first : IsCallOf t d
   pub made : HasMadeSteps h d p q a
 
 module _ {A B : Type 0} {h : HeapSeen} {p q : PassSeen} {t : HeapCall} {d : StepTree A} {next : A → StepTree B} {a : A} (part : PartMade h p q t d next a) where
-  -- where the answer is b, and the code goes on with x, which is what the tree says
+  -- Where the answer is b, and the code goes on with x, which is what the tree says after b: x is due,
   pub next_due : {b : A} {x : StepTree B} → a ≡ b → next b ≡ x → IsDueOn h q t x
   next_due is same = subst (IsDueOn h q t) (ap next is ∙ same) (next_part h p q t d next a part.due part.first part.made)
 
+  -- and when x has made its steps, the whole has
   pub next_made : {b : A} {x : StepTree B} {r : PassSeen} {out : B} → a ≡ b → next b ≡ x → HasMadeSteps h x q r out → HasMadeSteps h (d >>= next) p r out
   next_made {r = r} {out = out} is same made =
       in_turn h p q r d next a out part.made (subst (λ (y : StepTree B). HasMadeSteps h y q r out) (sym (ap next is ∙ same)) made)
 
-  -- where it was the last part
+  -- where the tree says that this was all
   pub last_made : {b : A} {out : B} → a ≡ b → next b ≡ done out → HasMadeSteps h (d >>= next) p q out
   last_made {out = out} is same = next_made is same (ends h q out part.made.heap)
 
-  -- the tree does not say that no valid world comes there
+  -- and it never says that no valid world comes there
   pub never_next : {b : A} → a ≡ b → next b ≡ unreachable → ⊥
   never_next {b = b} is never = not_due h q t (next b) part.made.heap (next_due is refl) never
 

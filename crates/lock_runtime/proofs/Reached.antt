@@ -1,7 +1,8 @@
 -- A dump whose safepoint is done has reached it: its release, which is to come, finds the word of a reached safepoint.
 use Rattle.std.specs.List.{list_all}
-use Rattle.std.proofs.Common.{◌≡◌, ℕ, ◌<◌, nat_lt, ◌==◌, ◌||◌, ◌&&◌, Bool, true, false, cond, if◌then◌else◌}
+use Rattle.std.proofs.Common.{◌≡◌, ℕ, ◌<◌, nat_lt, ◌==◌, ◌&&◌, Bool, true, false, cond, if◌then◌else◌}
 use Rattle.std.proofs.Common.{Option, Some, length, inl, inr, refl, sym, ap, ◌∙◌, subst, eq-eqb, eqb-true, arith}
+use Rattle.std.proofs.lemmas.Bool.{or_right}
 use Rattle.mark_word.specs.declared.mark.MarkForm.{MarkForm}
 use Rattle.mark_word.specs.declared.mark.MarkForm.TheVariants.{Biased, Locked, Inflated}
 use Rattle.mark_word.specs.declared.owner.OwnerForm.{OwnerForm}
@@ -258,15 +259,11 @@ module _ (s : Shape) (start : ℕ) (e : CallContext) (l : ThreadView) where
       m : ThreadView
       m = known_after s start (load e id.Safepoint) run.0 k
 
-      both : (a b : Bool) → b ≡ true → (a || b) ≡ true
-      both true b is = refl
-      both false b is = is
-
       cases : (b : Bool) → is_still run.0 ≡ b
           → Runs s start (if b then done_with (tt {0}) else pending_for (why.Stopping run.0)) m l (Done tt) → l.reached ≡ true
       cases true still ran =
           let asked : k.requesting ≡ true = sym (ap (λ (x : ThreadView). x.requesting) ran.0) ∙ asks in
-          ap (λ (x : ThreadView). x.reached) ran.0 ∙ both k.reached (k.requesting && is_still run.0) (λ i. asked i && still i)
+          ap (λ (x : ThreadView). x.reached) ran.0 ∙ or_right k.reached (k.requesting && is_still run.0) (λ i. asked i && still i)
       cases false goes ran = let is = ran.1 in absurd (cc is)
 
   by_swap : (t word : ℕ) (k : ThreadView) → Runs s start (request_swap_steps e t word >>= then_reached e) k l (Done tt) → l.requesting ≡ true → l.reached ≡ true

@@ -1,5 +1,6 @@
 -- A call is refused exactly where by its own log the thread has no hold: its hold words follow from its log.
-use Rattle.std.proofs.Common.{◌≡◌, ℕ, zero, suc, ◌<◌, ◌≤◌, ◌==◌, false, List, [], refl, sym, ap, ◌∙◌, subst, ne_eqb, arith}
+use Rattle.std.proofs.Common.{◌≡◌, ℕ, ◌<◌, ◌≤◌, ◌==◌, false, List, [], refl, sym, ap, ◌∙◌, ne_eqb, arith}
+use Rattle.std.proofs.lemmas.Bool.{eqb-false}
 use Rattle.plain_history.specs.HeldByLog.{held_by, nothing_held}
 use Rattle.core_world.specs.Locks.{hold_count}
 use Rattle.core_world.specs.Threads.ThreadView.{StepMade}
@@ -9,10 +10,6 @@ use Rattle.core_calls.proofs.Runs.{tells}
 use Rattle.heap_table.specs.Resting.{Rests}
 use Rattle.heap_table.specs.Seen.{HeapSeen, PassSeen}
 use Rattle.own_logs.proofs.OwnHolds.{own_number}
-
-some_held : (n : ℕ) → (n == 0) ≡ false → 1 ≤ n
-some_held zero e = absurd (cc e)
-some_held (suc n) e = omega arith
 
 -- the code has seen n, and compared it
 pub differs : {seen n m : ℕ} → seen ≡ n → (seen ≡ m → ⊥) → (n == m) ≡ false
@@ -28,7 +25,7 @@ module _ (h : HeapSeen) (p : PassSeen) (rests : Rests h p) (o : ℕ) where
   unheld none = sym (own_number h p o rests) ∙ none
 
   pub held : (hold_count o p.known.holds == 0) ≡ false → 1 ≤ held_by nothing_held p.known.log o
-  held some = subst (λ n. 1 ≤ n) (own_number h p o rests) (some_held (hold_count o p.known.holds) some)
+  held some = let other = eqb-false _ _ some in let same = own_number h p o rests in omega (arith, other, same)
 
   -- and where by its log it has one, so it has by its hold words
   pub some_by_log : 1 ≤ held_by nothing_held p.known.log o → 0 < hold_count o p.known.holds

@@ -1,6 +1,7 @@
 -- How a thread stands as a call begins.
 use Rattle.std.proofs.Common.{◌≡◌, ℕ, ◌==◌, ◌&&◌, ◌||◌, not, cond, Bool, true, false, Option, Some}
 use Rattle.std.proofs.Common.{None, refl, sym, ap, ◌∙◌, true≢false, eqb-true}
+use Rattle.std.proofs.lemmas.Bool.{not-true, false_from_ne_true}
 use Rattle.core_world.specs.declared.heap_call.Operation.{Operation}
 use Rattle.core_world.specs.declared.heap_call.Operation.TheVariants as op
 use Rattle.core_world.specs.declared.heap_call.Unfinished.{Unfinished}
@@ -14,10 +15,6 @@ use Rattle.core_world.specs.Words.Shape.{Shape}
 use Rattle.lock_runtime.proofs.Begins.{first_of, second_of}
 
 -- THE CONDITIONS OF AN OPERATION
-not_checking : (checking : Bool) → not checking ≡ true → checking ≡ false
-not_checking true e = absurd (cc e)
-not_checking false e = refl
-
 runs_unless : (running requesting going : Bool) → (running || (requesting && going)) ≡ true → (requesting ≡ true → running ≡ false)
     → not requesting ≡ running
 runs_unless true true going e stopped = absurd (cc (stopped refl))
@@ -31,10 +28,6 @@ asks_going true true going e stopped asks = absurd (cc (stopped refl))
 asks_going false true true e stopped asks = refl
 asks_going false true false e stopped asks = absurd (cc e)
 asks_going running false going e stopped asks = absurd (cc asks)
-
-not_true : (b : Bool) → (b ≡ true → ⊥) → b ≡ false
-not_true true h = absurd (h refl)
-not_true false h = refl
 
 -- an exit asks for no safepoint, nor does a wait that has let go
 exit_asks : (s : Shape) (k : ThreadView) (which : Operation) (on o : ℕ) → (same_op which op.Exit && (on == o)) ≡ true
@@ -50,7 +43,7 @@ wait_asks s k _ on o e waits asks = absurd (cc e)
 module _ (s : Shape) (k : ThreadView) (rest : AtRest s k) where
   -- a thread that runs asks for no safepoint
   pub unasked : k.running ≡ true → k.requesting ≡ false
-  unasked runs = not_true k.requesting (λ asks. true≢false (sym runs ∙ rest.stopped asks))
+  unasked runs = false_from_ne_true k.requesting (λ asks. true≢false (sym runs ∙ rest.stopped asks))
 
   module _ (going : Bool) (may : may_operate k going ≡ true) where
     -- the conditions on a check and on running come first
@@ -67,14 +60,14 @@ module _ (s : Shape) (k : ThreadView) (rest : AtRest s k) where
     asking : k.requesting ≡ true → (going ≡ true) × MayAsk s k k.unfinished
     asking asks = (
       asks_going k.running k.requesting going either rest.stopped asks,
-      rest.asks asks (not_checking k.checking (first_of (not k.checking) _ both)),
+      rest.asks asks (not-true k.checking (first_of (not k.checking) _ both)),
     )
 
   -- where the operation that goes on may not ask
   unasked_by : (which : Operation) (o : ℕ) → may_operate k (goes_on_with which o k.unfinished) ≡ true
       → ((u : Unfinished) → (same_op u.op which && (u.object == o)) ≡ true → MayAsk s k (Some u) → ⊥) → k.requesting ≡ false
   unasked_by which o may never =
-      not_true k.requesting (λ asks. let x = asking (goes_on_with which o k.unfinished) may asks in cases k.unfinished x.0 x.1)
+      false_from_ne_true k.requesting (λ asks. let x = asking (goes_on_with which o k.unfinished) may asks in cases k.unfinished x.0 x.1)
     where
       cases : (u : Option Unfinished) → goes_on_with which o u ≡ true → MayAsk s k u → ⊥
       cases None e a = absurd (cc e)
@@ -87,7 +80,7 @@ module _ (s : Shape) (k : ThreadView) (rest : AtRest s k) where
   wait_unasked o may waits = unasked_by op.Wait o may (λ u e. wait_asks s k u.op u.object o e waits)
 
   pub act_unasked : may_act k ≡ true → k.requesting ≡ false
-  act_unasked may = not_true k.requesting (λ asks. absurd (cc ((asking false may asks).0)))
+  act_unasked may = false_from_ne_true k.requesting (λ asks. absurd (cc ((asking false may asks).0)))
 
   -- what makes its entry at once begins while its thread runs
   pub act_runs : may_act k ≡ true → k.running ≡ true

@@ -18,6 +18,7 @@ use Rattle.lock_runtime.proofs.Asides.{unbias_aside}
 use Rattle.lock_runtime.proofs.PartMade.{PartMade}
 use Rattle.lock_runtime.proofs.Revoked.{first_revoked}
 
+-- FIRST STEPS are of their call
 pub first_unbias : (s : Shape) (e : CallContext) (k : Start) (b : Revocation) → IsCallOf e.task (unbias_steps s e k b)
 first_unbias s e k b = arm_first e.task k.requesting _ _ (first_revoked s k.local.thread true e b) refl
 

@@ -15,13 +15,13 @@ bias_after-requires-clause-due c =
     let a = c.args in
     first_due (λ tried. enter_unbiased tried a.heap.now.heap.shape a.context.now (start_now a.heap.now a.pass.now) a.object) c.requires.due
 
--- the second look at the bias
+-- the bias was looked at again, and its answer tells what comes next
 tried : (c : After-bias_after) → let a = c.args in let h = a.heap.now in let k = start_now h a.pass.now in
     PartMade h a.pass.now c.bias_after.new.pass a.context.now.task (bias_after_steps a.context.now k.local a.object a.took)
     (λ tried. enter_unbiased tried h.heap.shape a.context.now k a.object) c.bias_after.result
 tried c = record { due = c.requires.due; first = refl; made = c.bias_after.ensures.run }
 
--- where it took no bias, an enter goes on after it as it would have before
+-- where no bias was taken, an enter by the mark is the same from what the thread knows now
 marked : (c : After-bias_after) (m : ℕ) → local_of c.bias_after.new.pass.known ≡ local_of c.args.pass.now.known
     → let a = c.args in let s = a.heap.now.heap.shape in
     enter_at (read_mark m) s a.context.now (start_now a.heap.now a.pass.now) a.object m

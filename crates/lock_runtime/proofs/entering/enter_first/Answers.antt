@@ -22,7 +22,7 @@ bias_enter-requires-clause-due c =
     subst (λ o. IsDueOn h a.pass.now a.context.now.task (bias_enter_steps h.heap.shape a.context.now k.local o)) (sym object)
     (first_due (λ tried. enter_tried tried h.heap.shape a.context.now k a.bias.now) c.requires.due)
 
--- the attempt on the bias
+-- the bias was tried, and its answer tells what comes next
 tried : (c : After-bias_enter) → let a = c.args in let h = a.heap.now in let k = start_now h a.pass.now in
     PartMade h a.pass.now c.bias_enter.new.pass a.context.now.task (bias_enter_steps h.heap.shape a.context.now k.local a.bias.now.object)
     (λ tried. enter_tried tried h.heap.shape a.context.now k a.bias.now) c.bias_enter.result
@@ -37,12 +37,13 @@ tried c =
           a.pass.now c.bias_enter.new.pass c.bias_enter.result) object c.bias_enter.ensures.run;
     }
 
+-- which leaves the monitor that the thread keeps
 kept : (c : After-bias_enter) → c.bias_enter.new.pass.known.kept ≡ c.args.pass.now.known.kept
 kept c =
     let a = c.args in
     keeps _ _ _ _ _ (enter_keeps a.heap.now.heap.shape a.context.now (local_of a.pass.now.known) a.bias.now.object) (tried c).made
 
--- where it took no bias, an enter goes on after it as it would have before
+-- where no bias was taken, an enter by the mark is the same from what the thread knows now
 marked : (c : After-bias_enter) (m : ℕ) → local_of c.bias_enter.new.pass.known ≡ local_of c.args.pass.now.known
     → let a = c.args in let s = a.heap.now.heap.shape in
     enter_at (read_mark m) s a.context.now (start_now a.heap.now a.pass.now) a.bias.now.object m
@@ -55,6 +56,7 @@ marked c m local =
     enters_alike h.heap.shape a.context.now (start_now h a.pass.now) q a.bias.now.object (sym local) (sym (kept c)) (read_mark m) m
     ∙ λ i. enter_at (read_mark m) h.heap.shape a.context.now q (sym object i) m
 
+-- and so is one that revokes a valid bias
 revoked : (c : After-bias_enter) → local_of c.bias_enter.new.pass.known ≡ local_of c.args.pass.now.known
     → let a = c.args in let s = a.heap.now.heap.shape in
     enter_revoked s false a.context.now (start_now a.heap.now a.pass.now) a.bias.now

@@ -11,7 +11,7 @@ inflate-requires-clause-due c =
     let a = c.args in
     first_due (λ progress. and_then progress (λ m. monitor_enter_steps a.context.now (local_of a.pass.now.known) a.object m)) c.requires.due
 
--- the object is inflated
+-- the object was inflated, or that is pending
 inflated : (c : After-inflate) → let a = c.args in let h = a.heap.now in let k = a.pass.now.known in
     PartMade h a.pass.now c.inflate.new.pass a.context.now.task (inflate_steps h.heap.shape a.context.now k.kept a.object)
     (λ progress. and_then progress (λ m. monitor_enter_steps a.context.now (local_of k) a.object m)) c.inflate.result

@@ -16,7 +16,7 @@ revocation-requires-clause-due c =
     let k = start_now a.heap.now a.pass.now in
     first_due (λ progress. and_then progress (λ took. enter_again a.heap.now.heap.shape a.context.now k a.bias.now.object took)) c.requires.due
 
--- the revocation
+-- the bias was revoked, or the revocation is pending
 revoked : (c : After-revocation) → let a = c.args in let h = a.heap.now in let k = start_now h a.pass.now in
     PartMade h a.pass.now c.revocation.new.pass a.context.now.task
     (revocation_steps h.heap.shape k.local.thread a.requesting a.context.now a.bias.now)
@@ -29,12 +29,13 @@ revoked c =
       made = c.revocation.ensures;
     }
 
--- after it an enter would begin as before
+-- an enter would begin now as before
 alike : (c : After-revocation) → StartsAlike c.args.pass.now.known c.revocation.new.pass.known
 alike c =
     let a = c.args in
     alike_after (revoked c) (revocation_aside a.context.now a.bias.now a.heap.now.heap.shape a.pass.now.known.thread a.requesting)
 
+-- so it goes on by the same steps, for the object as the code reads it
 again : (c : After-revocation) (took : Bool) (o : ℕ) → c.args.bias.now.object ≡ o → let a = c.args in let s = a.heap.now.heap.shape in
     enter_again s a.context.now (start_now a.heap.now a.pass.now) a.bias.now.object took
     ≡ enter_again s a.context.now (start_now a.heap.now c.revocation.new.pass) o took

@@ -22,6 +22,7 @@ use Rattle.lock_runtime.proofs.StandsCalls.{dump_leaves}
 use Rattle.lock_runtime.proofs.looking.dump.Goals as goal
 use Rattle.lock_runtime.proofs.looking.dump.Goals.{After-shots-taken, After-unfinished-context, After-requesting-requesting}
 
+-- a thread has at most four shots
 few : (c : After-shots-taken) → length c.shots-taken.result.now ≤ 4
 few c = subst (λ (x : List DumpShot). length x ≤ 4) (sym c.shots-taken.ensures) (few_shots c.args.heap.now c.args.pass.now c.requires.call.rests.is_of)
 

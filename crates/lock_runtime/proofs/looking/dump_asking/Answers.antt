@@ -32,6 +32,7 @@ asked c =
 same : (c : After-safepoint) → local_of c.safepoint.new.pass.known ≡ local_of c.args.pass.now.known
 same c = (alike_after (asked c) (safepoint_aside c.args.context.now c.args.pass.now.known.thread c.args.requesting)).local
 
+-- so the dump goes on by the same steps
 reached : (c : After-safepoint) → let a = c.args in let s = a.heap.now.heap.shape in
     reached_dump s a.context.now (local_of a.pass.now.known) a.number ≡ reached_dump s a.context.now (local_of c.safepoint.new.pass.known) a.number
 reached c = let a = c.args in ap (λ (l : Local). reached_dump a.heap.now.heap.shape a.context.now l a.number) (sym (same c))

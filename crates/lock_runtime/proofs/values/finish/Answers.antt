@@ -55,6 +55,7 @@ told c =
           (λ i. publish_steps (c.ending_entry.ensures i) (c.alone-context.ensures i) (local_of p.known)) c.publish.ensures;
     }
 
+-- by the same thread
 same_thread : (c : After-publish) → c.publish.new.pass.known.thread ≡ c.args.pass.now.known.thread
 same_thread c = ap (λ (x : ThreadView). x.thread) (told c).made.ran.by.1.0
 

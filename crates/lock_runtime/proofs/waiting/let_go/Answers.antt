@@ -17,6 +17,7 @@ gone : (c : After-monitor_wait-saved) → let a = c.args in let k = local_of a.p
     (λ saved. monitor_resume_steps a.context.now k.thread saved a.object) c.monitor_wait-saved.result
 gone c = record { due = c.requires.due; first = refl; made = c.monitor_wait-saved.ensures }
 
+-- it is the same thread that resumes
 resuming : (c : After-monitor_wait-saved) → let a = c.args in
     monitor_resume_steps a.context.now a.pass.now.known.thread c.monitor_wait-saved.result a.object
     ≡ monitor_resume_steps a.context.now c.monitor_wait-saved.new.pass.known.thread c.monitor_wait-saved.result a.object

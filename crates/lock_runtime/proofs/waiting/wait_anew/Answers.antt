@@ -24,6 +24,7 @@ unbiased c = let a = c.args in unbias_made a.context.now (no_bias a.object a.now
 alike : (c : After-unbias) → StartsAlike c.args.pass.now.known c.unbias.new.pass.known
 alike c = unbias_alike c.args.context.now (no_bias c.args.object c.args.now) c.unbias.ensures
 
+-- so it goes on by the same steps
 waiting : (c : After-unbias) → let a = c.args in let s = a.heap.now.heap.shape in let k = a.pass.now.known in let l = c.unbias.new.pass.known in
     inflated_wait s a.context.now k.kept (local_of k) a.object ≡ inflated_wait s a.context.now l.kept (local_of l) a.object
 waiting c = λ i. inflated_wait c.args.heap.now.heap.shape c.args.context.now (sym (alike c).kept i) (sym (alike c).local i) c.args.object
