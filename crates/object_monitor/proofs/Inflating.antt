@@ -1,11 +1,11 @@
 -- An inflation: what the law of the heap says of the numbers that it names, and its parts.
-use Rattle.std.proofs.Common.{◌≡◌, ℕ, ◌^◌, ◌<◌, ◌==◌, Bool, true, false, if◌then◌else◌, Option, Some, None, inl, inr}
+use Rattle.std.proofs.Common.{◌≡◌, ℕ, ◌^◌, ◌<◌, ◌==◌, Bool, true, false, if◌then◌else◌, Option, Some, inl, inr}
 use Rattle.std.proofs.Common.{refl, sym, ap, ◌∙◌, subst, arith}
 use borrow.Author.Tests.{eqb-true, eqb-false}
 use Rattle.mark_word.specs.declared.mark.MarkForm.{MarkForm}
 use Rattle.mark_word.specs.declared.mark.MarkForm.TheVariants.{Inflating, Neutral, Anonymous, Biased, Locked, Inflated, Marked}
 use Rattle.mark_word.specs.declared.owner.OwnerForm.TheVariants.{ByRecord}
-use Rattle.mark_word.specs.Mark.{mark_of, read_mark}
+use Rattle.mark_word.specs.Mark.{mark_of}
 use Rattle.mark_word.specs.Owner.{owner_of}
 use Rattle.core_world.specs.declared.answer.Progress.{Progress}
 use Rattle.core_world.specs.declared.answer.PendingCause.TheVariants as why
@@ -14,23 +14,19 @@ use Rattle.core_world.specs.declared.plan.LocalEffect.TheVariants.{DropClaim}
 use Rattle.core_world.specs.declared.stage.Stage.{Stage}
 use Rattle.core_world.specs.declared.stage.Stage.TheVariants.{Settled, Inflates}
 use Rattle.core_world.specs.Threads.ThreadView.{ThreadView}
-use Rattle.core_world.specs.Trees.MonitorSteps.{claim_plan, fetch_plan, inflate_plan, prepare_plan, name_plan, name_neutral_plan}
-use Rattle.core_world.specs.Trees.MonitorSteps.{prepare_steps, inflate_locked, inflate_with, inflate_by, inflate_at}
+use Rattle.core_world.specs.Trees.MonitorSteps.{prepare_plan, name_plan, name_neutral_plan}
+use Rattle.core_world.specs.Trees.MonitorSteps.{prepare_steps, inflate_with, inflate_by, inflate_at}
 use Rattle.core_world.specs.Trees.Plans.{CallContext, with_own, swap, load_plan, done_with, pending_for}
 use Rattle.core_world.specs.Trees.StepTree.{StepTree, unreachable, ◌>>=◌, ask}
 use Rattle.core_world.specs.Valid.{IsRevoking}
 use Rattle.core_world.specs.Words.Shape.{Shape, IsInLimits, monitor_count}
 use Rattle.core_world.specs.World.{World}
-use Rattle.core_world.proofs.CallRests.{part_due}
 use Rattle.core_law.specs.Logic.{Heap}
 use Rattle.core_law.specs.Sound.{Sound}
 use Rattle.core_world.proofs.There.{kept_there}
-use Rattle.heap_table.specs.Parts.{IsDueOn, HasMadeSteps}
+use Rattle.heap_table.specs.Parts.{IsDueOn}
 use Rattle.heap_table.specs.Seen.{HeapSeen, PassSeen, IsOf}
 use Rattle.heap_table.specs.StepPlans.{store_plan}
-use Rattle.heap_table.specs.Stepping.{HasStepped}
-use Rattle.heap_table.proofs.Parts.{rest_due, part_then}
-use Rattle.heap_table.proofs.Arms.{due_then}
 use Rattle.heap_table.proofs.Ruled.{there}
 
 sound_limits : (w : World) → Sound w → IsInLimits w.shape
@@ -68,13 +64,7 @@ kept_in h p m is_of kept =
 pub fits : (h : HeapSeen) (p : PassSeen) (m : ℕ) → IsOf h p → m < monitor_count h.heap.shape → m < 2 ^ 20
 fits h p m is_of within = let l = limits h p is_of in omega (arith, within, l.objects, l.threads)
 
--- THE PARTS of an inflation: what comes after the claim of a ring position,
-abbrev pub claimed_on : Shape → CallContext → ℕ → ℕ → ℕ → StepTree (Progress ℕ)
-claimed_on s e o mark position = do
-  m ← ask (fetch_plan e s position)
-  inflate_with (read_mark mark) e o mark m
-
--- after the exchange of a mark that named a lock record,
+-- THE PARTS of an inflation: what comes after the exchange of a mark that named a lock record,
 abbrev pub locked_on : CallContext → ℕ → ℕ → ℕ → ℕ → StepTree (Progress ℕ)
 locked_on e o m t place = do
   header ← ask (load_plan e (Inflates o t place) (Displaced t place))
@@ -94,32 +84,10 @@ neutral_named e o mark m = do
   found ← ask (name_neutral_plan e o mark m)
   if found == mark then done_with m else pending_for (why.Raced mark found)
 
-module _ {A : Type 0} (h : HeapSeen) (p : PassSeen) (e : CallContext) (stage : Stage) (o m header owner : ℕ) (g : StepTree A)
-    (due : IsDueOn h p e.task (prepare_steps e stage o m header owner >>= (λ _. g))) where
-  -- the words of a monitor are stored first,
-  pub prepares : IsDueOn h p e.task (prepare_steps e stage o m header owner)
-  prepares = part_due h.heap.shape h.heap.start h.heap.biasing p.known e.task (prepare_steps e stage o m header owner) (λ _. g) due
-
-  -- so that it has a number that fits a mark,
-  pub fits_mark : IsOf h p → m < 2 ^ 20
-  fits_mark is_of = fits h p m is_of (there h p e.task (prepare_plan e stage (Header m) header) _ is_of due refl)
-
-  -- and then the rest is due
-  pub prepared : (q : PassSeen) → HasMadeSteps h (prepare_steps e stage o m header owner) p q tt → IsDueOn h q e.task g
-  prepared q run = part_then h p q e.task (prepare_plan e stage (Header m) header) _ (λ _. g) tt due refl run
-
--- after the claim of a ring position its monitor is loaded
-pub claimed_due : (h : HeapSeen) (p q : PassSeen) (e : CallContext) (o mark position : ℕ) → IsDueOn h p e.task (inflate_by None h.heap.shape e o mark)
-    → HasStepped h p q (claim_plan e) position → IsDueOn h q e.task (claimed_on h.heap.shape e o mark position)
-claimed_due h p q e o mark position due s = rest_due h p e.task (claim_plan e) (claimed_on h.heap.shape e o mark) due refl q position s
-
--- where the exchange of a mark that named a lock record hit, it goes on
-module _ (h : HeapSeen) (p q : PassSeen) (e : CallContext) (o mark m t place found : ℕ) where
-  pub locked_due : IsDueOn h p e.task (inflate_locked e o mark m t place) → HasStepped h p q (inflate_plan e o mark t place) found
-      → (found == mark) ≡ true → IsDueOn h q e.task (locked_on e o m t place)
-  locked_due due s hit =
-      due_then h q (found == mark) (locked_on e o m t place) (pending_for (why.Raced mark found)) e.task
-      (rest_due h p e.task (inflate_plan e o mark t place) _ due refl q found s) hit
+-- The words of a monitor are stored first: so it has a number that fits a mark.
+pub fits_mark : {A : Type 0} (h : HeapSeen) (p : PassSeen) (e : CallContext) (stage : Stage) (o m header owner : ℕ) (g : StepTree A)
+    → IsDueOn h p e.task (prepare_steps e stage o m header owner >>= (λ _. g)) → IsOf h p → m < 2 ^ 20
+fits_mark h p e stage o m header owner g due is_of = fits h p m is_of (there h p e.task (prepare_plan e stage (Header m) header) _ is_of due refl)
 
 -- THE LAST PLAN names the monitor, where its word is that of an inflated mark
 module _ (e : CallContext) (o mark m word : ℕ) (is : word ≡ mark_of (Inflated m)) where

@@ -1,5 +1,4 @@
 mod Ages
-mod Grabbing
 mod Inflated
 mod Inflating
 mod OwningSteps
@@ -7,3 +6,4 @@ mod RecursionRoom
 mod Resuming
 mod Looking
 mod Waking
+pub mod StepsLeft

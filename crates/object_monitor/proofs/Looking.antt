@@ -8,6 +8,7 @@ use Rattle.core_world.specs.Trees.WaitSteps.{look_steps}
 use Rattle.heap_table.specs.Parts.{IsDueOn, HasMadeSteps}
 use Rattle.heap_table.specs.Seen.{HeapSeen, PassSeen, IsOf}
 use Rattle.heap_table.specs.Stepping.{CanStep, HasStepped}
+use Rattle.stack_lock.proofs.StepsLeft.{AreLeft, part_left}
 use Rattle.heap_table.proofs.Loops.{HasCome, nothing_yet, comes_on, comes_as, each_next, bind_done}
 use Rattle.heap_table.proofs.Aside.{AreAside, StartsAlike, aside, each_aside}
 use Rattle.heap_table.proofs.Parts.{can, rest_due, last_step, ends, part_then}
@@ -97,8 +98,12 @@ pub looks_aside : (h : HeapSeen) (p q : PassSeen) (e : CallContext) (n : ℕ) (w
     → HasMadeSteps h (look_steps e n) p q words → StartsAlike p.known q.known
 looks_aside h p q e n words run = aside h (look_steps e n) p q words (look_aside e n) run
 
-pub look_then : {B : Type 0} (h : HeapSeen) (p q : PassSeen) (e : CallContext) (n : ℕ) (g : List ℕ → StepTree B) (words : List ℕ) → p.known.thread < n
+look_then : {B : Type 0} (h : HeapSeen) (p q : PassSeen) (e : CallContext) (n : ℕ) (g : List ℕ → StepTree B) (words : List ℕ) → p.known.thread < n
     → IsDueOn h p e.task (look_steps e n >>= g) → HasMadeSteps h (look_steps e n) p q words → IsDueOn h q e.task (g words)
 look_then h p q e zero g words within due run = absurd (omega (arith, within))
 look_then h p q e (suc m) g words within due run =
     part_then h p q e.task (load e (Waiting 0)) (λ x. each_from 1 m (λ t. ask (load e (Waiting t))) >>= (λ others. done (x ∷ others))) g words due refl run
+
+pub look_left : {A : Type 0} {h : HeapSeen} {o p q : PassSeen} {d : StepTree A} {words : List ℕ} (e : CallContext) (n : ℕ) (g : List ℕ → StepTree A)
+    → p.known.thread < n → HasMadeSteps h (look_steps e n) p q words → AreLeft h e.task o d p (look_steps e n >>= g) → AreLeft h e.task o d q (g words)
+look_left {h = h} {p = p} {q = q} {words = words} e n g within run left = part_left g run (look_then h p q e n g words within left.due run) left

@@ -19,7 +19,7 @@ use Rattle.heap_table.proofs.Arms.{after_choice}
 use Rattle.heap_table.proofs.ClassSteps.{class_then}
 use Rattle.heap_table.proofs.Aside.{StartsAlike, keeps_aside, leaves_own_words, runs_aside, room_aside}
 use Rattle.heap_table.proofs.Knows.{same_thread}
-use Rattle.heap_table.proofs.Parts.{can, rest_due, stepped, in_turn, ends}
+use Rattle.heap_table.proofs.Parts.{can, rest_due, part_then, stepped, in_turn, ends}
 use Rattle.heap_table.proofs.Ruled.{not_due}
 
 -- Of the steps d, which were due on pass o in a call of task t, the steps x are left on pass p.
@@ -86,11 +86,16 @@ module _ {A : Type 0} {h : HeapSeen} {t : HeapCall} {o : PassSeen} {d : StepTree
         part_made g run (subst (λ y. HasMadeSteps h y q q a) (sym is) (ends h q a run.heap)) left
 
     -- After a part the rest is left, if it is due then:
-    part_left : {B : Type 0} {x : StepTree B} {q : PassSeen} {b : B} (g : B → StepTree A) → HasMadeSteps h x p q b → IsDueOn h q t (g b)
+    pub part_left : {B : Type 0} {x : StepTree B} {q : PassSeen} {b : B} (g : B → StepTree A) → HasMadeSteps h x p q b → IsDueOn h q t (g b)
         → AreLeft h t o d p (x >>= g) → AreLeft h t o d q (g b)
     part_left {q = q} g run due left = record { heap = run.heap; due = due; whole = λ r a rest. part_made g run rest left }
 
-    -- after a part that makes a step or none, as a test says,
+    -- after a part that makes a step,
+    pub after_part : {B : Type 0} {plan : StepPlan} {f : ℕ → StepTree B} {q : PassSeen} {b : B} (g : B → StepTree A) → HasMadeSteps h (step plan f) p q b
+        → plan.task ≡ t → AreLeft h t o d p (step plan f >>= g) → AreLeft h t o d q (g b)
+    after_part {plan = plan} {f = f} {q = q} {b = b} g run task left = part_left g run (part_then h p q t plan f g b left.due task run) left
+
+    -- after one that makes a step or none, as a test says,
     pub choice_left : {B : Type 0} {q : PassSeen} {b : B} (test : Bool) (plan : StepPlan) (f : ℕ → StepTree B) (other : B) (g : B → StepTree A)
         → HasMadeSteps h (if test then step plan f else done other) p q b → plan.task ≡ t
         → AreLeft h t o d p ((if test then step plan f else done other) >>= g) → AreLeft h t o d q (g b)

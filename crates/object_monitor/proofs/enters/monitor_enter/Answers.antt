@@ -1,92 +1,44 @@
-use Rattle.std.proofs.Common.{◌≡◌, refl, sym, ap, ◌∙◌, subst, Option, Some}
+use Rattle.std.proofs.Common.{◌≡◌, Option, refl, sym, ap, ◌∙◌}
 use Rattle.mark_word.specs.declared.owner.OwnerForm.{OwnerForm}
 use Rattle.mark_word.specs.declared.owner.OwnerForm.TheVariants.{ByThread}
 use Rattle.mark_word.specs.Owner.{owner_of, read_owner}
 use Rattle.core_world.specs.declared.word_id.WordId.TheVariants.{Owner}
-use Rattle.core_world.specs.declared.plan.StepPlan.{StepPlan}
 use Rattle.core_world.specs.declared.stage.Stage.TheVariants.{MonitorAcquired}
-use Rattle.core_world.specs.Threads.ThreadView.{Local, local_of}
-use Rattle.core_world.specs.Trees.MonitorSteps.{monitor_enter_at, grab_plan}
-use Rattle.heap_table.specs.Parts.{IsDueOn, HasMadeSteps}
+use Rattle.core_world.specs.Threads.ThreadView.{local_of}
+use Rattle.core_world.specs.Trees.MonitorSteps.{grab_plan, monitor_enter_at, monitor_enter_steps}
 use Rattle.heap_table.specs.StepPlans.{swap_plan}
-use Rattle.heap_table.specs.Stepping.{CanStep, HasStepped}
-use Rattle.heap_table.proofs.Parts.{can, rest_due, stepped}
-use Rattle.heap_table.proofs.Ruled.{not_due}
-use Rattle.object_monitor.proofs.Grabbing.{grabbed}
+use Rattle.stack_lock.proofs.StepsLeft.{AreLeft, all_left, can_make, step_made, left_as, never, alike_after}
 use Rattle.object_monitor.proofs.enters.monitor_enter.Goals as goal
+use Rattle.object_monitor.proofs.enters.monitor_enter.Goals.{After-encode_owner-word, After-exchange-found}
+
+-- the tree's plan, as the code says it
+grabbing : (c : After-encode_owner-word)
+    → swap_plan c.args.call.now (MonitorAcquired c.args.object) (Owner c.args.monitor) c.encode_owner-free.result c.encode_owner-word.result
+    ≡ grab_plan c.args.call.now c.args.pass.now.known.thread c.args.object c.args.monitor
+grabbing c =
+    let word = c.encode_owner-word.ensures ∙ ap (λ t. owner_of (ByThread t)) c.thread-thread.ensures.same in
+    λ i. swap_plan c.args.call.now (MonitorAcquired c.args.object) (Owner c.args.monitor) (c.encode_owner-free.ensures i) (word i)
 
 pub exchange-found-requires : goal.exchange-found-requires
 exchange-found-requires c =
-    let a = c.args in
-    let h = a.heap.now in
-    let e = a.call.now in
-    let t = a.pass.now.known.thread in
-    let plan = grab_plan e t a.object a.monitor in
-    let word : c.encode_owner-word.result ≡ owner_of (ByThread t) =
-    c.encode_owner-word.ensures ∙ ap (λ u. owner_of (ByThread u)) c.thread-thread.ensures.same in
-    let same : swap_plan e (MonitorAcquired a.object) (Owner a.monitor) c.encode_owner-free.result c.encode_owner-word.result ≡ plan =
-    λ i. swap_plan e (MonitorAcquired a.object) (Owner a.monitor) (c.encode_owner-free.ensures i) (word i) in
-    subst (CanStep h a.pass.now) (sym same) (can h a.pass.now e.task plan _ c.requires.due refl c.requires.heap tt refl)
+    can_make (all_left c.requires.heap c.requires.due) (grabbing (goal.at.exchange-found-requires c).After-encode_owner-word) refl refl tt
+
+-- what is left after the exchange, by whose the monitor is
+by_form : (c : After-exchange-found) (f : Option OwnerForm) → read_owner c.exchange-found.result ≡ f
+    → AreLeft c.args.heap.now c.args.call.now.task c.args.pass.now
+    (monitor_enter_steps c.args.call.now (local_of c.args.pass.now.known) c.args.object c.args.monitor) c.exchange-found.new.pass
+    (monitor_enter_at f c.args.call.now (local_of c.exchange-found.new.pass.known) c.args.object c.args.monitor c.exchange-found.result)
+by_form c f form =
+    let local = (alike_after c.exchange-found.ensures refl refl refl).local in
+    left_as (step_made (all_left c.requires.heap c.requires.due) (grabbing c.before.before) refl refl c.exchange-found.ensures)
+    (λ i. monitor_enter_at (form i) c.args.call.now (sym local i) c.args.object c.args.monitor c.exchange-found.result)
 
 pub enter_by_owner-requires-clause-due : goal.enter_by_owner-requires-clause-due
 enter_by_owner-requires-clause-due c =
-    let a = c.args in
-    let h = a.heap.now in
-    let e = a.call.now in
-    let k = a.pass.now.known in
-    let t = k.thread in
-    let q = c.exchange-found.new.pass in
-    let n = c.exchange-found.result in
-    let plan = grab_plan e t a.object a.monitor in
-    let word : c.encode_owner-word.result ≡ owner_of (ByThread t) =
-    c.encode_owner-word.ensures ∙ ap (λ u. owner_of (ByThread u)) c.thread-thread.ensures.same in
-    let same : swap_plan e (MonitorAcquired a.object) (Owner a.monitor) c.encode_owner-free.result c.encode_owner-word.result ≡ plan =
-    λ i. swap_plan e (MonitorAcquired a.object) (Owner a.monitor) (c.encode_owner-free.ensures i) (word i) in
-    let s = subst (λ (x : StepPlan). HasStepped h a.pass.now q x n) same c.exchange-found.ensures in
-    let local : local_of q.known ≡ local_of k = ap local_of s.known ∙ grabbed h.heap.shape h.heap.start e t a.object a.monitor n k in
-    let form = sym c.owner_of_word.ensures ∙ c.in-Some.is in
-    let rest = rest_due h a.pass.now e.task plan _ c.requires.due refl q n s in
-    subst (λ (x : Local). IsDueOn h q e.task (monitor_enter_at (Some c.in-Some.form) e x a.object a.monitor n)) (sym local)
-    (subst (λ (f : Option OwnerForm). IsDueOn h q e.task (monitor_enter_at f e (local_of k) a.object a.monitor n)) form rest)
+    (by_form (goal.at.enter_by_owner-requires-clause-due c).After-exchange-found _ (sym c.owner_of_word.ensures ∙ c.in-Some.is)).due
 
 pub unreachable-requires : goal.unreachable-requires
-unreachable-requires c =
-    let a = c.args in
-    let h = a.heap.now in
-    let e = a.call.now in
-    let k = a.pass.now.known in
-    let t = k.thread in
-    let q = c.exchange-found.new.pass in
-    let n = c.exchange-found.result in
-    let plan = grab_plan e t a.object a.monitor in
-    let word : c.encode_owner-word.result ≡ owner_of (ByThread t) =
-    c.encode_owner-word.ensures ∙ ap (λ u. owner_of (ByThread u)) c.thread-thread.ensures.same in
-    let same : swap_plan e (MonitorAcquired a.object) (Owner a.monitor) c.encode_owner-free.result c.encode_owner-word.result ≡ plan =
-    λ i. swap_plan e (MonitorAcquired a.object) (Owner a.monitor) (c.encode_owner-free.ensures i) (word i) in
-    let s = subst (λ (x : StepPlan). HasStepped h a.pass.now q x n) same c.exchange-found.ensures in
-    let rest = rest_due h a.pass.now e.task plan _ c.requires.due refl q n s in
-    not_due h q e.task (monitor_enter_at (read_owner n) e (local_of k) a.object a.monitor n) s.heap rest
-    (ap (λ (f : Option OwnerForm). monitor_enter_at f e (local_of k) a.object a.monitor n) (sym c.owner_of_word.ensures ∙ c.in-None.is))
+unreachable-requires c = never (by_form (goal.at.unreachable-requires c).After-exchange-found _ (sym c.owner_of_word.ensures ∙ c.in-None.is)) refl
 
 pub returns : goal.returns
-returns c =
-    let a = c.args in
-    let h = a.heap.now in
-    let e = a.call.now in
-    let k = a.pass.now.known in
-    let t = k.thread in
-    let q = c.exchange-found.new.pass in
-    let n = c.exchange-found.result in
-    let r = c.enter_by_owner.new.pass in
-    let out = c.enter_by_owner.result in
-    let plan = grab_plan e t a.object a.monitor in
-    let word : c.encode_owner-word.result ≡ owner_of (ByThread t) =
-    c.encode_owner-word.ensures ∙ ap (λ u. owner_of (ByThread u)) c.thread-thread.ensures.same in
-    let same : swap_plan e (MonitorAcquired a.object) (Owner a.monitor) c.encode_owner-free.result c.encode_owner-word.result ≡ plan =
-    λ i. swap_plan e (MonitorAcquired a.object) (Owner a.monitor) (c.encode_owner-free.ensures i) (word i) in
-    let s = subst (λ (x : StepPlan). HasStepped h a.pass.now q x n) same c.exchange-found.ensures in
-    let local : local_of q.known ≡ local_of k = ap local_of s.known ∙ grabbed h.heap.shape h.heap.start e t a.object a.monitor n k in
-    let form = sym c.owner_of_word.ensures ∙ c.in-Some.is in
-    let run = subst (λ (x : Local). HasMadeSteps h (monitor_enter_at (Some c.in-Some.form) e x a.object a.monitor n) q r out) local c.enter_by_owner.ensures in
-    stepped h a.pass.now q r plan _ n out s refl
-    (subst (λ (f : Option OwnerForm). HasMadeSteps h (monitor_enter_at f e (local_of k) a.object a.monitor n) q r out) (sym form) run)
+returns c = (by_form (goal.at.returns c).After-exchange-found _ (sym c.owner_of_word.ensures ∙ c.in-Some.is)).whole _ _ c.enter_by_owner.ensures

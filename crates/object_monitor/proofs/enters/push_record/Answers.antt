@@ -1,57 +1,29 @@
-use Rattle.std.proofs.Common.{◌≡◌, refl, sym, ap, subst}
-use Rattle.core_world.specs.declared.answer.Progress.TheVariants.{Done}
+use Rattle.std.proofs.Common.{refl, sym, ap}
 use Rattle.core_world.specs.declared.word_id.WordId.TheVariants.{Displaced}
-use Rattle.core_world.specs.declared.plan.StepPlan.{StepPlan}
-use Rattle.core_world.specs.Threads.ThreadView.{Local, local_of}
-use Rattle.core_world.specs.Trees.LockSteps.{displace_plan, hold_steps}
-use Rattle.core_world.specs.Trees.Plans.{free_place, done_with}
-use Rattle.core_world.proofs.CallRests.{part_due}
-use Rattle.heap_table.specs.Parts.{IsDueOn, HasMadeSteps}
+use Rattle.core_world.specs.Threads.ThreadView.{local_of}
+use Rattle.core_world.specs.Trees.LockSteps.{hold_steps}
+use Rattle.core_world.specs.Trees.MonitorSteps.{record_steps}
+use Rattle.core_world.specs.Trees.Plans.{done_with}
+use Rattle.core_world.specs.Trees.StepTree.{◌>>=◌}
 use Rattle.heap_table.specs.StepPlans.{store_plan}
-use Rattle.heap_table.specs.Stepping.{CanStep, HasStepped}
-use Rattle.heap_table.proofs.Parts.{can, rest_due, stepped, in_turn, ends}
+use Rattle.stack_lock.proofs.StepsLeft.{AreLeft, all_left, can_make, step_made, left_as, part_of, last_made}
 use Rattle.object_monitor.proofs.enters.push_record.Goals as goal
+use Rattle.object_monitor.proofs.enters.push_record.Goals.{After-store}
 
 pub store-requires : goal.store-requires
-store-requires c =
-    let a = c.args in
-    let e = a.call.now in
-    let k = a.pass.now.known in
-    let plan = displace_plan e a.stage k.thread (free_place k.holds) 3 in
-    let same : store_plan e a.stage (Displaced c.thread.result c.free_place.result) 3 ≡ plan =
-    λ i. store_plan e a.stage (Displaced (c.thread.ensures.same i) (c.free_place.ensures.place i)) 3 in
-    subst (CanStep a.heap.now a.pass.now) (sym same) (can a.heap.now a.pass.now e.task plan _ c.requires.due refl c.requires.heap tt refl)
+store-requires c = can_make (all_left c.requires.heap c.requires.due)
+    (λ i. store_plan c.args.call.now c.args.stage (Displaced (c.thread.ensures.same i) (c.free_place.ensures.place i)) 3) refl refl tt
+
+stored : (c : After-store) → AreLeft c.args.heap.now c.args.call.now.task c.args.pass.now
+    (record_steps c.args.call.now c.args.stage (local_of c.args.pass.now.known) c.args.object c.args.path) c.store.new.pass
+    (hold_steps c.args.call.now (local_of c.store.new.pass.known) c.args.object c.args.path >>= done_with)
+stored c =
+    let left = step_made (all_left c.requires.heap c.requires.due)
+    (λ i. store_plan c.args.call.now c.args.stage (Displaced (c.thread.ensures.same i) (c.free_place.ensures.place i)) 3) refl refl c.store.ensures in
+    left_as left (λ i. hold_steps c.args.call.now (sym (ap local_of c.store.ensures.known) i) c.args.object c.args.path >>= done_with)
 
 pub hold-requires-clause-due : goal.hold-requires-clause-due
-hold-requires-clause-due c =
-    let a = c.args in
-    let h = a.heap.now in
-    let e = a.call.now in
-    let k = a.pass.now.known in
-    let q = c.store.new.pass in
-    let plan = displace_plan e a.stage k.thread (free_place k.holds) 3 in
-    let same : store_plan e a.stage (Displaced c.thread.result c.free_place.result) 3 ≡ plan =
-    λ i. store_plan e a.stage (Displaced (c.thread.ensures.same i) (c.free_place.ensures.place i)) 3 in
-    let s = subst (λ (x : StepPlan). HasStepped h a.pass.now q x c.store.result) same c.store.ensures in
-    let local : local_of q.known ≡ local_of k = ap local_of s.known in
-    let rest = rest_due h a.pass.now e.task plan _ c.requires.due refl q c.store.result s in
-    subst (λ (l : Local). IsDueOn h q e.task (hold_steps e l a.object a.path)) (sym local)
-    (part_due h.heap.shape h.heap.start h.heap.biasing q.known e.task (hold_steps e (local_of k) a.object a.path) done_with rest)
+hold-requires-clause-due c = part_of done_with (stored (goal.at.hold-requires-clause-due c).After-store)
 
 pub returns : goal.returns
-returns c =
-    let a = c.args in
-    let h = a.heap.now in
-    let e = a.call.now in
-    let k = a.pass.now.known in
-    let q = c.store.new.pass in
-    let r = c.hold.new.pass in
-    let path = c.hold.result in
-    let plan = displace_plan e a.stage k.thread (free_place k.holds) 3 in
-    let same : store_plan e a.stage (Displaced c.thread.result c.free_place.result) 3 ≡ plan =
-    λ i. store_plan e a.stage (Displaced (c.thread.ensures.same i) (c.free_place.ensures.place i)) 3 in
-    let s = subst (λ (x : StepPlan). HasStepped h a.pass.now q x c.store.result) same c.store.ensures in
-    let local : local_of q.known ≡ local_of k = ap local_of s.known in
-    let run = subst (λ (l : Local). HasMadeSteps h (hold_steps e l a.object a.path) q r path) local c.hold.ensures in
-    stepped h a.pass.now q r plan _ c.store.result (Done path) s refl
-    (in_turn h q r r (hold_steps e (local_of k) a.object a.path) done_with path (Done path) run (ends h r (Done path) run.heap))
+returns c = last_made done_with c.hold.ensures refl (stored (goal.at.returns c).After-store)

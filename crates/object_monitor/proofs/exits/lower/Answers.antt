@@ -1,39 +1,24 @@
-use Rattle.std.proofs.Common.{◌≡◌, refl, sym, ap, subst}
-use Rattle.core_world.specs.Threads.ThreadView.{ThreadView}
-use Rattle.core_world.specs.Trees.MonitorSteps.{lower_count_plan}
-use Rattle.core_world.specs.Trees.StepTree.{StepTree}
-use Rattle.heap_table.specs.Parts.{IsDueOn, HasMadeSteps}
-use Rattle.heap_table.proofs.Parts.{can, rest_due, stepped}
+use Rattle.std.proofs.Common.{refl, sym}
+use Rattle.core_world.specs.Threads.ThreadView.{local_of}
 use Rattle.stack_lock.specs.Parts.{leave_at}
+use Rattle.object_monitor.specs.inner.ExitParts.{lowered_exit}
+use Rattle.stack_lock.proofs.StepsLeft.{AreLeft, all_left, can_make, step_made, left_as, thread_stays}
 use Rattle.object_monitor.proofs.exits.lower.Goals as goal
+use Rattle.object_monitor.proofs.exits.lower.Goals.{After-store}
 
 pub store-requires : goal.store-requires
-store-requires c =
-    let a = c.args in
-    let e = a.call.now in
-    can a.heap.now a.pass.now e.task (lower_count_plan e a.object a.monitor a.recursions) _ c.requires.due refl c.requires.heap tt refl
+store-requires c = can_make (all_left c.requires.heap c.requires.due) refl refl refl tt
+
+lowered : (c : After-store) → AreLeft c.args.heap.now c.args.call.now.task c.args.pass.now
+    (lowered_exit c.args.call.now (local_of c.args.pass.now.known) c.args.object c.args.monitor c.args.recursions) c.store.new.pass
+    (leave_at c.args.call.now c.store.new.pass.known.thread c.args.object c.args.place)
+lowered c =
+    let thread = thread_stays c.store.ensures in
+    left_as (step_made (all_left c.requires.heap c.requires.due) refl refl refl c.store.ensures)
+    (λ i. leave_at c.args.call.now (sym thread i) c.args.object (sym c.requires.place i))
 
 pub leave-requires-clause-due : goal.leave-requires-clause-due
-leave-requires-clause-due c =
-    let a = c.args in
-    let h = a.heap.now in
-    let e = a.call.now in
-    let k = a.pass.now.known in
-    let q = c.store.new.pass in
-    let s = c.store.ensures in
-    let thread : q.known.thread ≡ k.thread = ap (λ (x : ThreadView). x.thread) s.known in
-    subst (IsDueOn h q e.task) (λ i. leave_at e (sym thread i) a.object (sym c.requires.place i))
-    (rest_due h a.pass.now e.task (lower_count_plan e a.object a.monitor a.recursions) _ c.requires.due refl q c.store.result s)
+leave-requires-clause-due c = (lowered (goal.at.leave-requires-clause-due c).After-store).due
 
 pub returns : goal.returns
-returns c =
-    let a = c.args in
-    let h = a.heap.now in
-    let e = a.call.now in
-    let k = a.pass.now.known in
-    let q = c.store.new.pass in
-    let r = c.leave.new.pass in
-    let s = c.store.ensures in
-    let thread : q.known.thread ≡ k.thread = ap (λ (x : ThreadView). x.thread) s.known in
-    let run = subst (λ (d : StepTree (Unit {0})). HasMadeSteps h d q r tt) (λ i. leave_at e (thread i) a.object (c.requires.place i)) c.leave.ensures in
-    stepped h a.pass.now q r (lower_count_plan e a.object a.monitor a.recursions) _ c.store.result tt s refl run
+returns c = (lowered (goal.at.returns c).After-store).whole _ _ c.leave.ensures

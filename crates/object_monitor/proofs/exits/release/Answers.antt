@@ -1,59 +1,32 @@
-use Rattle.std.proofs.Common.{◌≡◌, refl, sym, ap, subst}
+use Rattle.std.proofs.Common.{refl, sym}
 use Rattle.plain_monitor.specs.declared.entry.Entry.TheVariants as entry
 use Rattle.core_world.specs.declared.word_id.WordId.TheVariants.{Owner}
-use Rattle.core_world.specs.declared.plan.StepPlan.{StepPlan}
 use Rattle.core_world.specs.declared.stage.Stage.TheVariants.{Exits}
-use Rattle.core_world.specs.Threads.ThreadView.{ThreadView}
-use Rattle.core_world.specs.Trees.MonitorSteps.{free_plan}
-use Rattle.core_world.specs.Trees.Plans.{top_place}
-use Rattle.core_world.specs.Trees.StepTree.{StepTree}
-use Rattle.heap_table.specs.Parts.{IsDueOn, HasMadeSteps}
+use Rattle.core_world.specs.Threads.ThreadView.{local_of}
+use Rattle.core_world.specs.Trees.MonitorSteps.{release_steps}
 use Rattle.heap_table.specs.StepPlans.{log_store_plan}
-use Rattle.heap_table.specs.Stepping.{CanStep, HasStepped}
-use Rattle.heap_table.proofs.Parts.{can, rest_due, stepped}
 use Rattle.stack_lock.specs.Parts.{clear_at}
+use Rattle.stack_lock.proofs.StepsLeft.{AreLeft, all_left, can_make, step_made, left_as, thread_stays}
 use Rattle.object_monitor.proofs.exits.release.Goals as goal
+use Rattle.object_monitor.proofs.exits.release.Goals.{After-log_store}
 
 pub log_store-requires : goal.log_store-requires
-log_store-requires c =
-    let a = c.args in
-    let h = a.heap.now in
-    let e = a.call.now in
-    let o = a.object in
-    let plan = free_plan e o a.monitor (top_place o a.pass.now.known.holds) in
-    let same : log_store_plan e (Exits o a.place) (Owner a.monitor) c.encode_owner-word.result (entry.Exit o) ≡ plan =
-    λ i. log_store_plan e (Exits o (c.requires.place i)) (Owner a.monitor) (c.encode_owner-word.ensures i) (entry.Exit o) in
-    subst (CanStep h a.pass.now) (sym same) (can h a.pass.now e.task plan _ c.requires.due refl c.requires.heap c.requires.room refl)
+log_store-requires c = can_make (all_left c.requires.heap c.requires.due)
+    (λ i. log_store_plan c.args.call.now (Exits c.args.object (c.requires.place i)) (Owner c.args.monitor) (c.encode_owner-word.ensures i)
+    (entry.Exit c.args.object)) refl refl c.requires.room
+
+freed : (c : After-log_store) → AreLeft c.args.heap.now c.args.call.now.task c.args.pass.now
+    (release_steps c.args.call.now (local_of c.args.pass.now.known) c.args.object c.args.monitor) c.log_store.new.pass
+    (clear_at c.args.call.now c.log_store.new.pass.known.thread c.args.place)
+freed c =
+    let left = step_made (all_left c.requires.heap c.requires.due)
+    (λ i. log_store_plan c.args.call.now (Exits c.args.object (c.requires.place i)) (Owner c.args.monitor) (c.encode_owner-word.ensures i)
+    (entry.Exit c.args.object)) refl refl c.log_store.ensures in
+    let thread = thread_stays c.log_store.ensures in
+    left_as left (λ i. clear_at c.args.call.now (sym thread i) (sym c.requires.place i))
 
 pub clear-requires-clause-due : goal.clear-requires-clause-due
-clear-requires-clause-due c =
-    let a = c.args in
-    let h = a.heap.now in
-    let e = a.call.now in
-    let o = a.object in
-    let k = a.pass.now.known in
-    let q = c.log_store.new.pass in
-    let plan = free_plan e o a.monitor (top_place o k.holds) in
-    let same : log_store_plan e (Exits o a.place) (Owner a.monitor) c.encode_owner-word.result (entry.Exit o) ≡ plan =
-    λ i. log_store_plan e (Exits o (c.requires.place i)) (Owner a.monitor) (c.encode_owner-word.ensures i) (entry.Exit o) in
-    let s = subst (λ (x : StepPlan). HasStepped h a.pass.now q x c.log_store.result) same c.log_store.ensures in
-    let thread : q.known.thread ≡ k.thread = ap (λ (x : ThreadView). x.thread) s.known in
-    subst (IsDueOn h q e.task) (λ i. clear_at e (sym thread i) (sym c.requires.place i))
-    (rest_due h a.pass.now e.task plan _ c.requires.due refl q c.log_store.result s)
+clear-requires-clause-due c = (freed (goal.at.clear-requires-clause-due c).After-log_store).due
 
 pub returns : goal.returns
-returns c =
-    let a = c.args in
-    let h = a.heap.now in
-    let e = a.call.now in
-    let o = a.object in
-    let k = a.pass.now.known in
-    let q = c.log_store.new.pass in
-    let r = c.clear.new.pass in
-    let plan = free_plan e o a.monitor (top_place o k.holds) in
-    let same : log_store_plan e (Exits o a.place) (Owner a.monitor) c.encode_owner-word.result (entry.Exit o) ≡ plan =
-    λ i. log_store_plan e (Exits o (c.requires.place i)) (Owner a.monitor) (c.encode_owner-word.ensures i) (entry.Exit o) in
-    let s = subst (λ (x : StepPlan). HasStepped h a.pass.now q x c.log_store.result) same c.log_store.ensures in
-    let thread : q.known.thread ≡ k.thread = ap (λ (x : ThreadView). x.thread) s.known in
-    let run = subst (λ (d : StepTree (Unit {0})). HasMadeSteps h d q r tt) (λ i. clear_at e (thread i) (c.requires.place i)) c.clear.ensures in
-    stepped h a.pass.now q r plan _ c.log_store.result tt s refl run
+returns c = (freed (goal.at.returns c).After-log_store).whole _ _ c.clear.ensures

@@ -1,80 +1,47 @@
-use Rattle.std.proofs.Common.{◌≡◌, ◌==◌, true, false, refl, sym, subst, eq-eqb, ne_eqb}
-use Rattle.mark_word.specs.declared.owner.OwnerForm.TheVariants.{Free}
-use Rattle.mark_word.specs.Owner.{owner_of}
-use Rattle.core_world.specs.declared.answer.Progress.TheVariants.{Done, Pending}
-use Rattle.core_world.specs.declared.answer.PendingCause.TheVariants as why
-use Rattle.core_world.specs.declared.plan.StepPlan.{StepPlan}
+use Rattle.std.proofs.Common.{refl, sym, eq-eqb, ne_eqb}
 use Rattle.core_world.specs.declared.stage.Stage.TheVariants.{Settled}
-use Rattle.core_world.specs.Trees.MonitorSteps.{name_neutral_plan, prepare_steps}
-use Rattle.core_world.specs.Trees.Plans.{done_with, pending_for}
-use Rattle.heap_table.specs.Parts.{IsDueOn, HasMadeSteps}
-use Rattle.heap_table.specs.Stepping.{CanStep, HasStepped}
-use Rattle.heap_table.proofs.Parts.{can, stepped, in_turn, ends}
-use Rattle.heap_table.proofs.Arms.{run_then, run_else}
-use Rattle.object_monitor.proofs.Inflating.{neutral_named, prepares, fits_mark, prepared, names_neutral}
+use Rattle.core_world.specs.Trees.MonitorSteps.{inflate_neutral, prepare_steps}
+use Rattle.core_world.specs.Trees.StepTree.{◌>>=◌}
+use Rattle.stack_lock.proofs.StepsLeft.{AreLeft, all_left, can_make, step_made, left_as, left_then, left_else, all_made, part_of, after_part}
+use Rattle.object_monitor.proofs.Inflating.{neutral_named, fits_mark, names_neutral}
 use Rattle.object_monitor.proofs.inflates.inflate_neutral.Goals as goal
+use Rattle.object_monitor.proofs.inflates.inflate_neutral.Goals.{After-encode_owner-owner, After-prepare}
+
+-- the words of the monitor are to be stored, as the code says them,
+preparing : (c : After-encode_owner-owner) → AreLeft c.args.heap.now c.args.call.now.task c.args.pass.now
+    (inflate_neutral c.args.call.now c.args.object c.args.mark c.args.monitor) c.args.pass.now
+    (prepare_steps c.args.call.now Settled c.args.object c.args.monitor c.args.mark c.encode_owner-owner.result
+    >>= (λ _. neutral_named c.args.call.now c.args.object c.args.mark c.args.monitor))
+preparing c = left_as (all_left c.requires.heap c.requires.due)
+    (λ i. prepare_steps c.args.call.now Settled c.args.object c.args.monitor c.args.mark (sym c.encode_owner-owner.ensures i)
+    >>= (λ _. neutral_named c.args.call.now c.args.object c.args.mark c.args.monitor))
+
+-- and are
+prepared : (c : After-prepare) → AreLeft c.args.heap.now c.args.call.now.task c.args.pass.now
+    (inflate_neutral c.args.call.now c.args.object c.args.mark c.args.monitor) c.prepare.new.pass
+    (neutral_named c.args.call.now c.args.object c.args.mark c.args.monitor)
+prepared c = after_part (λ _. neutral_named c.args.call.now c.args.object c.args.mark c.args.monitor) c.prepare.ensures refl (preparing c.before.before)
 
 pub prepare-requires-clause-due : goal.prepare-requires-clause-due
-prepare-requires-clause-due c =
-    let a = c.args in
-    let h = a.heap.now in
-    let e = a.call.now in
-    subst (λ w. IsDueOn h a.pass.now e.task (prepare_steps e Settled a.object a.monitor a.mark w)) (sym c.encode_owner-owner.ensures)
-    (prepares h a.pass.now e Settled a.object a.monitor a.mark (owner_of Free) (neutral_named e a.object a.mark a.monitor) c.requires.due)
+prepare-requires-clause-due c = part_of (λ _. neutral_named c.args.call.now c.args.object c.args.mark c.args.monitor)
+    (preparing (goal.at.prepare-requires-clause-due c).After-encode_owner-owner)
 
 pub encode-named-requires : goal.encode-named-requires
-encode-named-requires c =
-    let a = c.args in
-    let e = a.call.now in
-    fits_mark a.heap.now a.pass.now e Settled a.object a.monitor a.mark (owner_of Free)
-    (neutral_named e a.object a.mark a.monitor) c.requires.due c.requires.heap
+encode-named-requires c = fits_mark c.args.heap.now c.args.pass.now c.args.call.now _ _ c.args.monitor _ _
+    (neutral_named c.args.call.now c.args.object c.args.mark c.args.monitor) c.requires.due c.requires.heap
 
 pub exchange_and_keep-found-requires : goal.exchange_and_keep-found-requires
-exchange_and_keep-found-requires c =
-    let a = c.args in
-    let h = a.heap.now in
-    let e = a.call.now in
-    let o = a.object in
-    let m = a.monitor in
-    let u = c.prepare.new.pass in
-    let run = subst (λ w. HasMadeSteps h (prepare_steps e Settled o m a.mark w) a.pass.now u tt) c.encode_owner-owner.ensures c.prepare.ensures in
-    let named = prepared h a.pass.now e Settled o m a.mark (owner_of Free) (neutral_named e o a.mark m) c.requires.due u run in
-    let same = names_neutral e o a.mark m c.encode-named.result c.encode-named.ensures in
-    subst (CanStep h u) (sym same) (can h u e.task (name_neutral_plan e o a.mark m) _ named refl run.heap tt refl)
+exchange_and_keep-found-requires c = can_make (prepared (goal.at.exchange_and_keep-found-requires c).After-prepare)
+    (names_neutral c.args.call.now c.args.object c.args.mark c.args.monitor _ c.encode-named.ensures) refl refl tt
 
 pub returns-then-found-mark : goal.returns-then-found-mark
 returns-then-found-mark c =
-    let a = c.args in
-    let h = a.heap.now in
-    let e = a.call.now in
-    let o = a.object in
-    let m = a.monitor in
-    let u = c.prepare.new.pass in
-    let v = c.exchange_and_keep-found.new.pass in
-    let found = c.exchange_and_keep-found.result in
-    let run = subst (λ w. HasMadeSteps h (prepare_steps e Settled o m a.mark w) a.pass.now u tt) c.encode_owner-owner.ensures c.prepare.ensures in
-    let same = names_neutral e o a.mark m c.encode-named.result c.encode-named.ensures in
-    let s = subst (λ (x : StepPlan). HasStepped h u v x found) same c.exchange_and_keep-found.ensures in
-    let miss : (found == a.mark) ≡ false = ne_eqb _ _ c.if-found-mark.true in
-    let out = Pending (why.Raced a.mark found) in
-    in_turn h a.pass.now u v (prepare_steps e Settled o m a.mark (owner_of Free)) (λ _. neutral_named e o a.mark m) tt out run
-    (stepped h u v v (name_neutral_plan e o a.mark m) _ found out s refl
-    (run_else h v (found == a.mark) (done_with m) (pending_for (why.Raced a.mark found)) v out miss (ends h v out s.heap)))
+    let named = step_made (prepared (goal.at.returns-then-found-mark c).After-prepare)
+    (names_neutral c.args.call.now c.args.object c.args.mark c.args.monitor _ c.encode-named.ensures) refl refl c.exchange_and_keep-found.ensures in
+    all_made (left_else _ _ _ named (ne_eqb _ _ c.if-found-mark.true))
 
 pub returns : goal.returns
 returns c =
-    let a = c.args in
-    let h = a.heap.now in
-    let e = a.call.now in
-    let o = a.object in
-    let m = a.monitor in
-    let u = c.prepare.new.pass in
-    let v = c.exchange_and_keep-found.new.pass in
-    let found = c.exchange_and_keep-found.result in
-    let run = subst (λ w. HasMadeSteps h (prepare_steps e Settled o m a.mark w) a.pass.now u tt) c.encode_owner-owner.ensures c.prepare.ensures in
-    let same = names_neutral e o a.mark m c.encode-named.result c.encode-named.ensures in
-    let s = subst (λ (x : StepPlan). HasStepped h u v x found) same c.exchange_and_keep-found.ensures in
-    let hit : (found == a.mark) ≡ true = eq-eqb _ _ c.if-found-mark.false in
-    in_turn h a.pass.now u v (prepare_steps e Settled o m a.mark (owner_of Free)) (λ _. neutral_named e o a.mark m) tt (Done m) run
-    (stepped h u v v (name_neutral_plan e o a.mark m) _ found (Done m) s refl
-    (run_then h v (found == a.mark) (done_with m) (pending_for (why.Raced a.mark found)) v (Done m) hit (ends h v (Done m) s.heap)))
+    let named = step_made (prepared (goal.at.returns c).After-prepare)
+    (names_neutral c.args.call.now c.args.object c.args.mark c.args.monitor _ c.encode-named.ensures) refl refl c.exchange_and_keep-found.ensures in
+    all_made (left_then _ _ _ named (eq-eqb _ _ c.if-found-mark.false))

@@ -1,120 +1,68 @@
-use Rattle.std.proofs.Common.{◌≡◌, ℕ, List, Some, None, take, sym, ap, ◌∙◌, subst}
-use Rattle.plain_monitor.specs.declared.entry.Entry.TheVariants as entry
-use Rattle.core_world.specs.Threads.ThreadView.{Local, local_of}
-use Rattle.core_world.specs.Trees.StepTree.{StepTree, done}
-use Rattle.core_world.specs.Trees.WaitSteps.{look_steps, waiters, by_age, publish_steps, notify_listed}
+use Rattle.std.proofs.Common.{◌≡◌, ◌<◌, length, refl, sym, ap, ◌∙◌}
+use Rattle.core_world.specs.Threads.ThreadView.{local_of}
+use Rattle.core_world.specs.Trees.StepTree.{done}
+use Rattle.core_world.specs.Trees.WaitSteps.{waiters, by_age, notify_listed, monitor_notify_all_steps}
 use Rattle.core_world.specs.Words.Shape.{Shape}
-use Rattle.core_world.proofs.CallRests.{part_due}
-use Rattle.heap_table.specs.Parts.{IsDueOn, HasMadeSteps}
 use Rattle.heap_table.proofs.Aside.{room_aside}
-use Rattle.heap_table.proofs.Parts.{in_turn, ends}
 use Rattle.object_monitor.specs.inner.NotifyParts.{first_of}
-use Rattle.object_monitor.proofs.Looking.{looks_aside, look_then}
-use Rattle.object_monitor.proofs.Waking.{some_listed, none_listed, none_to_notify, waiting}
+use Rattle.stack_lock.proofs.StepsLeft.{AreLeft, all_left, left_as, part_of, last_made}
+use Rattle.object_monitor.proofs.Looking.{looks_aside, look_left}
+use Rattle.object_monitor.proofs.Waking.{some_listed, none_listed, waiting}
 use Rattle.object_monitor.proofs.notifies.monitor_notify_all.Goals as goal
+use Rattle.object_monitor.proofs.notifies.monitor_notify_all.Goals.{After-look-words, After-oldest}
 
 pub look-words-requires-clause-due : goal.look-words-requires-clause-due
 look-words-requires-clause-due c =
-    let a = c.args in
-    let h = a.heap.now in
-    let e = a.call.now in
-    let k = local_of a.pass.now.known in
-    let rest : List ℕ → StepTree ℕ = λ words. notify_listed (by_age (waiters a.object 0 words)) e k a.object in
-    part_due h.heap.shape h.heap.start h.heap.biasing a.pass.now.known e.task (look_steps e h.heap.shape.threads) rest c.requires.due
+    part_of (λ words. notify_listed (by_age (waiters c.args.object 0 words)) c.args.call.now (local_of c.args.pass.now.known) c.args.object)
+    (all_left c.requires.heap c.requires.due)
+
+-- the words are looked at,
+looked : (c : After-look-words) → AreLeft c.args.heap.now c.args.call.now.task c.args.pass.now
+    (monitor_notify_all_steps c.args.call.now (local_of c.args.pass.now.known) c.args.heap.now.heap.shape.threads c.args.object) c.look-words.new.pass
+    (notify_listed (waiting c.args.object c.args.heap.now.heap.shape.threads c.look-words.result) c.args.call.now (local_of c.look-words.new.pass.known)
+    c.args.object)
+looked c =
+    let h = c.args.heap.now in
+    let e = c.args.call.now in
+    let o = c.args.object in
+    let n = h.heap.shape.threads in
+    let local = (looks_aside h c.args.pass.now c.look-words.new.pass e n _ c.look-words.ensures).local in
+    left_as (look_left e n (λ words. notify_listed (by_age (waiters o 0 words)) e (local_of c.args.pass.now.known) o) c.requires.heap.within
+    c.look-words.ensures (all_left c.requires.heap c.requires.due))
+    (λ i. notify_listed (waiting o n c.look-words.result) e (sym local i) o)
+
+-- and the first waiter is found
+first_is : (c : After-oldest) → c.oldest.result ≡ first_of (waiting c.args.object c.args.heap.now.heap.shape.threads c.look-words.result)
+first_is c = c.oldest.ensures
+    ∙ ap (λ m. first_of (waiting c.args.object m c.look-words.result)) (c.threads.ensures.same ∙ ap (λ (s : Shape). s.threads) c.shape.ensures)
+
+room : (c : After-look-words) → length c.look-words.new.pass.known.log < c.look-words.new.pass.limit
+room c = room_aside c.args.pass.now c.look-words.new.pass
+    (looks_aside c.args.heap.now c.args.pass.now c.look-words.new.pass c.args.call.now c.args.heap.now.heap.shape.threads _ c.look-words.ensures)
+    c.look-words.ensures.limit c.requires.room
 
 pub notify_those-requires-clause-due : goal.notify_those-requires-clause-due
 notify_those-requires-clause-due c =
-    let a = c.args in
-    let h = a.heap.now in
-    let e = a.call.now in
-    let o = a.object in
-    let n = h.heap.shape.threads in
-    let k = local_of a.pass.now.known in
-    let q = c.look-words.new.pass in
-    let words = c.look-words.result in
-    let rest : List ℕ → StepTree ℕ = λ xs. notify_listed (by_age (waiters o 0 xs)) e k o in
-    let all : c.threads.result ≡ n = c.threads.ensures.same ∙ ap (λ (s : Shape). s.threads) c.shape.ensures in
-    let some : first_of (waiting o n words) ≡ Some c.in-Some.first =
-    sym (c.oldest.ensures ∙ ap (λ m. first_of (waiting o m words)) all) ∙ c.in-Some.is in
-    let then = look_then h a.pass.now q e n rest (take n words) c.requires.heap.within c.requires.due c.look-words.ensures in
-    subst (λ (d : StepTree ℕ). IsDueOn h q e.task d) (some_listed (waiting o n words) c.in-Some.first e k o some) then
+    let z = goal.at.notify_those-requires-clause-due c in
+    (left_as (looked z.After-look-words) (some_listed _ _ _ _ _ (sym (first_is z.After-oldest) ∙ c.in-Some.is))).due
 
 pub notify_those-requires-clause-room : goal.notify_those-requires-clause-room
-notify_those-requires-clause-room c =
-    let a = c.args in
-    let h = a.heap.now in
-    let n = h.heap.shape.threads in
-    let q = c.look-words.new.pass in
-    room_aside a.pass.now q (looks_aside h a.pass.now q a.call.now n (take n c.look-words.result) c.look-words.ensures)
-    c.look-words.ensures.limit c.requires.room
+notify_those-requires-clause-room c = room (goal.at.notify_those-requires-clause-room c).After-look-words
 
 pub publish-requires-clause-room : goal.publish-requires-clause-room
-publish-requires-clause-room c =
-    let a = c.args in
-    let h = a.heap.now in
-    let n = h.heap.shape.threads in
-    let q = c.look-words.new.pass in
-    room_aside a.pass.now q (looks_aside h a.pass.now q a.call.now n (take n c.look-words.result) c.look-words.ensures)
-    c.look-words.ensures.limit c.requires.room
+publish-requires-clause-room c = room (goal.at.publish-requires-clause-room c).After-look-words
 
 pub publish-requires-clause-due : goal.publish-requires-clause-due
 publish-requires-clause-due c =
-    let a = c.args in
-    let h = a.heap.now in
-    let e = a.call.now in
-    let o = a.object in
-    let n = h.heap.shape.threads in
-    let k = local_of a.pass.now.known in
-    let q = c.look-words.new.pass in
-    let words = c.look-words.result in
-    let rest : List ℕ → StepTree ℕ = λ xs. notify_listed (by_age (waiters o 0 xs)) e k o in
-    let all : c.threads.result ≡ n = c.threads.ensures.same ∙ ap (λ (s : Shape). s.threads) c.shape.ensures in
-    let none : first_of (waiting o n words) ≡ None = sym (c.oldest.ensures ∙ ap (λ m. first_of (waiting o m words)) all) ∙ c.in-None.is in
-    let local = (looks_aside h a.pass.now q e n (take n words) c.look-words.ensures).local in
-    let then = look_then h a.pass.now q e n rest (take n words) c.requires.heap.within c.requires.due c.look-words.ensures in
-    let due = subst (λ (d : StepTree ℕ). IsDueOn h q e.task d) (none_listed (waiting o n words) e k o none) then in
-    let at_end : StepTree ℕ = done 0 in
-    subst (λ (l : Local). IsDueOn h q e.task (publish_steps (entry.NotifyAll o 0) e l)) (sym local)
-    (part_due h.heap.shape h.heap.start h.heap.biasing q.known e.task (publish_steps (entry.NotifyAll o 0) e k) (λ _. at_end) due)
+    let z = goal.at.publish-requires-clause-due c in
+    part_of (λ _. done 0) (left_as (looked z.After-look-words) (none_listed _ _ _ _ (sym (first_is z.After-oldest) ∙ c.in-None.is)))
 
 pub returns-in-Some : goal.returns-in-Some
 returns-in-Some c =
-    let a = c.args in
-    let h = a.heap.now in
-    let e = a.call.now in
-    let o = a.object in
-    let n = h.heap.shape.threads in
-    let k = local_of a.pass.now.known in
-    let q = c.look-words.new.pass in
-    let r = c.notify_those.new.pass in
-    let words = c.look-words.result in
-    let rest : List ℕ → StepTree ℕ = λ xs. notify_listed (by_age (waiters o 0 xs)) e k o in
-    let all : c.threads.result ≡ n = c.threads.ensures.same ∙ ap (λ (s : Shape). s.threads) c.shape.ensures in
-    let some : first_of (waiting o n words) ≡ Some c.in-Some.first =
-    sym (c.oldest.ensures ∙ ap (λ m. first_of (waiting o m words)) all) ∙ c.in-Some.is in
-    let same = some_listed (waiting o n words) c.in-Some.first e k o some in
-    in_turn h a.pass.now q r (look_steps e n) rest (take n words) c.notify_those.result c.look-words.ensures
-    (subst (λ (d : StepTree ℕ). HasMadeSteps h d q r c.notify_those.result) (sym same) c.notify_those.ensures)
+    let z = goal.at.returns-in-Some c in
+    (left_as (looked z.After-look-words) (some_listed _ _ _ _ _ (sym (first_is z.After-oldest) ∙ c.in-Some.is))).whole _ _ c.notify_those.ensures
 
 pub returns-in-None : goal.returns-in-None
 returns-in-None c =
-    let a = c.args in
-    let h = a.heap.now in
-    let e = a.call.now in
-    let o = a.object in
-    let n = h.heap.shape.threads in
-    let k = local_of a.pass.now.known in
-    let q = c.look-words.new.pass in
-    let r = c.publish.new.pass in
-    let words = c.look-words.result in
-    let rest : List ℕ → StepTree ℕ = λ xs. notify_listed (by_age (waiters o 0 xs)) e k o in
-    let all : c.threads.result ≡ n = c.threads.ensures.same ∙ ap (λ (s : Shape). s.threads) c.shape.ensures in
-    let none : first_of (waiting o n words) ≡ None = sym (c.oldest.ensures ∙ ap (λ m. first_of (waiting o m words)) all) ∙ c.in-None.is in
-    let local = (looks_aside h a.pass.now q e n (take n words) c.look-words.ensures).local in
-    let same = none_listed (waiting o n words) e k o none in
-    let published = subst (λ (l : Local). HasMadeSteps h (publish_steps (entry.NotifyAll o 0) e l) q r tt) local c.publish.ensures in
-    let at_end : StepTree ℕ = done 0 in
-    let run : HasMadeSteps h (none_to_notify e k o) q r 0 =
-    in_turn h q r r (publish_steps (entry.NotifyAll o 0) e k) (λ _. at_end) tt 0 published (ends h r 0 published.heap) in
-    in_turn h a.pass.now q r (look_steps e n) rest (take n words) 0 c.look-words.ensures
-    (subst (λ (d : StepTree ℕ). HasMadeSteps h d q r 0) (sym same) run)
+    let z = goal.at.returns-in-None c in
+    last_made (λ _. done 0) c.publish.ensures refl (left_as (looked z.After-look-words) (none_listed _ _ _ _ (sym (first_is z.After-oldest) ∙ c.in-None.is)))

@@ -1,20 +1,14 @@
-use Rattle.std.proofs.Common.{◌≡◌, ◌+◌, ◌<◌, length, refl, sym, ap, ◌∙◌, subst, arith}
+use Rattle.std.proofs.Common.{◌+◌, refl, ap, ◌∙◌, arith}
 use Rattle.mark_word.specs.declared.wait.WaitForm.TheVariants as wait
 use Rattle.mark_word.specs.Wait.{wait_of}
 use Rattle.plain_monitor.specs.declared.entry.Entry.TheVariants as entry
-use Rattle.core_world.specs.declared.act.Act.TheVariants.{FetchMax}
-use Rattle.core_world.specs.declared.word_id.WordId.TheVariants.{Stamp, Waiting}
-use Rattle.core_world.specs.declared.plan.StepPlan.{StepPlan}
+use Rattle.core_world.specs.declared.word_id.WordId.TheVariants.{Waiting}
 use Rattle.core_world.specs.declared.stage.Stage.TheVariants.{Waits}
-use Rattle.core_world.specs.Threads.ThreadView.{ThreadView, local_of}
 use Rattle.core_world.specs.Trees.LockSteps.{raise_stamp_plan}
-use Rattle.core_world.specs.Trees.Plans.{quiet_plan, next_stamp}
-use Rattle.core_world.specs.Trees.WaitSteps.{log_wait_plan}
 use Rattle.heap_table.specs.StepPlans.{log_store_within_plan}
-use Rattle.heap_table.specs.Stepping.{CanStep, HasStepped}
-use Rattle.heap_table.proofs.Parts.{can, rest_due}
 use Rattle.heap_table.proofs.Ruled.{few_objects}
 use Rattle.heap_table.proofs.Stamps.{low}
+use Rattle.stack_lock.proofs.StepsLeft.{all_left, can_make, step_made, thread_stays, room_after}
 use Rattle.object_monitor.proofs.waits.log_wait.Goals as goal
 
 pub overflow_add-stamp : goal.overflow_add-stamp
@@ -24,13 +18,8 @@ overflow_add-stamp c =
     omega (arith, l, is)
 
 pub raise-requires : goal.raise-requires
-raise-requires c =
-    let a = c.args in
-    let e = a.call.now in
-    let plan = raise_stamp_plan e a.object (next_stamp (local_of a.pass.now.known)) in
-    let same : quiet_plan e (Stamp a.object) (FetchMax (c.last_stamp-stamp.result + 1)) ≡ plan =
-    ap (λ w. quiet_plan e (Stamp a.object) (FetchMax (w + 1))) c.last_stamp-stamp.ensures in
-    subst (CanStep a.heap.now a.pass.now) (sym same) (can a.heap.now a.pass.now e.task plan _ c.requires.due refl c.requires.heap tt refl)
+raise-requires c = can_make (all_left c.requires.heap c.requires.due)
+    (ap (λ n. raise_stamp_plan c.args.call.now c.args.object (n + 1)) c.last_stamp-stamp.ensures) refl refl tt
 
 pub encode_wait-word-requires : goal.encode_wait-word-requires
 encode_wait-word-requires c =
@@ -42,24 +31,9 @@ encode_wait-word-requires c =
 
 pub log_store_within-requires : goal.log_store_within-requires
 log_store_within-requires c =
-    let a = c.args in
-    let h = a.heap.now in
-    let e = a.call.now in
-    let o = a.object in
-    let k = a.pass.now.known in
-    let q = c.raise.new.pass in
-    let plan = raise_stamp_plan e o (next_stamp (local_of k)) in
-    let raising : quiet_plan e (Stamp o) (FetchMax (c.last_stamp-stamp.result + 1)) ≡ plan =
-    ap (λ w. quiet_plan e (Stamp o) (FetchMax (w + 1))) c.last_stamp-stamp.ensures in
-    let s = subst (λ (x : StepPlan). HasStepped h a.pass.now q x c.raise.result) raising c.raise.ensures in
-    let thread : c.thread.result ≡ k.thread = c.thread.ensures.same ∙ ap (λ (x : ThreadView). x.thread) s.known in
-    let word : c.encode_wait-word.result ≡ wait_of (wait.Waiting o (next_stamp (local_of k))) =
-    c.encode_wait-word.ensures ∙ ap (λ n. wait_of (wait.Waiting o (n + 1))) c.last_stamp-stamp.ensures in
-    let logging = log_wait_plan e k.thread o (next_stamp (local_of k)) in
-    let same : log_store_within_plan e (Waits o) (Waiting c.thread.result) c.encode_wait-word.result (entry.Wait o) ≡ logging =
-    λ i. log_store_within_plan e (Waits o) (Waiting (thread i)) (word i) (entry.Wait o) in
-    let logs : length q.known.log ≡ length k.log = ap (λ (x : ThreadView). length x.log) s.known in
-    let limit : q.limit ≡ a.pass.now.limit = s.limit in
-    let room : length q.known.log < q.limit = omega (arith, logs, limit, c.requires.room) in
-    let rest = rest_due h a.pass.now e.task plan _ c.requires.due refl q c.raise.result s in
-    subst (CanStep h q) (sym same) (can h q e.task logging _ rest refl s.heap room refl)
+    let raised = step_made (all_left c.requires.heap c.requires.due)
+    (ap (λ n. raise_stamp_plan c.args.call.now c.args.object (n + 1)) c.last_stamp-stamp.ensures) refl refl c.raise.ensures in
+    let thread = c.thread.ensures.same ∙ thread_stays c.raise.ensures in
+    let word = c.encode_wait-word.ensures ∙ ap (λ n. wait_of (wait.Waiting c.args.object (n + 1))) c.last_stamp-stamp.ensures in
+    can_make raised (λ i. log_store_within_plan c.args.call.now (Waits c.args.object) (Waiting (thread i)) (word i) (entry.Wait c.args.object))
+    refl refl (room_after c.raise.ensures refl refl refl c.requires.room)

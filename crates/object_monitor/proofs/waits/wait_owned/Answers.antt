@@ -1,48 +1,30 @@
-use Rattle.std.proofs.Common.{◌≡◌, refl, sym, ap, subst}
-use Rattle.core_world.specs.Threads.ThreadView.{Local, local_of}
-use Rattle.core_world.specs.Trees.LockSteps.{raise_stamp_plan}
-use Rattle.core_world.specs.Trees.Plans.{next_stamp}
+use Rattle.std.proofs.Common.{refl, sym, ap}
+use Rattle.core_world.specs.Threads.ThreadView.{local_of}
 use Rattle.core_world.specs.Trees.StepTree.{done, ◌>>=◌}
-use Rattle.core_world.specs.Trees.WaitSteps.{save_count_plan}
-use Rattle.core_world.proofs.CallRests.{part_due}
-use Rattle.heap_table.specs.Parts.{IsDueOn, HasMadeSteps}
-use Rattle.heap_table.proofs.Parts.{can, rest_due, part_then}
-use Rattle.object_monitor.specs.inner.WaitParts.{stamped_wait, quit_steps}
+use Rattle.object_monitor.specs.inner.WaitParts.{owned_wait, stamped_wait, quit_steps}
+use Rattle.stack_lock.proofs.StepsLeft.{AreLeft, all_left, can_make, step_made, left_as, part_of, after_part}
 use Rattle.object_monitor.proofs.waits.wait_owned.Goals as goal
+use Rattle.object_monitor.proofs.waits.wait_owned.Goals.{After-load_and_keep-recursions}
 
 pub load_and_keep-recursions-requires : goal.load_and_keep-recursions-requires
-load_and_keep-recursions-requires c =
-    let a = c.args in
-    can a.heap.now a.pass.now a.call.now.task (save_count_plan a.call.now a.monitor) _ c.requires.due refl c.requires.heap tt refl
+load_and_keep-recursions-requires c = can_make (all_left c.requires.heap c.requires.due) refl refl refl tt
+
+saved : (c : After-load_and_keep-recursions) → AreLeft c.args.heap.now c.args.call.now.task c.args.pass.now
+    (owned_wait c.args.call.now (local_of c.args.pass.now.known) c.args.object c.args.monitor) c.load_and_keep-recursions.new.pass
+    (stamped_wait c.args.call.now (local_of c.load_and_keep-recursions.new.pass.known) c.args.object
+    >>= (λ _. quit_steps c.args.call.now c.args.object c.args.monitor >>= (λ _. done c.load_and_keep-recursions.result)))
+saved c =
+    let local = ap local_of c.load_and_keep-recursions.ensures.known in
+    left_as (step_made (all_left c.requires.heap c.requires.due) refl refl refl c.load_and_keep-recursions.ensures)
+    (λ i. stamped_wait c.args.call.now (sym local i) c.args.object
+    >>= (λ _. quit_steps c.args.call.now c.args.object c.args.monitor >>= (λ _. done c.load_and_keep-recursions.result)))
 
 pub log_wait-requires-clause-due : goal.log_wait-requires-clause-due
 log_wait-requires-clause-due c =
-    let a = c.args in
-    let h = a.heap.now in
-    let e = a.call.now in
-    let l = local_of a.pass.now.known in
-    let q = c.load_and_keep-recursions.new.pass in
-    let n = c.load_and_keep-recursions.result in
-    let s = c.load_and_keep-recursions.ensures in
-    let local : local_of q.known ≡ l = ap local_of s.known in
-    let rest = rest_due h a.pass.now e.task (save_count_plan e a.monitor) _ c.requires.due refl q n s in
-    subst (λ (x : Local). IsDueOn h q e.task (stamped_wait e x a.object)) (sym local)
-    (part_due h.heap.shape h.heap.start h.heap.biasing q.known e.task (stamped_wait e l a.object)
-    (λ _. quit_steps e a.object a.monitor >>= (λ _. done n)) rest)
+    part_of (λ _. quit_steps c.args.call.now c.args.object c.args.monitor >>= (λ _. done c.load_and_keep-recursions.result))
+    (saved (goal.at.log_wait-requires-clause-due c).After-load_and_keep-recursions)
 
 pub quit-requires-clause-due : goal.quit-requires-clause-due
-quit-requires-clause-due c =
-    let a = c.args in
-    let h = a.heap.now in
-    let e = a.call.now in
-    let l = local_of a.pass.now.known in
-    let q = c.load_and_keep-recursions.new.pass in
-    let r = c.log_wait.new.pass in
-    let n = c.load_and_keep-recursions.result in
-    let s = c.load_and_keep-recursions.ensures in
-    let local : local_of q.known ≡ l = ap local_of s.known in
-    let rest = rest_due h a.pass.now e.task (save_count_plan e a.monitor) _ c.requires.due refl q n s in
-    let logged = subst (λ (x : Local). HasMadeSteps h (stamped_wait e x a.object) q r tt) local c.log_wait.ensures in
-    part_due h.heap.shape h.heap.start h.heap.biasing r.known e.task (quit_steps e a.object a.monitor) (λ _. done n)
-    (part_then h q r e.task (raise_stamp_plan e a.object (next_stamp l)) _
-    (λ _. quit_steps e a.object a.monitor >>= (λ _. done n)) tt rest refl logged)
+quit-requires-clause-due c = part_of (λ _. done c.load_and_keep-recursions.result)
+    (after_part (λ _. quit_steps c.args.call.now c.args.object c.args.monitor >>= (λ _. done c.load_and_keep-recursions.result)) c.log_wait.ensures refl
+    (saved (goal.at.quit-requires-clause-due c).After-load_and_keep-recursions))
