@@ -1,62 +1,41 @@
 use Rattle.std.proofs.Common.{refl, subst}
-use Rattle.core_world.specs.declared.answer.Progress.TheVariants.{Done, Pending}
-use Rattle.core_world.specs.declared.word_id.WordId.TheVariants.{Mark}
-use Rattle.core_world.specs.Trees.HashSteps.{NextDraw, hash_inflated}
+use Rattle.core_world.specs.Trees.HashSteps.{hash_inflate_steps, hash_inflated, hash_monitor_steps}
 use Rattle.core_world.specs.Trees.MonitorSteps.{inflate_steps}
-use Rattle.core_world.specs.Trees.Plans.{load}
-use Rattle.core_world.proofs.CallRests.{part_due}
 use Rattle.heap_table.specs.Parts.{HasMadeSteps}
-use Rattle.heap_table.proofs.Parts.{part_then, in_turn, ends}
+use Rattle.object_monitor.proofs.StepsLeft.{AreLeft, all_left, part_of, after_part, last_made}
 use Rattle.identity_hash.proofs.Silent.{room_after, inflating}
 use Rattle.identity_hash.proofs.hashes.hash_inflate.Goals as goal
+use Rattle.identity_hash.proofs.hashes.hash_inflate.Goals.{In-Done}
 
 pub inflate-requires-clause-due : goal.inflate-requires-clause-due
-inflate-requires-clause-due c =
-    let a = c.args in
-    let h = a.heap.now in
-    let e = a.call.now in
-    let k = a.pass.now.known in
-    let d : NextDraw = record { number = a.number; value = a.value } in
-    part_due h.heap.shape h.heap.start h.heap.biasing k e.task (inflate_steps h.heap.shape e k.kept a.object) (hash_inflated e d a.object) c.requires.due
+inflate-requires-clause-due c = part_of (hash_inflated c.args.call.now (record { number = c.args.number; value = c.args.value }) c.args.object)
+    (all_left c.requires.heap c.requires.due)
+
+inflated : (c : In-Done) → AreLeft c.args.heap.now c.args.call.now.task c.args.pass.now
+    (hash_inflate_steps c.args.heap.now.heap.shape c.args.call.now c.args.pass.now.known.kept (record { number = c.args.number; value = c.args.value })
+    c.args.object) c.inflate.new.pass
+    (hash_monitor_steps c.args.call.now (record { number = c.args.number; value = c.args.value }) c.args.object c.in-Done.monitor)
+inflated c =
+    let run = subst (HasMadeSteps c.args.heap.now (inflate_steps c.args.heap.now.heap.shape c.args.call.now c.args.pass.now.known.kept c.args.object)
+    c.args.pass.now c.inflate.new.pass) c.in-Done.is c.inflate.ensures.run in
+    after_part (hash_inflated c.args.call.now (record { number = c.args.number; value = c.args.value }) c.args.object) run refl
+    (all_left c.requires.heap c.requires.due)
 
 pub hash_monitor-requires-clause-due : goal.hash_monitor-requires-clause-due
-hash_monitor-requires-clause-due c =
-    let a = c.args in
-    let h = a.heap.now in
-    let e = a.call.now in
-    let d : NextDraw = record { number = a.number; value = a.value } in
-    let q = c.inflate.new.pass in
-    let run = subst (HasMadeSteps h (inflate_steps h.heap.shape e a.pass.now.known.kept a.object) a.pass.now q) c.in-Done.is c.inflate.ensures.run in
-    part_then h a.pass.now q e.task (load e (Mark a.object)) _ (hash_inflated e d a.object) (Done c.in-Done.monitor) c.requires.due refl run
+hash_monitor-requires-clause-due c = (inflated (goal.at.hash_monitor-requires-clause-due c).In-Done).due
 
 pub hash_monitor-requires-clause-room : goal.hash_monitor-requires-clause-room
 hash_monitor-requires-clause-room c =
-    let a = c.args in
-    let e = a.call.now in
-    let kept = a.pass.now.known.kept in
-    let s = a.heap.now.heap.shape in
-    room_after a.heap.now (inflate_steps s e kept a.object) a.pass.now c.inflate.new.pass c.inflate.result
-    (inflating s e kept a.object) c.inflate.ensures.run c.requires.room
+    room_after c.args.heap.now (inflate_steps c.args.heap.now.heap.shape c.args.call.now c.args.pass.now.known.kept c.args.object) c.args.pass.now
+    c.inflate.new.pass c.inflate.result (inflating c.args.heap.now.heap.shape c.args.call.now c.args.pass.now.known.kept c.args.object)
+    c.inflate.ensures.run c.requires.room
 
 pub returns-in-Done : goal.returns-in-Done
-returns-in-Done c =
-    let a = c.args in
-    let h = a.heap.now in
-    let e = a.call.now in
-    let d : NextDraw = record { number = a.number; value = a.value } in
-    let q = c.inflate.new.pass in
-    let first = inflate_steps h.heap.shape e a.pass.now.known.kept a.object in
-    let run = subst (HasMadeSteps h first a.pass.now q) c.in-Done.is c.inflate.ensures.run in
-    in_turn h a.pass.now q c.hash_monitor.new.pass first (hash_inflated e d a.object) (Done c.in-Done.monitor) c.hash_monitor.result run c.hash_monitor.ensures
+returns-in-Done c = (inflated (goal.at.returns-in-Done c).In-Done).whole _ _ c.hash_monitor.ensures
 
 pub returns-in-Pending : goal.returns-in-Pending
 returns-in-Pending c =
-    let a = c.args in
-    let h = a.heap.now in
-    let e = a.call.now in
-    let d : NextDraw = record { number = a.number; value = a.value } in
-    let q = c.inflate.new.pass in
-    let first = inflate_steps h.heap.shape e a.pass.now.known.kept a.object in
-    let run = subst (HasMadeSteps h first a.pass.now q) c.in-Pending.is c.inflate.ensures.run in
-    let out = Pending c.in-Pending.reason in
-    in_turn h a.pass.now q q first (hash_inflated e d a.object) out out run (ends h q out run.heap)
+    let run = subst (HasMadeSteps c.args.heap.now (inflate_steps c.args.heap.now.heap.shape c.args.call.now c.args.pass.now.known.kept c.args.object)
+    c.args.pass.now c.inflate.new.pass) c.in-Pending.is c.inflate.ensures.run in
+    last_made (hash_inflated c.args.call.now (record { number = c.args.number; value = c.args.value }) c.args.object) run refl
+    (all_left c.requires.heap c.requires.due)

@@ -1,68 +1,38 @@
-use Rattle.std.proofs.Common.{◌≡◌, ◌==◌, true, false, refl, sym, ap, ◌∙◌, subst, eq-eqb, ne_eqb}
-use Rattle.core_world.specs.declared.answer.Progress.TheVariants.{Done}
+use Rattle.std.proofs.Common.{◌==◌, if◌then◌else◌, refl, sym, ap, ◌∙◌, eq-eqb, ne_eqb}
 use Rattle.core_world.specs.declared.word_id.WordId.TheVariants.{Header}
-use Rattle.core_world.specs.Trees.HashSteps.{NextDraw, find_hash_plan, draw_steps, hash_monitor_steps}
+use Rattle.core_world.specs.Trees.HashSteps.{draw_steps, hash_monitor_steps}
 use Rattle.core_world.specs.Trees.Plans.{done_with}
-use Rattle.core_world.specs.Words.Forms.{hash_in}
-use Rattle.heap_table.specs.Parts.{HasMadeSteps}
-use Rattle.heap_table.proofs.Parts.{can, rest_due, stepped, ends}
-use Rattle.heap_table.proofs.Arms.{due_then, run_then, run_else}
+use Rattle.object_monitor.proofs.StepsLeft.{AreLeft, all_left, can_make, step_made, left_as, left_then, left_else, all_made}
 use Rattle.identity_hash.proofs.Finding.{room_left}
 use Rattle.identity_hash.proofs.hashes.hash_monitor.Goals as goal
+use Rattle.identity_hash.proofs.hashes.hash_monitor.Goals.{After-hash_of_word-hash}
 
 pub find_hash-header-requires : goal.find_hash-header-requires
-find_hash-header-requires c =
-    let a = c.args in
-    can a.heap.now a.pass.now a.call.now.task (find_hash_plan a.call.now (Header a.monitor) a.object) _ c.requires.due refl c.requires.heap c.requires.room refl
+find_hash-header-requires c = can_make (all_left c.requires.heap c.requires.due) refl refl refl c.requires.room
+
+-- the hash in the header is found
+found : (c : After-hash_of_word-hash) → AreLeft c.args.heap.now c.args.call.now.task c.args.pass.now
+    (hash_monitor_steps c.args.call.now (record { number = c.args.number; value = c.args.value }) c.args.object c.args.monitor) c.find_hash-header.new.pass
+    (if c.hash_of_word-hash.result == 0
+    then draw_steps c.args.call.now (record { number = c.args.number; value = c.args.value }) (Header c.args.monitor) c.args.object c.find_hash-header.result
+    else done_with c.hash_of_word-hash.result)
+found c = left_as (step_made (all_left c.requires.heap c.requires.due) refl refl refl c.find_hash-header.ensures)
+    (ap (λ n. if n == 0
+    then draw_steps c.args.call.now (record { number = c.args.number; value = c.args.value }) (Header c.args.monitor) c.args.object c.find_hash-header.result
+    else done_with n) (sym c.hash_of_word-hash.ensures))
 
 pub returns-then-hash-ne0 : goal.returns-then-hash-ne0
 returns-then-hash-ne0 c =
-    let a = c.args in
-    let h = a.heap.now in
-    let e = a.call.now in
-    let d : NextDraw = record { number = a.number; value = a.value } in
-    let at = Header a.monitor in
-    let q = c.find_hash-header.new.pass in
-    let header = c.find_hash-header.result in
-    let s = c.find_hash-header.ensures in
-    let has : (hash_in header == 0) ≡ false = ap (λ n. n == 0) (sym c.hash_of_word-hash.ensures) ∙ ne_eqb _ _ c.if-hash-ne0.true in
-    let out = Done (hash_in header) in
-    subst (λ n. HasMadeSteps h (hash_monitor_steps e d a.object a.monitor) a.pass.now q (Done n)) (sym c.hash_of_word-hash.ensures)
-    (stepped h a.pass.now q q (find_hash_plan e at a.object) _ header out s refl
-    (run_else h q (hash_in header == 0) (draw_steps e d at a.object header) (done_with (hash_in header)) q out has (ends h q out s.heap)))
+    all_made (left_else _ _ _ (found (goal.at.returns-then-hash-ne0 c).After-hash_of_word-hash) (ne_eqb _ _ c.if-hash-ne0.true))
 
 pub draw-requires-clause-due : goal.draw-requires-clause-due
 draw-requires-clause-due c =
-    let a = c.args in
-    let h = a.heap.now in
-    let e = a.call.now in
-    let d : NextDraw = record { number = a.number; value = a.value } in
-    let at = Header a.monitor in
-    let q = c.find_hash-header.new.pass in
-    let header = c.find_hash-header.result in
-    let s = c.find_hash-header.ensures in
-    let none : (hash_in header == 0) ≡ true = ap (λ n. n == 0) (sym c.hash_of_word-hash.ensures) ∙ eq-eqb _ _ c.if-hash-ne0.false in
-    due_then h q (hash_in header == 0) (draw_steps e d at a.object header) (done_with (hash_in header)) e.task
-    (rest_due h a.pass.now e.task (find_hash_plan e at a.object) _ c.requires.due refl q header s) none
+    (left_then _ _ _ (found (goal.at.draw-requires-clause-due c).After-hash_of_word-hash) (eq-eqb _ _ c.if-hash-ne0.false)).due
 
 pub draw-requires-clause-room : goal.draw-requires-clause-room
 draw-requires-clause-room c =
-    let a = c.args in
-    let header = c.find_hash-header.result in
-    let none : (hash_in header == 0) ≡ true = ap (λ n. n == 0) (sym c.hash_of_word-hash.ensures) ∙ eq-eqb _ _ c.if-hash-ne0.false in
-    room_left a.heap.now a.pass.now c.find_hash-header.new.pass a.call.now (Header a.monitor) a.object header c.find_hash-header.ensures none c.requires.room
+    room_left c.args.heap.now c.args.pass.now c.find_hash-header.new.pass c.args.call.now (Header c.args.monitor) c.args.object c.find_hash-header.result
+    c.find_hash-header.ensures (ap (λ n. n == 0) (sym c.hash_of_word-hash.ensures) ∙ eq-eqb _ _ c.if-hash-ne0.false) c.requires.room
 
 pub returns : goal.returns
-returns c =
-    let a = c.args in
-    let h = a.heap.now in
-    let e = a.call.now in
-    let d : NextDraw = record { number = a.number; value = a.value } in
-    let at = Header a.monitor in
-    let q = c.find_hash-header.new.pass in
-    let r = c.draw.new.pass in
-    let header = c.find_hash-header.result in
-    let out = c.draw.result in
-    let none : (hash_in header == 0) ≡ true = ap (λ n. n == 0) (sym c.hash_of_word-hash.ensures) ∙ eq-eqb _ _ c.if-hash-ne0.false in
-    stepped h a.pass.now q r (find_hash_plan e at a.object) _ header out c.find_hash-header.ensures refl
-    (run_then h q (hash_in header == 0) (draw_steps e d at a.object header) (done_with (hash_in header)) r out none c.draw.ensures)
+returns c = (left_then _ _ _ (found (goal.at.returns c).After-hash_of_word-hash) (eq-eqb _ _ c.if-hash-ne0.false)).whole _ _ c.draw.ensures
