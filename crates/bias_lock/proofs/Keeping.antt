@@ -1,7 +1,7 @@
 -- What runs of the steps leave of their thread's knowledge, where no hold was taken or left.
 use Rattle.std.proofs.Common.{◌≡◌, ℕ, ◌==◌, Bool, true, false, if◌then◌else◌, Option, Some, None, refl, sym, ap, ◌∙◌, subst}
 use Rattle.mark_word.specs.declared.mark.MarkForm.{MarkForm}
-use Rattle.mark_word.specs.declared.mark.MarkForm.TheVariants.{Inflating, Neutral, Anonymous, Biased, Locked, Inflated, Marked}
+use Rattle.mark_word.specs.declared.mark.MarkForm.TheVariants.{Neutral, Anonymous, Biased}
 use Rattle.mark_word.specs.Mark.{mark_of, read_mark}
 use Rattle.plain_monitor.specs.declared.entry.Path.{Path}
 use Rattle.plain_monitor.specs.declared.entry.Path.TheVariants.{BiasOwn, BiasTaken}
@@ -77,25 +77,15 @@ module _ (s : Shape) (start : ℕ) where
 
     at_keeps : (f : Option MarkForm) (epoch : ℕ) (k : ThreadView) → Runs s start (bias_enter_at f epoch e t o mark) k l out
         → IsKeptUnlessTook out (local_of k) (local_of l)
-    at_keeps None epoch k run = absurd run
-    at_keeps (Some Inflating) epoch k run = absurd run
-    at_keeps (Some (Neutral hash age)) epoch k run = absurd run
     at_keeps (Some (Anonymous old age)) epoch k run = rebias_keeps epoch k run
     at_keeps (Some (Biased thread old age)) epoch k run = biased_keeps (old == epoch) thread epoch k run
-    at_keeps (Some (Locked thread place)) epoch k run = absurd run
-    at_keeps (Some (Inflated m)) epoch k run = absurd run
-    at_keeps (Some Marked) epoch k run = absurd run
+    at_keeps _ epoch k run = absurd run
 
     by_keeps : (f : Option MarkForm) (prototype : ℕ) (k : ThreadView) → Runs s start (bias_enter_by f e t o mark prototype) k l out
         → IsKeptUnlessTook out (local_of k) (local_of l)
-    by_keeps None prototype k run = absurd run
-    by_keeps (Some Inflating) prototype k run = absurd run
     by_keeps (Some (Neutral hash age)) prototype k run = kept out (local_of k) (local_of l) (swapped e o mark prototype k l out run)
     by_keeps (Some (Anonymous epoch age)) prototype k run = at_keeps (read_mark mark) epoch k run
-    by_keeps (Some (Biased thread epoch age)) prototype k run = absurd run
-    by_keeps (Some (Locked thread place)) prototype k run = absurd run
-    by_keeps (Some (Inflated m)) prototype k run = absurd run
-    by_keeps (Some Marked) prototype k run = absurd run
+    by_keeps _ prototype k run = absurd run
 
   pub enter_keeps : (e : CallContext) (t : Local) (o : ℕ) (k l : ThreadView) (out : BiasTry) → Runs s start (bias_enter_steps s e t o) k l out
       → IsKeptUnlessTook out (local_of k) (local_of l)
@@ -121,14 +111,8 @@ module _ (s : Shape) (start : ℕ) where
   after_at_keeps : (f : Option MarkForm) (e : CallContext) (t : Local) (o : ℕ) (k l : ThreadView) (out : BiasTry) (before after : Local)
       → Runs s start (bias_after_at f e t o) k l out
       → IsKeptUnlessTook out before after
-  after_at_keeps None e t o k l out before after run = absurd run
-  after_at_keeps (Some Inflating) e t o k l out before after run = absurd run
-  after_at_keeps (Some (Neutral hash age)) e t o k l out before after run = absurd run
-  after_at_keeps (Some (Anonymous old age)) e t o k l out before after run = absurd run
   after_at_keeps (Some (Biased thread old age)) e t o k l out before after run = own_keeps e t o (thread == t.thread) k l out before after run
-  after_at_keeps (Some (Locked thread place)) e t o k l out before after run = absurd run
-  after_at_keeps (Some (Inflated m)) e t o k l out before after run = absurd run
-  after_at_keeps (Some Marked) e t o k l out before after run = absurd run
+  after_at_keeps _ e t o k l out before after run = absurd run
 
   pub after_keeps : (e : CallContext) (t : Local) (o : ℕ) (took : Bool) (k l : ThreadView) (out : BiasTry) → Runs s start (bias_after_steps e t o took) k l out
       → IsKeptUnlessTook out (local_of k) (local_of l)
@@ -151,14 +135,9 @@ module _ (s : Shape) (start : ℕ) where
   drop_at_keeps : (f : Option MarkForm) (epoch : ℕ) (e : CallContext) (o mark : ℕ) (k l : ThreadView) (out : BiasTry)
       → Runs s start (bias_drop_at f epoch e o mark) k l out
       → local_of l ≡ local_of k
-  drop_at_keeps None epoch e o mark k l out run = absurd run
-  drop_at_keeps (Some Inflating) epoch e o mark k l out run = absurd run
-  drop_at_keeps (Some (Neutral hash age)) epoch e o mark k l out run = absurd run
   drop_at_keeps (Some (Anonymous old age)) epoch e o mark k l out run = swapped e o mark (mark_of (Neutral 0 0)) k l out run
   drop_at_keeps (Some (Biased thread old age)) epoch e o mark k l out run = stale_keeps e o mark (old == epoch) k l out run
-  drop_at_keeps (Some (Locked thread place)) epoch e o mark k l out run = absurd run
-  drop_at_keeps (Some (Inflated m)) epoch e o mark k l out run = absurd run
-  drop_at_keeps (Some Marked) epoch e o mark k l out run = absurd run
+  drop_at_keeps _ epoch e o mark k l out run = absurd run
 
   drop_by_keeps : (epoch : Option ℕ) (e : CallContext) (o mark prototype : ℕ) (k l : ThreadView) (out : BiasTry)
       → Runs s start (bias_drop_by epoch e o mark prototype) k l out

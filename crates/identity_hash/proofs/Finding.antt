@@ -3,7 +3,7 @@ use Rattle.std.proofs.Common.{◌≡◌, ℕ, ◌<◌, ◌==◌, Bool, true, fal
 use Rattle.plain_monitor.specs.declared.entry.Logged.{Logged}
 use Rattle.plain_monitor.specs.declared.entry.Entry.TheVariants.{Hash}
 use Rattle.core_world.specs.declared.word_id.WordId.{WordId}
-use Rattle.core_world.specs.declared.word_id.WordId.TheVariants.{Mark, Displaced}
+use Rattle.core_world.specs.declared.word_id.WordId.TheVariants.{Mark}
 use Rattle.core_world.specs.Threads.ThreadView.{ThreadView, Local, local_of}
 use Rattle.core_world.specs.Steps.{with_entry}
 use Rattle.core_world.specs.Trees.HashSteps.{find_hash_plan, hash_displaced_steps}
@@ -56,7 +56,3 @@ module _ (h : HeapSeen) (p q : PassSeen) (e : CallContext) (k : Local) (o : ℕ)
 
   pub after_room : length p.known.log < p.limit → length q.known.log < q.limit
   after_room room = subst (λ m. length q.known.log < m) (sym run.limit) (subst (λ (l : List Logged). length l < p.limit) (sym after_log) room)
-
--- The load of a displaced header, by what the code says of its thread and its place.
-pub of_record : (e : CallContext) (o t u p r : ℕ) → t ≡ u → p ≡ r → find_hash_plan e (Displaced t p) o ≡ find_hash_plan e (Displaced u r) o
-of_record e o t u p r thread place = λ i. find_hash_plan e (Displaced (thread i) (place i)) o

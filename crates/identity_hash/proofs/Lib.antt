@@ -1,4 +1,3 @@
 mod Drawing
 mod Finding
 mod Marks
-mod Silent

@@ -1,7 +1,7 @@
 -- Marks by which no hash is found or given.
 use Rattle.std.proofs.Common.{◌≡◌, ℕ, Option, Some, refl}
 use Rattle.mark_word.specs.declared.mark.MarkForm.{MarkForm}
-use Rattle.mark_word.specs.declared.mark.MarkForm.TheVariants.{Inflating, Neutral, Anonymous, Biased, Locked, Inflated, Marked}
+use Rattle.mark_word.specs.declared.mark.MarkForm.TheVariants.{Inflating, Neutral, Locked, Inflated}
 use Rattle.core_world.specs.Threads.ThreadView.{Local}
 use Rattle.core_world.specs.Trees.HashSteps.{NextDraw, hash_mark_steps}
 use Rattle.core_world.specs.Trees.Plans.{CallContext}
@@ -13,8 +13,6 @@ pub never_hashed : (f : MarkForm) (s : Shape) (e : CallContext) (k : Local) (kep
     → hash_mark_steps (Some f) s e k kept d o mark ≡ unreachable
 never_hashed Inflating s e k kept d o mark inflating neutral locked inflated = absurd (inflating refl)
 never_hashed (Neutral hash age) s e k kept d o mark inflating neutral locked inflated = absurd (neutral hash age refl)
-never_hashed (Anonymous epoch age) s e k kept d o mark inflating neutral locked inflated = refl
-never_hashed (Biased t epoch age) s e k kept d o mark inflating neutral locked inflated = refl
 never_hashed (Locked t p) s e k kept d o mark inflating neutral locked inflated = absurd (locked t p refl)
 never_hashed (Inflated m) s e k kept d o mark inflating neutral locked inflated = absurd (inflated m refl)
-never_hashed Marked s e k kept d o mark inflating neutral locked inflated = refl
+never_hashed _ s e k kept d o mark inflating neutral locked inflated = refl

@@ -1,7 +1,7 @@
 -- What an inflation leaves of its thread's knowledge: its log and its own words are as they were.
 use Rattle.std.proofs.Common.{◌≡◌, ℕ, ◌==◌, Bool, true, false, cond, if◌then◌else◌, Option, Some, None, refl, ap, ◌∙◌}
 use Rattle.mark_word.specs.declared.mark.MarkForm.{MarkForm}
-use Rattle.mark_word.specs.declared.mark.MarkForm.TheVariants.{Inflating, Neutral, Anonymous, Biased, Locked, Inflated, Marked}
+use Rattle.mark_word.specs.declared.mark.MarkForm.TheVariants.{Inflating, Neutral, Locked, Inflated}
 use Rattle.mark_word.specs.Mark.{read_mark}
 use Rattle.core_world.specs.declared.answer.Progress.{Progress}
 use Rattle.core_world.specs.declared.answer.PendingCause.TheVariants as why
@@ -15,17 +15,13 @@ use Rattle.core_world.specs.Trees.Plans.{CallContext, load, done_with, pending_f
 use Rattle.core_world.specs.Words.Shape.{Shape}
 use Rattle.heap_table.specs.Parts.{HasMadeSteps}
 use Rattle.heap_table.specs.Seen.{HeapSeen, PassSeen}
+use Rattle.stack_lock.proofs.StepsLeft.{known_alike}
 use Rattle.object_monitor.proofs.Inflating.{locked_on}
 
 module _ (s : Shape) (start : ℕ) (e : CallContext) (o : ℕ) (l : ThreadView) (a : Progress ℕ) where
   -- an exchange of the mark, whether it hits or not
   emptied : (mark t place n : ℕ) (k : ThreadView) → local_of (known_after s start (inflate_plan e o mark t place) n k) ≡ local_of k
-  emptied mark t place n k = cases (n == mark)
-    where
-      cases : (b : Bool) → local_of (cond b (known_hit s start (inflate_plan e o mark t place) n k) (known_miss s start (inflate_plan e o mark t place) n k))
-          ≡ local_of k
-      cases true = refl
-      cases false = refl
+  emptied mark t place n k = (known_alike s start (inflate_plan e o mark t place) n k refl refl refl).local
 
   named : (mark m n : ℕ) (k : ThreadView) → local_of (known_after s start (name_neutral_plan e o mark m) n k) ≡ local_of k
   named mark m n k = cases (n == mark)
@@ -62,14 +58,9 @@ module _ (s : Shape) (start : ℕ) (e : CallContext) (o : ℕ) (l : ThreadView) 
   by_header mark m k run = naming mark m run.1.1.1.1.0 _ run.1.1.1.1.1
 
   by_form : (f : Option MarkForm) (mark m : ℕ) (k : ThreadView) → Runs s start (inflate_with f e o mark m) k l a → local_of l ≡ local_of k
-  by_form None mark m k run = absurd run
-  by_form (Some Inflating) mark m k run = absurd run
   by_form (Some (Neutral hash age)) mark m k run = by_header mark m k run
-  by_form (Some (Anonymous epoch age)) mark m k run = absurd run
-  by_form (Some (Biased t epoch age)) mark m k run = absurd run
   by_form (Some (Locked t place)) mark m k run = by_record mark m t place k run
-  by_form (Some (Inflated n)) mark m k run = absurd run
-  by_form (Some Marked) mark m k run = absurd run
+  by_form _ mark m k run = absurd run
 
   by_kept : (kept : Option ℕ) (mark : ℕ) (k : ThreadView) → Runs s start (inflate_by kept s e o mark) k l a → local_of l ≡ local_of k
   by_kept (Some m) mark k run = by_form (read_mark mark) mark m k run
@@ -77,14 +68,9 @@ module _ (s : Shape) (start : ℕ) (e : CallContext) (o : ℕ) (l : ThreadView) 
       by_form (read_mark mark) mark run.1.0 (known_after s start (fetch_plan e s run.0) run.1.0 (known_after s start (claim_plan e) run.0 k)) run.1.1
 
   by_mark : (f : Option MarkForm) (kept : Option ℕ) (mark : ℕ) (k : ThreadView) → Runs s start (inflate_at f s e kept o mark) k l a → local_of l ≡ local_of k
-  by_mark None kept mark k run = by_kept kept mark k run
   by_mark (Some Inflating) kept mark k run = ap local_of run.0
-  by_mark (Some (Neutral hash age)) kept mark k run = by_kept kept mark k run
-  by_mark (Some (Anonymous epoch age)) kept mark k run = by_kept kept mark k run
-  by_mark (Some (Biased t epoch age)) kept mark k run = by_kept kept mark k run
-  by_mark (Some (Locked t place)) kept mark k run = by_kept kept mark k run
   by_mark (Some (Inflated m)) kept mark k run = ap local_of run.0
-  by_mark (Some Marked) kept mark k run = by_kept kept mark k run
+  by_mark _ kept mark k run = by_kept kept mark k run
 
 -- the whole of them
 pub local_stays : (h : HeapSeen) (p q : PassSeen) (e : CallContext) (kept : Option ℕ) (o : ℕ) (a : Progress ℕ)

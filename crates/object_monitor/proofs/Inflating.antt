@@ -3,7 +3,7 @@ use Rattle.std.proofs.Common.{◌≡◌, ℕ, ◌^◌, ◌<◌, ◌==◌, Bool, 
 use Rattle.std.proofs.Common.{refl, sym, ap, ◌∙◌, subst, arith}
 use borrow.Author.Tests.{eqb-true, eqb-false}
 use Rattle.mark_word.specs.declared.mark.MarkForm.{MarkForm}
-use Rattle.mark_word.specs.declared.mark.MarkForm.TheVariants.{Inflating, Neutral, Anonymous, Biased, Locked, Inflated, Marked}
+use Rattle.mark_word.specs.declared.mark.MarkForm.TheVariants.{Inflating, Neutral, Locked, Inflated}
 use Rattle.mark_word.specs.declared.owner.OwnerForm.TheVariants.{ByRecord}
 use Rattle.mark_word.specs.Mark.{mark_of}
 use Rattle.mark_word.specs.Owner.{owner_of}
@@ -100,20 +100,12 @@ module _ (e : CallContext) (o mark m word : ℕ) (is : word ≡ mark_of (Inflate
 -- MARKS that no valid world comes with, and those whose lock gets a monitor
 pub never_with : (f : MarkForm) (e : CallContext) (o mark m : ℕ) → ((t p : ℕ) → f ≡ Locked t p → ⊥)
     → ((hash age : ℕ) → f ≡ Neutral hash age → ⊥) → inflate_with (Some f) e o mark m ≡ unreachable
-never_with Inflating e o mark m locked neutral = refl
 never_with (Neutral hash age) e o mark m locked neutral = absurd (neutral hash age refl)
-never_with (Anonymous epoch age) e o mark m locked neutral = refl
-never_with (Biased t epoch age) e o mark m locked neutral = refl
 never_with (Locked t p) e o mark m locked neutral = absurd (locked t p refl)
-never_with (Inflated n) e o mark m locked neutral = refl
-never_with Marked e o mark m locked neutral = refl
+never_with _ e o mark m locked neutral = refl
 
 pub is_made : (f : MarkForm) (s : Shape) (e : CallContext) (kept : Option ℕ) (o mark : ℕ) → (f ≡ Inflating → ⊥) → ((m : ℕ) → f ≡ Inflated m → ⊥)
     → inflate_at (Some f) s e kept o mark ≡ inflate_by kept s e o mark
 is_made Inflating s e kept o mark inflating inflated = absurd (inflating refl)
-is_made (Neutral hash age) s e kept o mark inflating inflated = refl
-is_made (Anonymous epoch age) s e kept o mark inflating inflated = refl
-is_made (Biased t epoch age) s e kept o mark inflating inflated = refl
-is_made (Locked t p) s e kept o mark inflating inflated = refl
 is_made (Inflated m) s e kept o mark inflating inflated = absurd (inflated m refl)
-is_made Marked s e kept o mark inflating inflated = refl
+is_made _ s e kept o mark inflating inflated = refl

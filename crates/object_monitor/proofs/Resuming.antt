@@ -1,7 +1,7 @@
 -- The end of a wait, by what its words say.
 use Rattle.std.proofs.Common.{◌≡◌, ℕ, ◌==◌, Bool, true, false, cond, Some, refl}
 use Rattle.mark_word.specs.declared.mark.MarkForm.{MarkForm}
-use Rattle.mark_word.specs.declared.mark.MarkForm.TheVariants.{Inflating, Neutral, Anonymous, Biased, Locked, Inflated, Marked}
+use Rattle.mark_word.specs.declared.mark.MarkForm.TheVariants.{Inflated}
 use Rattle.mark_word.specs.declared.owner.OwnerForm.{OwnerForm}
 use Rattle.mark_word.specs.declared.owner.OwnerForm.TheVariants.{Free, ByThread, ByRecord}
 use Rattle.mark_word.specs.declared.wait.WaitForm.{WaitForm}
@@ -29,18 +29,11 @@ module _ (h : HeapSeen) (p : PassSeen) (e : CallContext) (t saved o m found : �
 
 -- MARKS AND WAITING WORDS that no valid world comes with
 pub never_marked : (f : MarkForm) (e : CallContext) (t saved o : ℕ) → ((m : ℕ) → f ≡ Inflated m → ⊥) → resume_mark_at (Some f) e t saved o ≡ unreachable
-never_marked Inflating e t saved o inflated = refl
-never_marked (Neutral hash age) e t saved o inflated = refl
-never_marked (Anonymous epoch age) e t saved o inflated = refl
-never_marked (Biased u epoch age) e t saved o inflated = refl
-never_marked (Locked u p) e t saved o inflated = refl
 never_marked (Inflated m) e t saved o inflated = absurd (inflated m refl)
-never_marked Marked e t saved o inflated = refl
+never_marked _ e t saved o inflated = refl
 
 pub never_resumed : (f : WaitForm) (e : CallContext) (t saved o word : ℕ) → ((object stamp : ℕ) → f ≡ wait.Waiting object stamp → ⊥)
     → ((object : ℕ) → f ≡ wait.Notified object → ⊥) → resume_at (Some f) e t saved o word ≡ unreachable
-never_resumed wait.Ready e t saved o word waiting notified = refl
-never_resumed (wait.Entering object) e t saved o word waiting notified = refl
 never_resumed (wait.Waiting object stamp) e t saved o word waiting notified = absurd (waiting object stamp refl)
 never_resumed (wait.Notified object) e t saved o word waiting notified = absurd (notified object refl)
-never_resumed wait.Ended e t saved o word waiting notified = refl
+never_resumed _ e t saved o word waiting notified = refl

@@ -1,10 +1,10 @@
 use Rattle.std.proofs.Common.{◌==◌, if◌then◌else◌, Some, None, refl, sym, ap, eq-eqb, ne_eqb, arith}
+use Rattle.core_world.specs.declared.word_id.WordId.TheVariants.{Displaced}
 use Rattle.core_world.specs.Threads.ThreadView.{local_of}
-use Rattle.core_world.specs.Trees.HashSteps.{hash_displaced_steps}
+use Rattle.core_world.specs.Trees.HashSteps.{find_hash_plan, hash_displaced_steps}
 use Rattle.core_world.specs.Trees.StepTree.{done}
 use Rattle.heap_table.proofs.Ruled.{few_objects}
 use Rattle.object_monitor.proofs.StepsLeft.{AreLeft, all_left, can_make, step_made, left_as, all_made}
-use Rattle.identity_hash.proofs.Finding.{of_record}
 use Rattle.identity_hash.proofs.hashes.hash_displaced.Goals as goal
 use Rattle.identity_hash.proofs.hashes.hash_displaced.Goals.{After-hash_of_word-hash}
 
@@ -13,7 +13,7 @@ first_place-place-requires c = omega (arith, c.requires.object, few_objects c.ar
 
 pub find_hash-header-requires : goal.find_hash-header-requires
 find_hash-header-requires c = can_make (all_left c.requires.heap c.requires.due)
-    (of_record c.args.call.now c.args.object _ _ _ _ c.thread-thread.ensures.same c.first_place-place.ensures) refl refl c.requires.room
+    (λ i. find_hash_plan c.args.call.now (Displaced (c.thread-thread.ensures.same i) (c.first_place-place.ensures i)) c.args.object) refl refl c.requires.room
 
 -- the hash in the header is found
 found : (c : After-hash_of_word-hash) → AreLeft c.args.heap.now c.args.call.now.task c.args.pass.now
@@ -21,7 +21,7 @@ found : (c : After-hash_of_word-hash) → AreLeft c.args.heap.now c.args.call.no
     (done (if c.hash_of_word-hash.result == 0 then None else Some c.hash_of_word-hash.result))
 found c =
     let left = step_made (all_left c.requires.heap c.requires.due)
-    (of_record c.args.call.now c.args.object _ _ _ _ c.thread-thread.ensures.same c.first_place-place.ensures) refl refl c.find_hash-header.ensures in
+    (λ i. find_hash_plan c.args.call.now (Displaced (c.thread-thread.ensures.same i) (c.first_place-place.ensures i)) c.args.object) refl refl c.find_hash-header.ensures in
     left_as left (ap (λ n. done (if n == 0 then None else Some n)) (sym c.hash_of_word-hash.ensures))
 
 pub returns-then-hash-ne0 : goal.returns-then-hash-ne0

@@ -1,9 +1,9 @@
-use Rattle.std.proofs.Common.{refl, subst}
+use Rattle.std.proofs.Common.{◌≡◌, length, refl, ap, subst, arith}
+use Rattle.core_world.specs.Threads.ThreadView.{Local}
 use Rattle.core_world.specs.Trees.HashSteps.{hash_inflate_steps, hash_inflated, hash_monitor_steps}
 use Rattle.core_world.specs.Trees.MonitorSteps.{inflate_steps}
 use Rattle.heap_table.specs.Parts.{HasMadeSteps}
 use Rattle.object_monitor.proofs.StepsLeft.{AreLeft, all_left, part_of, after_part, last_made}
-use Rattle.identity_hash.proofs.Silent.{room_after, inflating}
 use Rattle.identity_hash.proofs.hashes.hash_inflate.Goals as goal
 use Rattle.identity_hash.proofs.hashes.hash_inflate.Goals.{In-Done}
 
@@ -26,9 +26,8 @@ hash_monitor-requires-clause-due c = (inflated (goal.at.hash_monitor-requires-cl
 
 pub hash_monitor-requires-clause-room : goal.hash_monitor-requires-clause-room
 hash_monitor-requires-clause-room c =
-    room_after c.args.heap.now (inflate_steps c.args.heap.now.heap.shape c.args.call.now c.args.pass.now.known.kept c.args.object) c.args.pass.now
-    c.inflate.new.pass c.inflate.result (inflating c.args.heap.now.heap.shape c.args.call.now c.args.pass.now.known.kept c.args.object)
-    c.inflate.ensures.run c.requires.room
+    let logs : length c.inflate.new.pass.known.log ≡ length c.args.pass.now.known.log = ap (λ (l : Local). length l.log) c.inflate.ensures.local in
+    omega (arith, logs, c.inflate.ensures.run.limit, c.requires.room)
 
 pub returns-in-Done : goal.returns-in-Done
 returns-in-Done c = (inflated (goal.at.returns-in-Done c).In-Done).whole _ _ c.hash_monitor.ensures
