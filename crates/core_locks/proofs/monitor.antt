@@ -3,6 +3,7 @@ pub mod Places
 pub mod MonitorSeen
 pub mod Claims
 pub mod Fetches
+pub mod UnnamedWords
 pub mod Prepares
 pub mod Counting
 pub mod OwnerTurns

@@ -7,7 +7,7 @@ use Rattle.core_locks.proofs.Prelude.{header, header_form, marks, displaced_word
 use Rattle.core_locks.proofs.Prelude.{owner_lock, count_where, Fits, by_equal, inflations_stay, hold_some, inflated_form}
 use Rattle.core_locks.proofs.enter_exit.HoldCounts.{hold_tells}
 use Rattle.core_locks.proofs.enter_exit.MarkHolds.{number_same}
-use Rattle.core_locks.proofs.monitor.Prepares.{lock_unnamed}
+use Rattle.core_locks.proofs.monitor.UnnamedWords.{lock_unnamed}
 use Rattle.core_locks.proofs.Clauses.{AllHold, turned_parts, parts_turn}
 use Rattle.core_locks.proofs.Steps.{Fields, turning, IsStep, next, stepped, step_fits, inflates_stay}
 
