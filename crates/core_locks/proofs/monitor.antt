@@ -1,6 +1,7 @@
 -- Inflation, and the words of monitors.
 pub mod Places
 pub mod MonitorSeen
+pub mod Moved
 pub mod Claims
 pub mod Fetches
 pub mod UnnamedWords

@@ -1,18 +1,19 @@
 -- A thread at its reached safepoint moves the ring's end past the monitor that it gives back.
-use Rattle.core_locks.proofs.Prelude.{◌≡◌, ◌≢◌, ℕ, ◌+◌, ◌%◌, ◌^◌, ◌<◌, ◌==◌, eq-eqb, ne_eqb, true, cond, List, length, None, refl, sym, ap, ◌∙◌}
-use Rattle.core_locks.proofs.Prelude.{arith, inl, inr, is_some, PlainObject, Claim, Ring, StepPlan, ThreadView, Still, Fetches, Returns, World}
+use Rattle.core_locks.proofs.Prelude.{◌≡◌, ℕ, ◌+◌, ◌%◌, ◌^◌, ◌<◌, true, List, length, None, refl, sym, ap, ◌∙◌}
+use Rattle.core_locks.proofs.Prelude.{arith, inl, inr, is_some, PlainObject, Claim, Ring, StepPlan, ThreadView, Fetches, Returns, World}
 use Rattle.core_locks.proofs.Prelude.{with_known, inflated_to, CallContext, Fits, MonitorsAreClaimed, claimed_or_kept, given_back, by_equal}
-use Rattle.core_locks.proofs.Prelude.{each_with_known, with_known_here, with_known_else, KeepsValid, monitor_count, ring_bits, ring_places}
+use Rattle.core_locks.proofs.Prelude.{each_with_known, KeepsValid, monitor_count, ring_bits, ring_places}
 use Rattle.core_world.specs.Clauses.Claims.{Place, With, At, Leaves, InRing}
 use Rattle.core_world.specs.Trees.DeflateSteps.{advance_plan}
 use Rattle.core_locks.specs.DeflationLaws.{MayAdvance}
 use Rattle.core_locks.proofs.monitor.Claims.{next_word}
-use Rattle.core_locks.proofs.monitor.Places.{with_same, with_more}
+use Rattle.core_locks.proofs.monitor.Places.{one_leaver, one_position, one_returned}
+use Rattle.core_locks.proofs.monitor.Moved.{moved, Moves, moves_from, moving_else, moves_law, as_many, one_fewer}
 use Rattle.core_locks.proofs.Clauses.{kept_parts, parts_stand, seen, claims, moves, AllHold}
 use Rattle.core_locks.proofs.OwnSeen.{left_with, hit_world}
 use Rattle.core_locks.proofs.safepoint.Standing.{IsStore, standing_seen, standing_step, fits_standing}
 use Rattle.core_locks.proofs.Steps.{handling, IsStep, next, step_fits, seen_next}
-use Rattle.core_locks.proofs.deflation.Enqueues.{one_returned, one_leaver, one_position, gone, end_is, same_place, none_fetches}
+use Rattle.core_locks.proofs.deflation.Enqueues.{gone, end_is, same_place, none_fetches}
 
 -- THE STORE OF THE END
 module _ (w : World) (P : List PlainObject) (t : ℕ) (e : CallContext) (m end : ℕ)
@@ -46,25 +47,12 @@ module _ (w : World) (P : List PlainObject) (t : ℕ) (e : CallContext) (m end :
   unfetched = none_fetches w P t m end within reached may.returns may.at_end v
 
   abbrev place : ℕ → Place
-  place a = cond (a == m) (InRing last) (v.claims.place a)
+  place = moved v.claims.place m (InRing last)
 
-  place_here : (a : ℕ) → a ≡ m → place a ≡ InRing last
-  place_here a s = ap (λ b. cond b (InRing last) (v.claims.place a)) (eq-eqb a m s)
+  move : Moves v.claims.place m (Leaves t) (InRing last)
+  move = moves_from v.claims.place m (Leaves t) (InRing last) there.1
 
-  place_else : (a : ℕ) → a ≢ m → place a ≡ v.claims.place a
-  place_else a d = ap (λ b. cond b (InRing last) (v.claims.place a)) (ne_eqb a m d)
-
-  stays_at : (a : ℕ) (q : Place) → v.claims.place a ≡ q → (Leaves t ≡ q → ⊥) → place a ≡ q
-  stays_at a q h other = place_else a (λ s. other (sym there.1 ∙ ap v.claims.place (sym s) ∙ h)) ∙ h
-
-  was_at : (a : ℕ) (q : Place) → place a ≡ q → (InRing last ≡ q → ⊥) → (a ≢ m) × (v.claims.place a ≡ q)
-  was_at a q h other = by_equal a m (λ s. absurd (other (sym (place_here a s) ∙ h))) (λ d. (d, sym (place_else a d) ∙ h))
-
-  moving_else : (u : ℕ) → u ≢ t → (with_known t l w.known u).moving ≡ (w.known u).moving
-  moving_else u d = ap (λ (k : ThreadView). k.moving) (with_known_else t l w.known u d)
-
-  moving_here : (with_known t l w.known t).moving ≡ Still
-  moving_here = ap (λ (k : ThreadView). k.moving) (with_known_here t l w.known)
+  open move use {place_here, place_else, stays_at, was_at}
 
   claims_law : MonitorsAreClaimed w.shape.threads (length w.shape.objects) (monitor_count w.shape) (ring_bits w.shape)
       (w.words Claim) ((end + 1) % 2 ^ 64) ring (inflated_to w) (λ u. (w.known u).kept) (λ u. (with_known t l w.known u).moving)
@@ -93,20 +81,15 @@ module _ (w : World) (P : List PlainObject) (t : ℕ) (e : CallContext) (m end :
     returned_there = λ u a h q.
         let b = was_at a (Leaves u) q (λ z. cc z) in
         let c = v.claims.returned_there u a h b.1 in
-        moving_else u (λ s. b.0 (one_returned a m (sym c ∙ ap (λ z. (w.known z).moving) s ∙ may.returns))) ∙ c;
+        moving_else w t l u (λ s. b.0 (one_returned a m (sym c ∙ ap (λ z. (w.known z).moving) s ∙ may.returns))) ∙ c;
     ringed_there = λ p a h q. by_equal a m
         (λ s. let is : p ≡ last = sym (one_position last p (sym (place_here a s) ∙ q)) in
         (omega (arith, is), omega (arith, is), ap (λ z. ring (z % 2 ^ ring_bits w.shape)) is ∙ stored ∙ sym s))
         (λ d. let b = v.claims.ringed_there p a h (sym (place_else a d) ∙ q) in (b.0, omega (arith, b.1), b.2));
     counted =
-        let hands = with_same w.shape.threads (λ u. claimed_or_kept (w.known u).moving (w.known u).kept)
-        (λ u. claimed_or_kept (with_known t l w.known u).moving (w.known u).kept)
-        (λ u d. each_with_known (λ u y. is_some (claimed_or_kept y.moving (w.known u).kept)
-        ≡ is_some (claimed_or_kept (w.known u).moving (w.known u).kept)) t l w.known u
-        (ap (λ b. is_some (claimed_or_kept b (w.known t).kept)) (sym may.returns)) (λ d. refl)) in
-        let leaves = with_more w.shape.threads t (λ u. given_back (with_known t l w.known u).moving)
-        (λ u. given_back (w.known u).moving) within (ap (λ b. is_some (given_back b)) moving_here)
-        (ap (λ b. is_some (given_back b)) may.returns) (λ u d. ap (λ b. is_some (given_back b)) (sym (moving_else u d))) in
+        let hands = as_many w t l w.shape.threads (λ u y. claimed_or_kept y.moving (w.known u).kept)
+        (ap (λ b. is_some (claimed_or_kept b (w.known t).kept)) (sym may.returns)) in
+        let leaves = one_fewer w t l w.shape.threads (λ u y. given_back y.moving) within (ap (λ b. is_some (given_back b)) may.returns) refl in
         omega (arith, hands, leaves, v.claims.counted);
   }
 
@@ -117,27 +100,12 @@ module _ (w : World) (P : List PlainObject) (t : ℕ) (e : CallContext) (m end :
   z = next w t l handling x.words
 
   store : IsStore w P t plan
-  store = record {
-    reached = reached;
-    unrevoking = may.stands.unrevoking;
-    written = refl;
-    seen = refl;
-    seen_at_safepoint = refl;
-    running = refl;
-    requesting = refl;
-    unbiased = λ o h. h;
-    biased = λ o h. h;
-    there = λ o h. h;
-    prototypes = refl;
-  }
+  store = search (may.stands.reached, may.stands.unrevoking)
 
   all_after : AllHold (kept_parts w z P)
   all_after seen = seen_next step x.words P (standing_seen w P t plan store v)
   all_after claims = claims_law
-  all_after moves = record {
-    runs = λ u p. each_with_known (λ u y. y.moving ≡ Fetches p → (w.known u).running ≡ true) t l w.known u (λ h. absurd (cc h)) (λ d. v.moves.runs u p);
-    reaches = λ u a. each_with_known (λ u y. y.moving ≡ Returns a → (w.known u).reached ≡ true) t l w.known u (λ h. absurd (cc h)) (λ d. v.moves.reaches u a);
-  }
+  all_after moves = moves_law w t l P (λ p h. absurd (cc h)) (λ a h. absurd (cc h)) v
   all_after c = standing_step step P may.stands.goes_on reached v c
 
   advanced_fits : Fits x P

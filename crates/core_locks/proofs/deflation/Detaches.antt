@@ -1,18 +1,19 @@
 -- A thread at its reached safepoint stores the header of an idle monitor as the mark of its object: the monitor is the thread's to give back.
-use Rattle.core_locks.proofs.Prelude.{◌≡◌, ◌≢◌, ◌⊎◌, ℕ, ◌%◌, ◌^◌, ◌<◌, ◌==◌, eq-eqb, ne_eqb, true, false, cond, List, length, Some, None}
+use Rattle.core_locks.proofs.Prelude.{◌≡◌, ◌≢◌, ◌⊎◌, ℕ, ◌%◌, ◌^◌, ◌<◌, true, false, List, length, Some, None}
 use Rattle.core_locks.proofs.Prelude.{refl, sym, ap, ◌∙◌, subst, arith, inl, inr, same_Some, is_some, read_mark, Inflated, Free, read_owner}
 use Rattle.core_locks.proofs.Prelude.{owner_of, read_owner-owner_of, is_listed, cases_lt, PlainObject, Mark, Waiting, Owner, Header, Claim}
 use Rattle.core_locks.proofs.Prelude.{End, Ring, StepPlan, Resumes, is_biased, is_neutral, monitor_in, waits_on, says_notified, enters_on}
 use Rattle.core_locks.proofs.Prelude.{ThreadView, Moving, Still, Fetches, Returns, World, with_known, lock, lock_form, header, header_form}
 use Rattle.core_locks.proofs.Prelude.{owner_lock, marks, prototype_of, owner_words, headers, displaced_words, inflations, inflated_to}
 use Rattle.core_locks.proofs.Prelude.{waits_at, notified_at, CallContext, Fits, MonitorsAreClaimed, claimed_or_kept, given_back, IsMark}
-use Rattle.core_locks.proofs.Prelude.{IsUnfinished, by_equal, each_with_known, with_known_here, with_known_else, inflated_form, is_biased_form}
+use Rattle.core_locks.proofs.Prelude.{IsUnfinished, by_equal, each_with_known, inflated_form, is_biased_form}
 use Rattle.core_locks.proofs.Prelude.{mark_zero, no_wait, no_told, no_entering, KeepsValid, monitor_count, ring_bits}
 use Rattle.core_world.specs.declared.heap_call.Operation.TheVariants as op
 use Rattle.core_world.specs.Clauses.Claims.{Place, With, At, Leaves, InRing}
 use Rattle.core_world.specs.Trees.DeflateSteps.{detach_plan}
 use Rattle.core_locks.specs.DeflationLaws.{MayDetach}
-use Rattle.core_locks.proofs.monitor.Places.{with_same, with_more}
+use Rattle.core_locks.proofs.monitor.Places.{one_object, one_leaver, one_returned, with_more}
+use Rattle.core_locks.proofs.monitor.Moved.{moved, Moves, moves_from, moving_here, moving_else, moves_law, as_many, one_more}
 use Rattle.core_locks.proofs.Clauses.{parts_with, parts_are, seen, forms, biases, inflating, monitors}
 use Rattle.core_locks.proofs.Clauses.{recursions, hashes, waits, claims, moves, classes, AllHold}
 use Rattle.core_locks.proofs.MarkChanges.{mark_here, mark_else, bias_back, bias_forth, bias_before, zero_back}
@@ -109,6 +110,9 @@ module _ (w : World) (P : List PlainObject) (t : ℕ) (e : CallContext) (o m new
   unbiased : is_biased new ≡ false
   unbiased = (neutral_bare new neutral).unbiased
 
+  biased : (i : ℕ) → is_biased (marks x i) ≡ true → is_biased (marks w i) ≡ true
+  biased i h = (bias_back w o new t l unbiased i h).1
+
   step : IsStep w t l handling
   step = record { within = within; mine = refl; others = λ k. refl }
 
@@ -142,35 +146,13 @@ module _ (w : World) (P : List PlainObject) (t : ℕ) (e : CallContext) (o m new
   was_there : (m < monitor_count w.shape) × (v.claims.place m ≡ At o)
   was_there = v.claims.names o m named
 
-  one_object : (i j : ℕ) → At i ≡ At j → i ≡ j
-  one_object i j q = cc q
-
-  one_leaver : (i j : ℕ) → Leaves i ≡ Leaves j → i ≡ j
-  one_leaver i j q = cc q
-
-  one_returned : (a b : ℕ) → Returns a ≡ Returns b → a ≡ b
-  one_returned a b q = cc q
-
   abbrev place : ℕ → Place
-  place a = cond (a == m) (Leaves t) (v.claims.place a)
+  place = moved v.claims.place m (Leaves t)
 
-  place_here : (a : ℕ) → a ≡ m → place a ≡ Leaves t
-  place_here a s = ap (λ b. cond b (Leaves t) (v.claims.place a)) (eq-eqb a m s)
+  move : Moves v.claims.place m (At o) (Leaves t)
+  move = moves_from v.claims.place m (At o) (Leaves t) was_there.1
 
-  place_else : (a : ℕ) → a ≢ m → place a ≡ v.claims.place a
-  place_else a d = ap (λ b. cond b (Leaves t) (v.claims.place a)) (ne_eqb a m d)
-
-  stays_at : (a : ℕ) (q : Place) → v.claims.place a ≡ q → (At o ≡ q → ⊥) → place a ≡ q
-  stays_at a q h other = place_else a (λ s. other (sym was_there.1 ∙ ap v.claims.place (sym s) ∙ h)) ∙ h
-
-  was_at : (a : ℕ) (q : Place) → place a ≡ q → (Leaves t ≡ q → ⊥) → (a ≢ m) × (v.claims.place a ≡ q)
-  was_at a q h other = by_equal a m (λ s. absurd (other (sym (place_here a s) ∙ h))) (λ d. (d, sym (place_else a d) ∙ h))
-
-  moving_else : (u : ℕ) → u ≢ t → (with_known t l w.known u).moving ≡ (w.known u).moving
-  moving_else u d = ap (λ (k : ThreadView). k.moving) (with_known_else t l w.known u d)
-
-  moving_here : (with_known t l w.known t).moving ≡ Returns m
-  moving_here = ap (λ (k : ThreadView). k.moving) (with_known_here t l w.known)
+  open move use {place_here, place_else, stays_at, was_at}
 
   not_mine : (u : ℕ) (b : Moving) → (w.known u).moving ≡ b → (Still ≡ b → ⊥) → u ≢ t
   not_mine u b h other s = other (sym may.still ∙ ap (λ z. (w.known z).moving) (sym s) ∙ h)
@@ -194,7 +176,7 @@ module _ (w : World) (P : List PlainObject) (t : ℕ) (e : CallContext) (o m new
     stands = λ p low high. let b = v.claims.stands p low high in (b.0, stays_at (ring (p % 2 ^ bits)) (InRing p) b.1 (λ q. cc q));
     kept_there = λ u a h q. elim (v.claims.kept_there u a h (was_at a (With u) q (λ z. cc z)).1) [
       | inl b ↦ inl b
-      | inr b ↦ inr (b.0, moving_else u (not_mine u (Fetches b.0) b.1 (λ z. cc z)) ∙ b.1, b.2)
+      | inr b ↦ inr (b.0, moving_else w t l u (not_mine u (Fetches b.0) b.1 (λ z. cc z)) ∙ b.1, b.2)
     ];
     named_there = λ i a h q.
         let b = was_at a (At i) q (λ z. cc z) in
@@ -202,39 +184,22 @@ module _ (w : World) (P : List PlainObject) (t : ℕ) (e : CallContext) (o m new
         forth i a (λ s. b.0 (same_Some _ _ (sym c ∙ ap (inflated_to w) s ∙ named))) c;
     returned_there = λ u a h q. by_equal a m
         (λ s. let is : u ≡ t = sym (one_leaver t u (sym (place_here a s) ∙ q)) in
-        ap (λ z. (with_known t l w.known z).moving) is ∙ moving_here ∙ ap Returns (sym s))
-        (λ d. let b = v.claims.returned_there u a h (sym (place_else a d) ∙ q) in moving_else u (not_mine u (Returns a) b (λ z. cc z)) ∙ b);
+        ap (λ z. (with_known t l w.known z).moving) is ∙ moving_here w t l ∙ ap Returns (sym s))
+        (λ d. let b = v.claims.returned_there u a h (sym (place_else a d) ∙ q) in moving_else w t l u (not_mine u (Returns a) b (λ z. cc z)) ∙ b);
     ringed_there = λ p a h q. v.claims.ringed_there p a h (was_at a (InRing p) q (λ z. cc z)).1;
     counted =
-        let hands = with_same w.shape.threads (λ u. claimed_or_kept (w.known u).moving (w.known u).kept)
-        (λ u. claimed_or_kept (with_known t l w.known u).moving (w.known u).kept)
-        (λ u d. each_with_known (λ u y. is_some (claimed_or_kept y.moving (w.known u).kept)
-        ≡ is_some (claimed_or_kept (w.known u).moving (w.known u).kept)) t l w.known u
-        (ap (λ b. is_some (claimed_or_kept b (w.known t).kept)) (sym may.still)) (λ d. refl)) in
-        let leaves = with_more w.shape.threads t (λ u. given_back (w.known u).moving)
-        (λ u. given_back (with_known t l w.known u).moving) within (ap (λ b. is_some (given_back b)) may.still)
-        (ap (λ b. is_some (given_back b)) moving_here) (λ u d. ap (λ b. is_some (given_back b)) (moving_else u d)) in
+        let hands = as_many w t l w.shape.threads (λ u y. claimed_or_kept y.moving (w.known u).kept)
+        (ap (λ b. is_some (claimed_or_kept b (w.known t).kept)) (sym may.still)) in
+        let leaves = one_more w t l w.shape.threads (λ u y. given_back y.moving) within (ap (λ b. is_some (given_back b)) may.still) refl in
         let fewer = with_more (length w.shape.objects) o (inflated_to x) (inflated_to w) may.object (ap is_some here)
         (ap is_some named) (λ i d. ap (λ n. is_some (monitor_in n)) (sym (mark_else w o new t l i d))) in
         omega (arith, hands, leaves, fewer, v.claims.counted);
   }
 
   all_after : AllHold (parts_with w z P (inflated_to x) (lock w) (header w))
-  all_after seen = seen_next step x.words P (standing_seen w P t plan (record {
-    reached = reached;
-    unrevoking = may.stands.unrevoking;
-    written = refl;
-    seen = refl;
-    seen_at_safepoint = refl;
-    running = refl;
-    requesting = refl;
-    unbiased = bias_forth w o new t l unbiased;
-    biased = λ i h. (bias_back w o new t l unbiased i h).1;
-    there = λ i h. h;
-    prototypes = refl;
-  }) v)
+  all_after seen = seen_next step x.words P (standing_seen w P t plan (search (may.stands.reached, may.stands.unrevoking, bias_forth w o new t l unbiased, biased)) v)
   all_after forms = forms_marked o new v.forms (subst (IsMark w.shape) (sym (neutral_is new neutral).1) refl)
-  all_after biases = biases_by_marks (marks w) (marks x) (lock w) (lock w) _ _ _ _ (λ i b. (bias_back w o new t l unbiased i b).1) (λ i u g b. g) v.biases
+  all_after biases = biases_by_marks (marks w) (marks x) (lock w) (lock w) _ _ _ _ biased (λ i u g b. g) v.biases
   all_after inflating = inflating_by_marks (marks w) (marks x) _ _ (zero_back w o new t l new_some) (zero_forth w o new t l was_some) v.inflating
   all_after monitors = record {
     own = λ i a n. v.monitors.own i a (back i a n).1;
@@ -272,10 +237,7 @@ module _ (w : World) (P : List PlainObject) (t : ℕ) (e : CallContext) (o m new
       (c.0, forth i c.0 (λ s. nobody u (subst (λ j. (is_listed (waits_at P j) u ≡ true) ⊎ (is_listed (notified_at P j) u ≡ true)) s h)) c.1) in
       search (entering, inflated, b)
   all_after claims = claims_law
-  all_after moves = record {
-    runs = λ u p. each_with_known (λ u y. y.moving ≡ Fetches p → (w.known u).running ≡ true) t l w.known u (λ h. absurd (cc h)) (λ d. v.moves.runs u p);
-    reaches = λ u a. each_with_known (λ u y. y.moving ≡ Returns a → (w.known u).reached ≡ true) t l w.known u (λ h. reached) (λ d. v.moves.reaches u a);
-  }
+  all_after moves = moves_law w t l P (λ p h. absurd (cc h)) (λ a h. reached) v
   all_after classes = classes_by_marks w.biasing _ _ _ (marks w) (marks x) _ _ (bias_forth w o new t l unbiased) v.classes
   all_after c = standing_step step P may.stands.goes_on reached v c
 

@@ -2,7 +2,7 @@
 use Rattle.core_locks.proofs.Prelude.{◌≡◌, ◌≢◌, ℕ, ◌+◌, ◌-◌, ◌%◌, ◌^◌, ◌<◌, ◌≤◌, ◌==◌, ne_eqb, true, cond, List, length, Some, refl, sym, ap, ◌∙◌}
 use Rattle.core_locks.proofs.Prelude.{arith, inl, inr, is_some, PlainObject, Claim, End, Ring, StepPlan, ThreadView, Fetches, Returns, last_seen}
 use Rattle.core_locks.proofs.Prelude.{World, inflated_to, CallContext, Fits, MonitorsAreClaimed, given_back, KeepsValid, monitor_count, ring_bits}
-use Rattle.core_world.specs.Clauses.Claims.{Leaves, InRing}
+use Rattle.core_world.specs.Clauses.Claims.{Leaves}
 use Rattle.core_world.specs.Trees.DeflateSteps.{enqueue_plan}
 use Rattle.core_world.proofs.deflation.Rings.{ring_few, ring_enough, place_of_word, places_differ}
 use Rattle.core_locks.specs.DeflationLaws.{MayEnqueue}
@@ -11,15 +11,6 @@ use Rattle.core_locks.proofs.Clauses.{kept_parts, parts_stand, seen, claims, All
 use Rattle.core_locks.proofs.OwnSeen.{left_with, hit_world}
 use Rattle.core_locks.proofs.safepoint.Standing.{IsStore, standing_seen, standing_step, fits_standing}
 use Rattle.core_locks.proofs.Steps.{quietly, IsStep, next, step_fits, seen_next}
-
-pub one_returned : (a b : ℕ) → Returns a ≡ Returns b → a ≡ b
-one_returned a b q = cc q
-
-pub one_leaver : (i j : ℕ) → Leaves i ≡ Leaves j → i ≡ j
-one_leaver i j q = cc q
-
-pub one_position : (p q : ℕ) → InRing p ≡ InRing q → p ≡ q
-one_position p q e = cc e
 
 -- WHAT IS THERE before each of the two stores
 module _ (w : World) (P : List PlainObject) (t : ℕ) (m end : ℕ) (within : t < w.shape.threads)
@@ -83,19 +74,7 @@ module _ (w : World) (P : List PlainObject) (t : ℕ) (e : CallContext) (m end :
   z = next w t l quietly x.words
 
   store : IsStore w P t plan
-  store = record {
-    reached = reached;
-    unrevoking = may.stands.unrevoking;
-    written = refl;
-    seen = refl;
-    seen_at_safepoint = refl;
-    running = refl;
-    requesting = refl;
-    unbiased = λ o h. h;
-    biased = λ o h. h;
-    there = λ o h. h;
-    prototypes = refl;
-  }
+  store = search (may.stands.reached, may.stands.unrevoking)
 
   abbrev put : ℕ → ℕ
   put q = cond (q == end % 2 ^ ring_bits w.shape) m (w.words (Ring q))

@@ -1,16 +1,16 @@
 -- Steps on the ring that lead to no valid world: a monitor would be nowhere, or a thread would have two.
 use Rattle.core_locks.proofs.Prelude.{◌≡◌, ◌≢◌, ℕ, ◌+◌, ◌-◌, ◌%◌, ◌^◌, ◌<◌, ◌≤◌, ◌==◌, eq-eqb, cases_lt, true, cond, List, Some}
 use Rattle.core_locks.proofs.Prelude.{None, refl, sym, ap, ◌∙◌, arith, inl, inr, is_some, PlainObject, Claim, End, Ring, revocation_in}
-use Rattle.core_locks.proofs.Prelude.{ThreadView, Fetches, Returns, World, with_word_and_known, with_known, CallContext, world_after}
+use Rattle.core_locks.proofs.Prelude.{ThreadView, Fetches, Returns, World, with_word_and_known, CallContext, world_after}
 use Rattle.core_locks.proofs.Prelude.{Fits, Valid, claimed_or_kept, given_back, claim_plan, running_fits, each_with_known}
-use Rattle.core_locks.proofs.Prelude.{with_known_here, with_known_else, monitor_count, ring_bits, ring_places}
+use Rattle.core_locks.proofs.Prelude.{with_known_here, monitor_count, ring_bits, ring_places}
 use Rattle.core_world.specs.Clauses.Claims.{Place, With, At, Leaves, InRing}
 use Rattle.core_world.specs.Trees.DeflateSteps.{enqueue_plan, advance_plan}
 use Rattle.core_world.proofs.deflation.Rings.{ring_few, place_of_word}
 use Rattle.core_locks.specs.DeflationLaws.{IsFilled}
 use Rattle.core_locks.proofs.monitor.Claims.{one_place}
-use Rattle.core_locks.proofs.deflation.Enqueues.{one_leaver}
-use Rattle.core_locks.proofs.monitor.Places.{with_same, with_more}
+use Rattle.core_locks.proofs.monitor.Places.{one_leaver}
+use Rattle.core_locks.proofs.monitor.Moved.{as_many, one_fewer}
 use Rattle.core_locks.proofs.RefutedSteps.{knows, hit_fits, standing_fits}
 use Rattle.core_locks.proofs.safepoint.Standing.{fits_standing}
 
@@ -37,22 +37,12 @@ module _ (w : World) (P Q : List PlainObject) (m t : ℕ) (e : CallContext) (end
     | inr h ↦ let no = ap (λ (k : ThreadView). k.reached) (before.absent t h) in absurd (cc (no, reached))
   ]
 
-  mine : (with_known t l w.known t).moving ≡ l.moving
-  mine = ap (λ (k : ThreadView). k.moving) (with_known_here t l w.known)
-
-  moving_else : (u : ℕ) → u ≢ t → (with_known t l w.known u).moving ≡ (w.known u).moving
-  moving_else u d = ap (λ (k : ThreadView). k.moving) (with_known_else t l w.known u d)
-
   -- one position more is filled
   one_more : afterwards.claims.ringed ≡ before.claims.ringed + 1
   one_more =
-      let hands = with_same w.shape.threads (λ u. claimed_or_kept (w.known u).moving (w.known u).kept)
-      (λ u. claimed_or_kept (with_known t l w.known u).moving (with_known t l w.known u).kept)
-      (λ u d. each_with_known (λ u y. is_some (claimed_or_kept y.moving y.kept) ≡ is_some (claimed_or_kept (w.known u).moving (w.known u).kept)) t l w.known u
-      (ap (λ b. is_some (claimed_or_kept b (w.known t).kept)) (sym returns)) (λ d. refl)) in
-      let leaves = with_more w.shape.threads t (λ u. given_back (with_known t l w.known u).moving)
-      (λ u. given_back (w.known u).moving) within (ap (λ b. is_some (given_back b)) mine)
-      (ap (λ b. is_some (given_back b)) returns) (λ u d. ap (λ b. is_some (given_back b)) (sym (moving_else u d))) in
+      let hands = as_many w t l w.shape.threads (λ u y. claimed_or_kept y.moving y.kept)
+      (ap (λ b. is_some (claimed_or_kept b (w.known t).kept)) (sym returns)) in
+      let leaves = one_fewer w t l w.shape.threads (λ u y. given_back y.moving) within (ap (λ b. is_some (given_back b)) returns) refl in
       omega (arith, hands, leaves, before.claims.counted, afterwards.claims.counted)
 
   firsts : before.claims.first % 2 ^ 64 ≡ afterwards.claims.first % 2 ^ 64
@@ -177,13 +167,9 @@ module _ (w : World) (P Q : List PlainObject) (p t : ℕ) (e : CallContext) (cla
   -- as many positions are filled as before, though the claim went on and the end didn't
   claims_twice : ⊥
   claims_twice =
-      let hands = with_same w.shape.threads (λ u. claimed_or_kept (w.known u).moving (w.known u).kept)
-      (λ u. claimed_or_kept (with_known t j w.known u).moving (with_known t j w.known u).kept)
-      (λ u d. each_with_known (λ u y. is_some (claimed_or_kept y.moving y.kept) ≡ is_some (claimed_or_kept (w.known u).moving (w.known u).kept)) t j w.known u
-      (ap (λ b. is_some (claimed_or_kept b (w.known t).kept)) (sym claimed)) (λ d. refl)) in
-      let leaves = with_same w.shape.threads (λ u. given_back (w.known u).moving) (λ u. given_back (with_known t j w.known u).moving)
-      (λ u d. each_with_known (λ u y. is_some (given_back y.moving) ≡ is_some (given_back (w.known u).moving)) t j w.known u
-      (ap (λ b. is_some (given_back b)) (sym claimed)) (λ d. refl)) in
+      let hands = as_many w t j w.shape.threads (λ u y. claimed_or_kept y.moving y.kept)
+      (ap (λ b. is_some (claimed_or_kept b (w.known t).kept)) (sym claimed)) in
+      let leaves = as_many w t j w.shape.threads (λ u y. given_back y.moving) (ap (λ b. is_some (given_back b)) (sym claimed)) in
       let same : afterwards.claims.ringed ≡ before.claims.ringed = omega (arith, hands, leaves, before.claims.counted, afterwards.claims.counted) in
       absurd (omega (arith, same, before.claims.claim_word, afterwards.claims.claim_word, before.claims.end_word, afterwards.claims.end_word))
 

@@ -8,7 +8,7 @@ use Rattle.core_locks.proofs.Prelude.{world_after, Fits, Valid, IsOwner, inflate
 use Rattle.mark_word.proofs.ReadingOwners.{read_owner-spells}
 use Rattle.core_world.specs.Trees.DeflateSteps.{detach_plan}
 use Rattle.core_locks.proofs.MarkMeanings.{neutral_bare, neutral_lock, neutral_header}
-use Rattle.core_locks.proofs.deflation.Enqueues.{one_returned}
+use Rattle.core_locks.proofs.monitor.Places.{one_returned}
 use Rattle.core_locks.proofs.monitor.RefutedInflations.{same_header}
 use Rattle.core_locks.proofs.monitor.RefutedMarks.{no_monitor_lost}
 use Rattle.core_locks.proofs.RefutedSilent.{same_objects, holder_stays}

@@ -1,13 +1,14 @@
 -- A running thread that keeps no monitor claims a ring position.
-use Rattle.core_locks.proofs.Prelude.{◌≡◌, ◌≢◌, ℕ, ◌+◌, ◌-◌, ◌*◌, ◌%◌, ◌<◌, ◌≤◌, ◌^◌, ◌==◌, ◌||◌, eq-eqb, ne_eqb, true, cond, List}
+use Rattle.core_locks.proofs.Prelude.{◌≡◌, ◌≢◌, ℕ, ◌+◌, ◌-◌, ◌*◌, ◌%◌, ◌<◌, ◌≤◌, ◌^◌, ◌||◌, true, List}
 use Rattle.core_locks.proofs.Prelude.{length, None, refl, sym, ap, ◌∙◌, subst, arith, inl, inr, is_some, PlainObject, Claim, End, Ring}
 use Rattle.core_locks.proofs.Prelude.{StepPlan, inflation_in, bears, ThreadView, Moving, Still, Fetches, Returns, World, with_known}
 use Rattle.core_locks.proofs.Prelude.{owner_at, inflated_to, Stays, CallContext, Fits, MonitorsAreClaimed, claimed_or_kept, given_back}
-use Rattle.core_locks.proofs.Prelude.{count_with_monitor, by_equal, each_with_known, with_known_here, with_known_else, header_stays}
+use Rattle.core_locks.proofs.Prelude.{count_with_monitor, by_equal, each_with_known, header_stays}
 use Rattle.core_locks.proofs.Prelude.{fits_running, KeepsValid, MayClaim, claim_plan, monitor_count, ring_bits}
 use Rattle.core_world.specs.Clauses.Claims.{Place, With, At, Leaves, InRing}
 use Rattle.core_world.proofs.deflation.Rings.{ring_few, place_of_word}
-use Rattle.core_locks.proofs.monitor.Places.{with_most, with_more, with_none}
+use Rattle.core_locks.proofs.monitor.Places.{one_holder, one_position, one_claimed, with_most, with_none}
+use Rattle.core_locks.proofs.monitor.Moved.{moved, Moves, moves_from, moving_here, moving_else, moves_law, one_more}
 use Rattle.core_locks.proofs.Clauses.{kept_parts, parts_stand, seen, claims, moves, AllHold}
 use Rattle.std.proofs.Common.{◌/◌}
 use Rattle.std.proofs.lemmas.Nat.{div-add-mod'}
@@ -27,15 +28,6 @@ pub one_place : (p q d b : ℕ) → b ≤ 64 → p % 2 ^ 64 ≡ q % 2 ^ 64 → (
 one_place p q d b few same =
     let words : (p + d) % 2 ^ 64 ≡ (q + d) % 2 ^ 64 = sym (next_word p (2 ^ 64) d) ∙ ap (λ z. (z + d) % 2 ^ 64) same ∙ next_word q (2 ^ 64) d in
     sym (place_of_word (p + d) b few) ∙ ap (λ z. z % 2 ^ b) words ∙ place_of_word (q + d) b few
-
-one_position : (p q : ℕ) → InRing p ≡ InRing q → p ≡ q
-one_position p q e = cc e
-
-one_holder : (t u : ℕ) → With t ≡ With u → t ≡ u
-one_holder t u e = cc e
-
-one_claimed : (p q : ℕ) → Fetches p ≡ Fetches q → p ≡ q
-one_claimed p q e = cc e
 
 module _ (w : World) (P : List PlainObject) (t : ℕ) (e : CallContext) (within : t < w.shape.threads) (may : MayClaim (w.known t) e) (v : Fits w P) where
   abbrev plan : StepPlan
@@ -68,19 +60,10 @@ module _ (w : World) (P : List PlainObject) (t : ℕ) (e : CallContext) (within 
       by_moving (Fetches p) g = refl
       by_moving (Returns m) g = let stopped = (v.safe.safepoint u (v.moves.reaches u m g)).1 t in let runs = may.runs in absurd (cc (stopped, runs))
 
-  moving_else : (u : ℕ) → u ≢ t → (with_known t l w.known u).moving ≡ (w.known u).moving
-  moving_else u d = ap (λ (k : ThreadView). k.moving) (with_known_else t l w.known u d)
-
-  moving_here : (with_known t l w.known t).moving ≡ Fetches c
-  moving_here = ap (λ (k : ThreadView). k.moving) (with_known_here t l w.known)
-
   hands_more : count_with_monitor w.shape.threads (λ u. claimed_or_kept (with_known t l w.known u).moving (w.known u).kept)
       ≡ count_with_monitor w.shape.threads (λ u. claimed_or_kept (w.known u).moving (w.known u).kept) + 1
-  hands_more =
-      with_more w.shape.threads t (λ u. claimed_or_kept (w.known u).moving (w.known u).kept)
-      (λ u. claimed_or_kept (with_known t l w.known u).moving (w.known u).kept) within
-      ((λ i. is_some (claimed_or_kept (may.still i) (may.none i)))) (ap (λ m. is_some (claimed_or_kept m (w.known t).kept)) moving_here)
-      (λ u d. ap (λ m. is_some (claimed_or_kept m (w.known u).kept)) (moving_else u d))
+  hands_more = one_more w t l w.shape.threads (λ u y. claimed_or_kept y.moving (w.known u).kept) within
+      (λ i. is_some (claimed_or_kept (may.still i) (may.none i))) refl
 
   returns_none : count_with_monitor w.shape.threads (λ u. given_back (w.known u).moving) ≡ 0
   returns_none = with_none w.shape.threads (λ u. given_back (w.known u).moving) none_returns
@@ -107,21 +90,12 @@ module _ (w : World) (P : List PlainObject) (t : ℕ) (e : CallContext) (within 
   same_place = ap (λ z. z % 2 ^ bits) v.claims.claim_word ∙ place_of_word first bits (let few = ring_few w.shape in omega (arith, few))
 
   abbrev place : ℕ → Place
-  place a = cond (a == m) (With t) (v.claims.place a)
+  place = moved v.claims.place m (With t)
 
-  place_here : (a : ℕ) → a ≡ m → place a ≡ With t
-  place_here a s = ap (λ b. cond b (With t) (v.claims.place a)) (eq-eqb a m s)
+  move : Moves v.claims.place m (InRing first) (With t)
+  move = moves_from v.claims.place m (InRing first) (With t) stood.1
 
-  place_else : (a : ℕ) → a ≢ m → place a ≡ v.claims.place a
-  place_else a d = ap (λ b. cond b (With t) (v.claims.place a)) (ne_eqb a m d)
-
-  -- a monitor that is elsewhere is another, and stays there
-  stays_at : (a : ℕ) (q : Place) → v.claims.place a ≡ q → (InRing first ≡ q → ⊥) → place a ≡ q
-  stays_at a q h other = place_else a (λ s. other (sym stood.1 ∙ ap v.claims.place (sym s) ∙ h)) ∙ h
-
-  -- and one that is elsewhere than with the thread was there
-  was_at : (a : ℕ) (q : Place) → place a ≡ q → (With t ≡ q → ⊥) → (a ≢ m) × (v.claims.place a ≡ q)
-  was_at a q h other = by_equal a m (λ s. absurd (other (sym (place_here a s) ∙ h))) (λ d. (d, sym (place_else a d) ∙ h))
+  open move use {place_here, place_else, stays_at, was_at}
 
   claims_law : MonitorsAreClaimed w.shape.threads (length w.shape.objects) (monitor_count w.shape) bits
       (x.words Claim) (w.words End) ring (inflated_to w) (λ u. (w.known u).kept) (λ u. (with_known t l w.known u).moving)
@@ -145,19 +119,19 @@ module _ (w : World) (P : List PlainObject) (t : ℕ) (e : CallContext) (within 
         (b.0, stays_at (ring (p % 2 ^ bits)) (InRing p) b.1 (λ q. let s = one_position first p q in absurd (omega (arith, s, low))));
     kept_there = λ u a h q. by_equal a m
         (λ s. let is : u ≡ t = sym (one_holder t u (sym (place_here a s) ∙ q)) in
-        inr (c, ap (λ z. (with_known t l w.known z).moving) is ∙ moving_here, ap ring same_place ∙ sym s))
+        inr (c, ap (λ z. (with_known t l w.known z).moving) is ∙ moving_here w t l, ap ring same_place ∙ sym s))
         (λ d. elim (v.claims.kept_there u a h (sym (place_else a d) ∙ q)) [
           | inl b ↦ inl b
           | inr b ↦ inr (
             b.0,
-            moving_else u (λ s. let none = may.still in
+            moving_else w t l u (λ s. let none = may.still in
                 let some = ap (λ z. (w.known z).moving) (sym s) ∙ b.1 in absurd (cc (none, some))) ∙ b.1,
             b.2,
           )
         ]);
     named_there = λ o a h q. v.claims.named_there o a h (was_at a (At o) q (λ z. cc z)).1;
     returned_there = λ u a h q. let b = v.claims.returned_there u a h (was_at a (Leaves u) q (λ z. cc z)).1 in
-        moving_else u (λ s. let none = may.still in let some = ap (λ z. (w.known z).moving) (sym s) ∙ b in absurd (cc (none, some))) ∙ b;
+        moving_else w t l u (λ s. let none = may.still in let some = ap (λ z. (w.known z).moving) (sym s) ∙ b in absurd (cc (none, some))) ∙ b;
     ringed_there = λ p a h q. let was = was_at a (InRing p) q (λ z. cc z) in let b = v.claims.ringed_there p a h was.1 in
         let other : p ≢ first = λ s. was.0 (sym b.2 ∙ ap (λ z. ring (z % 2 ^ bits)) s) in
         (omega (arith, b.0, other), omega (arith, b.1, some), b.2);
@@ -194,10 +168,7 @@ module _ (w : World) (P : List PlainObject) (t : ℕ) (e : CallContext) (within 
     uncounted = uncounted;
   }) v)
   all_after claims = claims_law
-  all_after moves = record {
-    runs = λ u p. each_with_known (λ u y. y.moving ≡ Fetches p → (w.known u).running ≡ true) t l w.known u (λ h. may.runs) (λ d. v.moves.runs u p);
-    reaches = λ u a. each_with_known (λ u y. y.moving ≡ Returns a → (w.known u).reached ≡ true) t l w.known u (λ h. absurd (cc h)) (λ d. v.moves.reaches u a);
-  }
+  all_after moves = moves_law w t l P (λ p h. may.runs) (λ a h. absurd (cc h)) v
   all_after k = quiet_step step P may.goes_on may.runs v k
 
   claimed_fits : Fits x P

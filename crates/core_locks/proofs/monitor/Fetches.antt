@@ -9,14 +9,12 @@ use Rattle.core_world.specs.Clauses.Claims.{With, Leaves, InRing}
 use Rattle.core_world.proofs.deflation.Rings.{ring_few}
 use Rattle.core_locks.specs.DeflationLaws.{IsFilled, IsOnlyFor}
 use Rattle.core_locks.proofs.monitor.Claims.{one_place}
-use Rattle.core_locks.proofs.monitor.Places.{with_same}
+use Rattle.core_locks.proofs.monitor.Places.{one_holder, one_claimed}
+use Rattle.core_locks.proofs.monitor.Moved.{moving_else, moves_law, as_many}
 use Rattle.core_locks.proofs.Clauses.{kept_parts, parts_stand, seen, claims, moves, AllHold}
 use Rattle.core_locks.proofs.Steps.{keeping, IsStep, next, step_fits, seen_next, quiet_step}
 use Rattle.core_locks.proofs.OwnSeen.{back_by, left_with, hit_world}
 use Rattle.core_locks.proofs.monitor.MonitorSeen.{monitor_seen, others_by, stays_kept}
-
-one_claimed : (p q : ℕ) → Fetches p ≡ Fetches q → p ≡ q
-one_claimed p q e = cc e
 
 module _ (w : World) (P : List PlainObject) (t : ℕ) (e : CallContext) (p : ℕ)
     (within : t < w.shape.threads) (may : MayFetch (w.known t) e p) (v : Fits w P) where
@@ -64,18 +62,6 @@ module _ (w : World) (P : List PlainObject) (t : ℕ) (e : CallContext) (p : ℕ
   kept_else : (u : ℕ) → u ≢ t → (with_known t l w.known u).kept ≡ (w.known u).kept
   kept_else u d = ap (λ (k : ThreadView). k.kept) (with_known_else t l w.known u d)
 
-  moving_else : (u : ℕ) → u ≢ t → (with_known t l w.known u).moving ≡ (w.known u).moving
-  moving_else u d = ap (λ (k : ThreadView). k.moving) (with_known_else t l w.known u d)
-
-  alike : (u : ℕ) → is_some (claimed_or_kept (with_known t l w.known u).moving (with_known t l w.known u).kept)
-      ≡ is_some (claimed_or_kept (w.known u).moving (w.known u).kept)
-  alike u = each_with_known (λ u y. is_some (claimed_or_kept y.moving y.kept) ≡ is_some (claimed_or_kept (w.known u).moving (w.known u).kept)) t l w.known u
-      (ap (λ z. is_some (claimed_or_kept z (w.known t).kept)) (sym may.claimed)) (λ d. refl)
-
-  alike_back : (u : ℕ) → is_some (given_back (with_known t l w.known u).moving) ≡ is_some (given_back (w.known u).moving)
-  alike_back u = each_with_known (λ u y. is_some (given_back y.moving) ≡ is_some (given_back (w.known u).moving)) t l w.known u
-      (ap (λ z. is_some (given_back z)) (sym may.claimed)) (λ d. refl)
-
   claims_law : MonitorsAreClaimed w.shape.threads (length w.shape.objects) (monitor_count w.shape) (ring_bits w.shape)
       (w.words Claim) (w.words End) ring (inflated_to w) (λ u. (with_known t l w.known u).kept) (λ u. (with_known t l w.known u).moving)
   claims_law = record {
@@ -101,15 +87,15 @@ module _ (w : World) (P : List PlainObject) (t : ℕ) (e : CallContext) (p : ℕ
               inl (ap (λ z. (with_known t l w.known z).kept) s ∙ ap (λ (k : ThreadView). k.kept) (with_known_here t l w.known)
               ∙ ap Some (ap (λ z. ring (z % 2 ^ ring_bits w.shape)) (sym is) ∙ b.2))
         ])
-        (λ d. elim (v.claims.kept_there u a h q) [ inl b ↦ inl (kept_else u d ∙ b) | inr b ↦ inr (b.0, moving_else u d ∙ b.1, b.2) ]);
+        (λ d. elim (v.claims.kept_there u a h q) [ inl b ↦ inl (kept_else u d ∙ b) | inr b ↦ inr (b.0, moving_else w t l u d ∙ b.1, b.2) ]);
     named_there = v.claims.named_there;
     returned_there = λ u a h q. let b = v.claims.returned_there u a h q in
-        moving_else u (λ s. let some = may.claimed in let other = ap (λ z. (w.known z).moving) (sym s) ∙ b in absurd (cc (some, other))) ∙ b;
+        moving_else w t l u (λ s. let some = may.claimed in let other = ap (λ z. (w.known z).moving) (sym s) ∙ b in absurd (cc (some, other))) ∙ b;
     ringed_there = v.claims.ringed_there;
     counted =
-        let a = with_same w.shape.threads (λ u. claimed_or_kept (w.known u).moving (w.known u).kept)
-        (λ u. claimed_or_kept (with_known t l w.known u).moving (with_known t l w.known u).kept) (λ u d. alike u) in
-        let b = with_same w.shape.threads (λ u. given_back (w.known u).moving) (λ u. given_back (with_known t l w.known u).moving) (λ u d. alike_back u) in
+        let a = as_many w t l w.shape.threads (λ u y. claimed_or_kept y.moving y.kept)
+        (ap (λ z. is_some (claimed_or_kept z (w.known t).kept)) (sym may.claimed)) in
+        let b = as_many w t l w.shape.threads (λ u y. given_back y.moving) (ap (λ z. is_some (given_back z)) (sym may.claimed)) in
         omega (arith, a, b, v.claims.counted);
   }
 
@@ -135,10 +121,7 @@ module _ (w : World) (P : List PlainObject) (t : ℕ) (e : CallContext) (p : ℕ
   all_after claims = subst (λ (f : WordId → ℕ). MonitorsAreClaimed w.shape.threads (length w.shape.objects)
       (monitor_count w.shape) (ring_bits w.shape) (f Claim) (f End) (λ q. f (Ring q)) (inflated_to w)
       (λ u. (with_known t l w.known u).kept) (λ u. (with_known t l w.known u).moving)) (sym (with_word_same plan.at (w.words plan.at) w.words refl)) claims_law
-  all_after moves = record {
-    runs = λ u q. each_with_known (λ u y. y.moving ≡ Fetches q → (w.known u).running ≡ true) t l w.known u (λ h. absurd (cc h)) (λ d. v.moves.runs u q);
-    reaches = λ u a. each_with_known (λ u y. y.moving ≡ Returns a → (w.known u).reached ≡ true) t l w.known u (λ h. absurd (cc h)) (λ d. v.moves.reaches u a);
-  }
+  all_after moves = moves_law w t l P (λ q h. absurd (cc h)) (λ a h. absurd (cc h)) v
   all_after k = quiet_step step P may.goes_on may.runs v k
 
   fetched_fits : Fits x P
@@ -181,14 +164,11 @@ of_nobody w P t e p may valid =
       unnamed = λ o h. let here = mine.2 in let there = (v.claims.names o (w.words (Ring (p % ring_places w.shape))) h).1 in absurd (cc (here, there));
       unkept = λ u h.
           let there = (v.claims.keeps u (w.words (Ring (p % ring_places w.shape))) h).1 in
-          let same : u ≡ t = one_keeper u t (sym there ∙ mine.2) in
+          let same : u ≡ t = one_holder u t (sym there ∙ mine.2) in
           let none = mine.0 in
           let some = ap (λ y. (w.known y).kept) (sym same) ∙ h in
           absurd (cc (none, some));
-      unclaimed = λ u q other h is. let there = (v.claims.fetches u q h).2 in other (one_keeper u t (sym there ∙ ap v.claims.place is ∙ mine.2));
+      unclaimed = λ u q other h is. let there = (v.claims.fetches u q h).2 in other (one_holder u t (sym there ∙ ap v.claims.place is ∙ mine.2));
       unreturned = λ u h. let here = mine.2 in let there = (v.claims.returns u (w.words (Ring (p % ring_places w.shape))) h).1 in absurd (cc (here, there));
       unringed = λ d filled h. let here = mine.2 in let there = sym (ap v.claims.place h) ∙ in_ring w P v d filled in absurd (cc (here, there));
     }
-  where
-    one_keeper : (u y : ℕ) → With u ≡ With y → u ≡ y
-    one_keeper u y q = cc q

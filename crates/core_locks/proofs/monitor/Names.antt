@@ -8,12 +8,13 @@ use Rattle.core_locks.proofs.Prelude.{recursions_ahead, recursions_lowered, revo
 use Rattle.core_locks.proofs.Prelude.{with_known, OwnedBy, lock, header, marks, displaced_words, headers, prototype_of, inflations, recursion_count}
 use Rattle.core_locks.proofs.Prelude.{owner_at, waits_at, notified_at, inflated_to, Stays, IsValidBias, InMiddleOf, RecursionsFit, CallContext}
 use Rattle.core_locks.proofs.Prelude.{quiet_plan, with_own, Fits, SeenFit, IsUnfinished, InflationsAreOne, MonitorsAreClaimed, monitor_count}
-use Rattle.core_locks.proofs.Prelude.{IsMark, Act, by_equal, each_with_known, with_known_here, GoesOn, KeptMonitorIsReady, ◌==◌, ◌%◌, ◌^◌, cond}
-use Rattle.core_locks.proofs.Prelude.{eq-eqb, ne_eqb, is_some, End, Ring, Moving, Still, Fetches, Returns, ring_bits}
+use Rattle.core_locks.proofs.Prelude.{IsMark, Act, by_equal, each_with_known, GoesOn, KeptMonitorIsReady, ◌%◌, ◌^◌}
+use Rattle.core_locks.proofs.Prelude.{is_some, End, Ring, Moving, Still, Fetches, Returns, ring_bits}
 use Rattle.core_world.specs.declared.plan.LocalEffect.TheVariants as own
 use Rattle.core_world.specs.declared.heap_call.Operation.TheVariants as op
 use Rattle.core_world.specs.Clauses.Claims.{Place, With, At, Leaves, InRing, MonitorsAreClaimed, claimed_or_kept}
-use Rattle.core_locks.proofs.monitor.Places.{kept_once, kept_apart, with_more}
+use Rattle.core_locks.proofs.monitor.Places.{one_holder, one_object, kept_once, kept_apart, with_more}
+use Rattle.core_locks.proofs.monitor.Moved.{moved, Moves, moves_from, one_fewer}
 use Rattle.core_locks.proofs.Clauses.{parts_with, parts_are, seen, forms, biases, inflating, monitors, recursions, hashes, waits, claims, classes, AllHold}
 use Rattle.core_locks.proofs.EvenSteps.{IsEven, even_by, even_step, held_even}
 use Rattle.core_locks.proofs.MarkChanges.{mark_here, mark_else, bias_back, bias_forth, bias_before, biases_by_marks, classes_by_marks}
@@ -158,9 +159,6 @@ module _ (w : World) (P : List PlainObject) (t : ℕ) (e : CallContext) (o m : �
   kept_else : (u : ℕ) → u ≢ t → (with_known t l w.known u).kept ≡ (w.known u).kept
   kept_else u d = each_with_known (λ u y. u ≢ t → y.kept ≡ (w.known u).kept) t l w.known u (λ d. absurd (d refl)) (λ d e. refl) d
 
-  kept_here : (with_known t l w.known t).kept ≡ None
-  kept_here = ap (λ (k : ThreadView). k.kept) (with_known_here t l w.known)
-
   kept_back : (u a : ℕ) → (with_known t l w.known u).kept ≡ Some a → (u ≢ t) × ((w.known u).kept ≡ Some a)
   kept_back u a = each_with_known (λ u y. y.kept ≡ Some a → (u ≢ t) × ((w.known u).kept ≡ Some a)) t l w.known u (λ h. absurd (cc h)) (λ d h. (d, h))
 
@@ -173,35 +171,19 @@ module _ (w : World) (P : List PlainObject) (t : ℕ) (e : CallContext) (o m : �
   mine_there : (m < monitor_count w.shape) × (v.claims.place m ≡ With t)
   mine_there = v.claims.keeps t m ready.kept
 
-  one_holder : (u y : ℕ) → With u ≡ With y → u ≡ y
-  one_holder u y q = cc q
-
-  one_object : (i j : ℕ) → At i ≡ At j → i ≡ j
-  one_object i j q = cc q
-
   abbrev place : ℕ → Place
-  place a = cond (a == m) (At o) (v.claims.place a)
+  place = moved v.claims.place m (At o)
 
-  place_here : (a : ℕ) → a ≡ m → place a ≡ At o
-  place_here a s = ap (λ b. cond b (At o) (v.claims.place a)) (eq-eqb a m s)
+  move : Moves v.claims.place m (With t) (At o)
+  move = moves_from v.claims.place m (With t) (At o) mine_there.1
 
-  place_else : (a : ℕ) → a ≢ m → place a ≡ v.claims.place a
-  place_else a d = ap (λ b. cond b (At o) (v.claims.place a)) (ne_eqb a m d)
-
-  stays_at : (a : ℕ) (q : Place) → v.claims.place a ≡ q → (With t ≡ q → ⊥) → place a ≡ q
-  stays_at a q h other = place_else a (λ s. other (sym mine_there.1 ∙ ap v.claims.place (sym s) ∙ h)) ∙ h
-
-  was_at : (a : ℕ) (q : Place) → place a ≡ q → (At o ≡ q → ⊥) → (a ≢ m) × (v.claims.place a ≡ q)
-  was_at a q h other = by_equal a m (λ s. absurd (other (sym (place_here a s) ∙ h))) (λ d. (d, sym (place_else a d) ∙ h))
+  open move use {place_here, place_else, stays_at, was_at}
 
   -- a thread that keeps a monitor has claimed no position
   no_position : (b : Moving) → (w.known t).moving ≡ b → (is_some (claimed_or_kept b None) ≡ false) × (is_some (claimed_or_kept b (w.known t).kept) ≡ true)
   no_position Still g = (refl, ap is_some ready.kept)
   no_position (Fetches p) g = let none = (v.claims.fetches t p g).0 in let some = ready.kept in absurd (cc (none, some))
   no_position (Returns a) g = (refl, ap is_some ready.kept)
-
-  abbrev hands : (ℕ → ThreadView) → ℕ → Option ℕ
-  hands f u = claimed_or_kept (w.known u).moving (f u).kept
 
   claims_law : MonitorsAreClaimed w.shape.threads (length w.shape.objects) (monitor_count w.shape) bits
       (w.words Claim) (w.words End) ring (inflated_to x) (λ u. (with_known t l w.known u).kept) (λ u. (w.known u).moving)
@@ -232,9 +214,7 @@ module _ (w : World) (P : List PlainObject) (t : ℕ) (e : CallContext) (o m : �
     ringed_there = λ p a h q. v.claims.ringed_there p a h (was_at a (InRing p) q (λ z. cc z)).1;
     counted =
         let free = no_position (w.known t).moving refl in
-        let less = with_more w.shape.threads t (hands (with_known t l w.known)) (hands w.known) within
-        (ap (λ k. is_some (claimed_or_kept (w.known t).moving k)) kept_here ∙ free.0) free.1
-        (λ u d. ap (λ k. is_some (claimed_or_kept (w.known u).moving k)) (sym (kept_else u d))) in
+        let less = one_fewer w t l w.shape.threads (λ u y. claimed_or_kept (w.known u).moving y.kept) within free.1 free.0 in
         let more = with_more (length w.shape.objects) o (inflated_to w) (inflated_to x) ready.object.within
         (ap is_some unnamed) (ap is_some here) (λ i d. ap (λ z. is_some (monitor_in z)) (mark_else w o mark t l i d)) in
         omega (arith, less, more, v.claims.counted);

@@ -1,17 +1,33 @@
 -- Where monitors are: each is in one place, and how many of the threads and objects have one.
 use Rattle.std.proofs.Common.{◌≡◌, ◌≢◌, ℕ, zero, suc, ◌+◌, ◌<◌, ◌≤◌, Bool, true, false, is_some, Option, Some, None, refl, sym, ap, ◌∙◌, arith}
-use Rattle.core_world.specs.Clauses.Claims.{MonitorsAreClaimed, With, count_with_monitor}
-use Rattle.core_world.specs.Threads.ThreadView.{Moving}
+use Rattle.core_world.specs.Clauses.Claims.{MonitorsAreClaimed, With, At, Leaves, InRing, count_with_monitor}
+use Rattle.core_world.specs.Threads.ThreadView.{Moving, Fetches, Returns}
 use Rattle.core_world.specs.Threads.Stages.{one_if}
 use Rattle.core_world.proofs.KnowledgeParts.{by_equal}
 
-one_thread : (t u : ℕ) → With t ≡ With u → t ≡ u
-one_thread t u e = cc e
+-- a place is of one thread, object or position, and so is what a thread has in hand
+pub one_holder : (t u : ℕ) → With t ≡ With u → t ≡ u
+one_holder t u e = cc e
+
+pub one_object : (i j : ℕ) → At i ≡ At j → i ≡ j
+one_object i j e = cc e
+
+pub one_leaver : (t u : ℕ) → Leaves t ≡ Leaves u → t ≡ u
+one_leaver t u e = cc e
+
+pub one_position : (p q : ℕ) → InRing p ≡ InRing q → p ≡ q
+one_position p q e = cc e
+
+pub one_claimed : (p q : ℕ) → Fetches p ≡ Fetches q → p ≡ q
+one_claimed p q e = cc e
+
+pub one_returned : (a b : ℕ) → Returns a ≡ Returns b → a ≡ b
+one_returned a b e = cc e
 
 module _ {threads objects monitors bits claim end : ℕ} {ring : ℕ → ℕ} {monitor kept : ℕ → Option ℕ} {moving : ℕ → Moving}
     (c : MonitorsAreClaimed threads objects monitors bits claim end ring monitor kept moving) where
   pub kept_once : (t u m : ℕ) → kept t ≡ Some m → kept u ≡ Some m → t ≡ u
-  kept_once t u m e f = one_thread t u (sym (c.keeps t m e).1 ∙ (c.keeps u m f).1)
+  kept_once t u m e f = one_holder t u (sym (c.keeps t m e).1 ∙ (c.keeps u m f).1)
 
   pub kept_apart : (t o m : ℕ) → kept t ≡ Some m → monitor o ≡ Some m → ⊥
   kept_apart t o m e f = let a = (c.keeps t m e).1 in let b = (c.names o m f).1 in absurd (cc (a, b))

@@ -1,6 +1,6 @@
 -- A running thread stores the words of the monitor that it keeps.
-use Rattle.core_locks.proofs.Prelude.{◌≡◌, ℕ, ◌<◌, ◌||◌, ne_eqb, true, length, List, Some, ap, ◌∙◌, inl, PlainObject, WordId, Owner}
-use Rattle.core_locks.proofs.Prelude.{Recursions, Header, Object, StepPlan, read_owner, bears, World, owner_at, IsKeptOrNamed, CallContext}
+use Rattle.core_locks.proofs.Prelude.{ℕ, ◌<◌, ne_eqb, length, List, Some, ap, ◌∙◌, inl, PlainObject, WordId, Owner}
+use Rattle.core_locks.proofs.Prelude.{Recursions, Header, Object, StepPlan, read_owner, World, IsKeptOrNamed, CallContext}
 use Rattle.core_locks.proofs.Prelude.{Fits, IsOwner, fits_running, KeepsValid, MayPrepare, MayPrepareOwner, MayPrepareObject, prepare_plan}
 use Rattle.core_locks.proofs.Steps.{quiet_step}
 use Rattle.core_locks.proofs.OwnSeen.{own_seen, hit_world}
@@ -25,24 +25,21 @@ module _ (w : World) (P : List PlainObject) (t : ℕ) (e : CallContext) (m word 
   known : IsKeptOrNamed w (w.known t) m
   known = inl may.kept
 
-  held : (i : ℕ) → (owner_at P i t || bears (w.known t).stage i) ≡ true → (owner_at P i t || bears (w.known t).stage i) ≡ true
-  held i h = h
-
   owner_stored : IsOwner w.shape (read_owner word) → Fits (hit_world w t (plan (Owner m))) P
   owner_stored form = owner_fits w P t e m word stores form
-      (own_seen w P t (plan (Owner m)) (search (may.runs, known, held, uncounted_kept w P t m v may.kept (Owner m))) v)
+      (own_seen w P t (plan (Owner m)) (search (may.runs, known, uncounted_kept w P t m v may.kept (Owner m))) v)
 
   count_stored : Fits (hit_world w t (plan (Recursions m))) P
   count_stored = count_fits w P t e m word stores
-      (own_seen w P t (plan (Recursions m)) (search (may.runs, known, held, uncounted_kept w P t m v may.kept (Recursions m))) v)
+      (own_seen w P t (plan (Recursions m)) (search (may.runs, known, uncounted_kept w P t m v may.kept (Recursions m))) v)
 
   head_stored : Fits (hit_world w t (plan (Header m))) P
   head_stored = head_fits w P t e m word stores
-      (own_seen w P t (plan (Header m)) (search (may.runs, known, held, uncounted_kept w P t m v may.kept (Header m))) v)
+      (own_seen w P t (plan (Header m)) (search (may.runs, known, uncounted_kept w P t m v may.kept (Header m))) v)
 
   object_stored : word < length w.shape.objects → Fits (hit_world w t (plan (Object m))) P
   object_stored here = object_fits w P t e m word stores (λ d. here)
-      (own_seen w P t (plan (Object m)) (search (may.runs, known, held, uncounted_kept w P t m v may.kept (Object m))) v)
+      (own_seen w P t (plan (Object m)) (search (may.runs, known, uncounted_kept w P t m v may.kept (Object m))) v)
 
 -- the laws
 pub prepares_owner : (e : CallContext) (m word : ℕ)
