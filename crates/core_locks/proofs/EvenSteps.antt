@@ -5,7 +5,7 @@ use Rattle.core_locks.proofs.Prelude.{bears, hold_words_ahead, ThreadView, World
 use Rattle.core_locks.proofs.Prelude.{monitor_of, owner_at, HoldsFitLogs, RecordsRest, Fits, LocksArePlain, BiasAcquired}
 use Rattle.core_locks.proofs.Clauses.{Clause, holds, owners, records}
 use Rattle.core_locks.proofs.Steps.{owners_move, stage_part, holds_stand, Fields, IsStep, GoesOnTo}
-use Rattle.core_locks.proofs.Steps.{IsPlain, plain_by, Plain, plain_step, stage_back, stage_forth}
+use Rattle.core_locks.proofs.Steps.{IsPlain, is_plain, plain_by, Plain, plain_step, stage_back, stage_forth}
 
 pub record IsEven (s : Stage) : Type 0 where
   pub plain : IsPlain s
@@ -24,56 +24,27 @@ is_even (RecursionsLowered o) = true
 is_even (Inflates o t p) = true
 is_even _ = false
 
+even_is : (s : Stage) → is_even s ≡ true → (is_plain s ≡ true) × ((o : ℕ) → bears s o ≡ false) × ((o : ℕ) → hold_words_ahead s o ≡ 0)
+even_is Settled e = (refl, λ o. refl, λ o. refl)
+even_is (BiasAcquired i) e = (refl, λ o. refl, λ o. refl)
+even_is (OwnerConverted i) e = (refl, λ o. refl, λ o. refl)
+even_is (RecursionsRaised i) e = (refl, λ o. refl, λ o. refl)
+even_is (RecursionsLowered i) e = (refl, λ o. refl, λ o. refl)
+even_is (Inflates i t p) e = (refl, λ o. refl, λ o. refl)
+even_is _ e = absurd (cc e)
+
 pub even_by : (s : Stage) → is_even s ≡ true → IsEven s
-even_by Settled e = record {
-  plain = plain_by Settled refl;
-  unborne = λ o. refl;
-  alone = λ o. refl;
-  seizes = λ o p c. cc c;
-  grabs = λ o c. cc c;
-  exits = λ o p c. cc c;
+even_by s e = record {
+  plain = plain_by s (even_is s e).0;
+  unborne = (even_is s e).1;
+  alone = (even_is s e).2;
+  seizes = λ o p. other (RecordLocked o p) refl;
+  grabs = λ o. other (MonitorAcquired o) refl;
+  exits = λ o p. other (Exits o p) refl;
 }
-even_by (BiasAcquired i) e = record {
-  plain = plain_by (BiasAcquired i) refl;
-  unborne = λ o. refl;
-  alone = λ o. refl;
-  seizes = λ o p c. cc c;
-  grabs = λ o c. cc c;
-  exits = λ o p c. cc c;
-}
-even_by (OwnerConverted i) e = record {
-  plain = plain_by (OwnerConverted i) refl;
-  unborne = λ o. refl;
-  alone = λ o. refl;
-  seizes = λ o p c. cc c;
-  grabs = λ o c. cc c;
-  exits = λ o p c. cc c;
-}
-even_by (RecursionsRaised i) e = record {
-  plain = plain_by (RecursionsRaised i) refl;
-  unborne = λ o. refl;
-  alone = λ o. refl;
-  seizes = λ o p c. cc c;
-  grabs = λ o c. cc c;
-  exits = λ o p c. cc c;
-}
-even_by (RecursionsLowered i) e = record {
-  plain = plain_by (RecursionsLowered i) refl;
-  unborne = λ o. refl;
-  alone = λ o. refl;
-  seizes = λ o p c. cc c;
-  grabs = λ o c. cc c;
-  exits = λ o p c. cc c;
-}
-even_by (Inflates i t p) e = record {
-  plain = plain_by (Inflates i t p) refl;
-  unborne = λ o. refl;
-  alone = λ o. refl;
-  seizes = λ o p c. cc c;
-  grabs = λ o c. cc c;
-  exits = λ o p c. cc c;
-}
-even_by _ e = absurd (cc e)
+  where
+    other : (f : Stage) → is_even f ≡ false → s ≡ f → ⊥
+    other f odd same = let both = ap is_even same in absurd (cc (e, odd, both))
 
 module _ {w : World} {t : ℕ} {l : ThreadView} {fields : Fields} (s : IsStep w t l fields) (before : IsEven (w.known t).stage) (now : IsEven l.stage) where
   pub bears_stay : (u o : ℕ) → bears (with_known t l w.known u).stage o ≡ bears (w.known u).stage o
