@@ -5,6 +5,20 @@ use Rattle.core_locks.proofs.Prelude.{bears, notification_in, ThreadView, World,
 use Rattle.core_locks.proofs.Prelude.{who, holder, hold_count, owner_at, RecordsRest, Fits, LocksArePlain, each_with_known}
 use Rattle.core_locks.proofs.Steps.{owners_move, Fields, IsStep, stage_back, stage_forth}
 
+-- the lock of o was A and is B, and each other is what it was
+pub record LockTurn (w : World) (o : ℕ) (locks : ℕ → Lock) (A B : Lock) : Type 0 where
+  pub now : (i : ℕ) → ((i ≡ o) × (locks i ≡ B)) ⊎ ((i ≢ o) × (locks i ≡ lock w i))
+  pub back : (i : ℕ) (f : Lock) → locks i ≡ f → (B ≡ f → ⊥) → lock w i ≡ f
+  pub forth : (i : ℕ) (f : Lock) → lock w i ≡ f → (A ≡ f → ⊥) → locks i ≡ f
+
+pub turns_from : (w : World) (o : ℕ) (locks : ℕ → Lock) (A B : Lock) → lock w o ≡ A
+    → ((i : ℕ) → ((i ≡ o) × (locks i ≡ B)) ⊎ ((i ≢ o) × (locks i ≡ lock w i))) → LockTurn w o locks A B
+turns_from w o locks A B was now = record {
+  now = now;
+  back = λ i f g d. elim (now i) [ inl a ↦ absurd (d (sym a.1 ∙ g)) | inr a ↦ sym a.1 ∙ g ];
+  forth = λ i f g d. elim (now i) [ inl a ↦ absurd (d (sym was ∙ ap (lock w) (sym a.0) ∙ g)) | inr a ↦ a.1 ∙ g ];
+}
+
 module _ {w : World} {t : ℕ} {l : ThreadView} {fields : Fields} {P : List PlainObject}
     (step : IsStep w t l fields) (v : Fits w P) (locks : ℕ → Lock) (o : ℕ) (B : Lock)
     (now : (i : ℕ) → ((i ≡ o) × (locks i ≡ B)) ⊎ ((i ≢ o) × (locks i ≡ lock w i))) where

@@ -2,9 +2,9 @@
 -- threads don't count on the mark that was there.
 use Rattle.core_locks.proofs.Prelude.{◌≡◌, ◌≢◌, ◌⊎◌, ℕ, ◌||◌, eq-eqb, ne_eqb, Bool, true, false, cond, List, [], Option, Some, None, refl, sym}
 use Rattle.core_locks.proofs.Prelude.{ap, ◌∙◌, subst, inl, inr, read_mark, Logged, Mark, Stage, is_biased, monitor_in, Inflation, inflation_in}
-use Rattle.core_locks.proofs.Prelude.{bears, revocation_in, ThreadView, World, with_word_and_known, with_known, Lock, BiasedTo, OwnedBy, lock}
+use Rattle.core_locks.proofs.Prelude.{bears, revocation_in, ThreadView, World, with_word_and_known, with_known, Lock, BiasedTo, OnRecord, OwnedBy, lock}
 use Rattle.core_locks.proofs.Prelude.{lock_form, header, header_form, marks, displaced_words, headers, owner_words, prototype_of, inflations}
-use Rattle.core_locks.proofs.Prelude.{IsValidBias, RecursionsFit, GoesByMonitor, WaitsFit, BiasedAreFree, InflationsAreOne, MonitorsAreClaimed}
+use Rattle.core_locks.proofs.Prelude.{IsValidBias, RecursionsFit, GoesByMonitor, WaitsFit, HashesFit, BiasedAreFree, InflationsAreOne, MonitorsAreClaimed}
 use Rattle.core_locks.proofs.Prelude.{ClassesFit, Unfinished, MonitorsAreNamed, by_equal, stays_back, Back, Spares, Moving, has_class}
 use Rattle.core_locks.proofs.OwnSeen.{either}
 use Rattle.core_locks.proofs.MarkMeanings.{each_set, IsBare, bare_unnamed, bare_unbiased}
@@ -63,6 +63,16 @@ biases_by_marks f g lock next holds hash waits called back leans h = search (bac
 pub classes_by_marks : (biasing : Bool) (prototype count last f g rebiased revoked : ℕ → ℕ) → ((i : ℕ) → is_biased (f i) ≡ false → is_biased (g i) ≡ false)
     → ClassesFit biasing prototype count last f rebiased revoked → ClassesFit biasing prototype count last g rebiased revoked
 classes_by_marks biasing prototype count last f g rebiased revoked forth h = search (forth, h.unbiased, h)
+
+-- a mark without the bias pattern had none before, and a lock that rests on a record rested there
+pub hashes_by_marks : (f g : ℕ → ℕ) (lock next : ℕ → Lock) (header : ℕ → Option ℕ) (holds : ℕ → List ℕ) (displaced : ℕ → ℕ → ℕ) (hash : ℕ → ℕ)
+    → ((i : ℕ) → is_biased (g i) ≡ false → is_biased (f i) ≡ false) → ((i u p : ℕ) → next i ≡ OnRecord u p → lock i ≡ OnRecord u p)
+    → HashesFit f lock header holds displaced hash → HashesFit g next header holds displaced hash
+hashes_by_marks f g lock next header holds displaced hash before rested h = record {
+  stands = h.stands;
+  records = λ i u p a b. h.records i u p a (before i b);
+  on_record = λ i u p r. h.on_record i u p (rested i u p r);
+}
 
 -- the same marks are 0
 pub inflating_by_marks : (f g : ℕ → ℕ) (inflates inflation : ℕ → Option Inflation) → ((i : ℕ) → g i ≡ 0 → f i ≡ 0) → ((i : ℕ) → f i ≡ 0 → g i ≡ 0)

@@ -17,7 +17,7 @@ use Rattle.core_locks.proofs.monitor.Moved.{moved, Moves, moves_from, moving_her
 use Rattle.core_locks.proofs.Clauses.{parts_with, parts_are, seen, forms, biases, inflating, monitors}
 use Rattle.core_locks.proofs.Clauses.{recursions, hashes, waits, claims, moves, classes, AllHold}
 use Rattle.core_locks.proofs.MarkChanges.{mark_here, mark_else, bias_back, bias_forth, bias_before, zero_back}
-use Rattle.core_locks.proofs.MarkChanges.{zero_forth, biases_by_marks, classes_by_marks, inflating_by_marks}
+use Rattle.core_locks.proofs.MarkChanges.{zero_forth, biases_by_marks, hashes_by_marks, classes_by_marks, inflating_by_marks}
 use Rattle.core_locks.proofs.MarkMeanings.{forms_marked, neutral_is, neutral_bare, neutral_some, neutral_lock, neutral_header}
 use Rattle.core_locks.proofs.OwnSeen.{left_with, hit_world}
 use Rattle.core_locks.proofs.safepoint.Standing.{standing_seen, standing_step, fits_standing}
@@ -197,7 +197,8 @@ module _ (w : World) (P : List PlainObject) (t : ℕ) (e : CallContext) (o m new
   }
 
   all_after : AllHold (parts_with w z P (inflated_to x) (lock w) (header w))
-  all_after seen = seen_next step x.words P (standing_seen w P t plan (search (may.stands.reached, may.stands.unrevoking, bias_forth w o new t l unbiased, biased)) v)
+  all_after seen = seen_next step x.words P
+      (standing_seen w P t plan (search (may.stands.reached, may.stands.unrevoking, bias_forth w o new t l unbiased, biased)) v)
   all_after forms = forms_marked o new v.forms (subst (IsMark w.shape) (sym (neutral_is new neutral).1) refl)
   all_after biases = biases_by_marks (marks w) (marks x) (lock w) (lock w) _ _ _ _ biased (λ i u g b. g) v.biases
   all_after inflating = inflating_by_marks (marks w) (marks x) _ _ (zero_back w o new t l new_some) (zero_forth w o new t l was_some) v.inflating
@@ -215,11 +216,7 @@ module _ (w : World) (P : List PlainObject) (t : ℕ) (e : CallContext) (o m new
     free = λ i a n. v.recursions.free i a (back i a n).1;
     thread_owns = v.recursions.thread_owns;
   }
-  all_after hashes = record {
-    stands = v.hashes.stands;
-    records = λ i u q h b. v.hashes.records i u q h (bias_before w o new t l was_unbiased i b);
-    on_record = v.hashes.on_record;
-  }
+  all_after hashes = hashes_by_marks (marks w) (marks x) (lock w) (lock w) _ _ _ _ (bias_before w o new t l was_unbiased) (λ i u q r. r) v.hashes
   all_after waits =
       let b = waits_go_on step P may.stands.goes_on v in
       let entering : (u i : ℕ) → enters_on (w.words (Waiting u)) i ≡ true

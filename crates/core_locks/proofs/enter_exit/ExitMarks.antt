@@ -7,7 +7,7 @@ use Rattle.core_locks.proofs.Prelude.{prototype_of, inflations, who, holder, hol
 use Rattle.core_locks.proofs.Prelude.{CallContext, let_go_plan, world_after, known_hit, seen_before, known_miss, Fits, IsValid, CompareExchange}
 use Rattle.core_locks.proofs.Prelude.{bulk_rebiases, bulk_revokes, IsMark, inflations_stay, fits_running, seen_is_part, Spares, seen_moves}
 use Rattle.core_locks.proofs.Prelude.{counts_more, Counts, miss_valid, Logs, LogsValid, KeepsValid, MayLetGo}
-use Rattle.core_locks.proofs.MarkChanges.{biases_by_marks, classes_by_marks, inflating_by_marks, names_same, bias_back, bias_forth}
+use Rattle.core_locks.proofs.MarkChanges.{biases_by_marks, hashes_by_marks, classes_by_marks, inflating_by_marks, names_same, bias_back, bias_forth}
 use Rattle.core_locks.proofs.MarkChanges.{bias_before, zero_back, zero_forth, lock_at, lock_else, header_same, mark_back, mark_spares}
 use Rattle.core_locks.proofs.MarkMeanings.{forms_marked, IsBare, bare_unnamed, neutral_is, neutral_bare, neutral_some, neutral_lock}
 use Rattle.core_locks.proofs.MarkMeanings.{neutral_header, locked_read, locked_bare, locked_some, locked_lock, locked_header}
@@ -125,11 +125,8 @@ module _ (w : World) (P : List PlainObject) (t : ℕ) (e : CallContext) (o h s p
       (inflations w) (zero_back w o h t l (neutral_some h neutral)) (zero_forth w o h t l old_some) v.inflating
   all_after recursions = recursions_law step P o p s may_exit exit_it v holder_is (lock x) lock_now (marks x) (λ i a f. names i ∙ f)
       (λ a f. absurd (bare_unnamed (marks w o) a old (names o ∙ f)))
-  all_after hashes = record {
-    stands = v.hashes.stands;
-    records = λ i u q f b. v.hashes.records i u q f (bias_before w o h t l old.unbiased i b);
-    on_record = λ i u q f. v.hashes.on_record i u q (was_locked step P o p s may_exit exit_it v holder_is (lock x) lock_now i (OnRecord u q) f (λ g. cc g)).1;
-  }
+  all_after hashes = hashes_by_marks (marks w) (marks x) (lock w) (lock x) _ _ _ _ (bias_before w o h t l old.unbiased)
+      (λ i u q f. (was_locked step P o p s may_exit exit_it v holder_is (lock x) lock_now i (OnRecord u q) f (λ g. cc g)).1) v.hashes
   all_after classes = classes_by_marks w.biasing (λ c. w.words (Prototype c)) (λ c. w.words (Revocations c)) (λ c. w.words (LastBulk c))
       (marks w) (marks x) (bulk_rebiases w.shape.threads (λ u. (w.known u).counts)) (bulk_revokes w.shape.threads (λ u. (w.known u).counts))
       (bias_forth w o h t l new.unbiased) v.classes

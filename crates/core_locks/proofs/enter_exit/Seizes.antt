@@ -4,7 +4,7 @@ use Rattle.core_locks.proofs.Prelude.{◌≡◌, ◌≢◌, ◌⊎◌, ℕ, ◌<
 use Rattle.core_locks.proofs.Prelude.{sym, ap, ◌∙◌, subst, arith, inl, inr, eqb-true, read_mark, mark_of, Locked, is_thread, is_listed, PlainObject}
 use Rattle.core_locks.proofs.Prelude.{Mark, Displaced, StepPlan, Settled, RecordLocked, MonitorAcquired, hold_word, is_neutral, hash_in, monitor_in}
 use Rattle.core_locks.proofs.Prelude.{Inflation, inflation_in, bears, hold_words_ahead, word_after, ThreadView, last_seen, World, with_word_and_known}
-use Rattle.core_locks.proofs.Prelude.{with_known, Lock, Open, BiasedTo, OnRecord, OwnedBy, lock, header, marks, displaced_words, headers, owner_words}
+use Rattle.core_locks.proofs.Prelude.{with_known, Open, BiasedTo, OnRecord, OwnedBy, lock, header, marks, displaced_words, headers, owner_words}
 use Rattle.core_locks.proofs.Prelude.{prototype_of, inflations, holder, hold_count, monitor_of, owner_at, hash_at, waits_at, notified_at, CallContext}
 use Rattle.core_locks.proofs.Prelude.{world_after, known_hit, seen_before, Fits, IsValid, SeenFit, CompareExchange, IsMark, each_with_known}
 use Rattle.core_locks.proofs.Prelude.{with_known_here, part_moves, inflations_stay, fits_running, seen_is_part, Spares, seen_moves, counts_more}
@@ -13,7 +13,7 @@ use Rattle.core_locks.proofs.MarkMeanings.{forms_marked, IsBare, bare_unnamed, n
 use Rattle.core_locks.proofs.MarkMeanings.{neutral_header, locked_read, locked_bare, locked_some, locked_lock, locked_header}
 use Rattle.core_locks.proofs.MarkChanges.{names_same, bias_back, bias_forth, bias_before, zero_back, zero_forth, lock_at, header_same, mark_back}
 use Rattle.core_locks.proofs.MarkChanges.{mark_spares, recursions_by_marks, biases_by_marks, classes_by_marks, inflating_by_marks}
-use Rattle.core_locks.proofs.LockTurns.{owners_taken}
+use Rattle.core_locks.proofs.LockTurns.{LockTurn, turns_from, owners_taken}
 use Rattle.core_locks.proofs.OwnSeen.{hit_moved}
 use Rattle.core_locks.proofs.WaitOut.{fails, no_other}
 use Rattle.core_locks.proofs.enter_exit.MarkHolds.{standing_names}
@@ -96,11 +96,10 @@ module _ (w : World) (P : List PlainObject) (t : ℕ) (e : CallContext) (o mark 
   lock_now : (i : ℕ) → ((i ≡ o) × (lock x i ≡ OnRecord t p)) ⊎ ((i ≢ o) × (lock x i ≡ lock w i))
   lock_now = lock_at w o m t l inflation (OnRecord t p) (locked_lock m t p (prototype_of w o) (owner_words w) (inflations w o) spelled)
 
-  lock_forth : (i : ℕ) (f : Lock) → lock w i ≡ f → (Open ≡ f → ⊥) → lock x i ≡ f
-  lock_forth i f g d = elim (lock_now i) [ inl a ↦ absurd (d (sym was_open ∙ ap (lock w) (sym a.0) ∙ g)) | inr a ↦ a.1 ∙ g ]
+  turn : LockTurn w o (lock x) Open (OnRecord t p)
+  turn = turns_from w o (lock x) Open (OnRecord t p) was_open lock_now
 
-  lock_back : (i : ℕ) (f : Lock) → lock x i ≡ f → (OnRecord t p ≡ f → ⊥) → lock w i ≡ f
-  lock_back i f g d = elim (lock_now i) [ inl a ↦ absurd (d (sym a.1 ∙ g)) | inr a ↦ sym a.1 ∙ g ]
+  open turn use {back as lock_back, forth as lock_forth}
 
   lock_inflated : (i a : ℕ) → monitor_in (marks w i) ≡ Some a → lock x i ≡ lock w i
   lock_inflated i a n = elim (lock_now i) [ inl b ↦ absurd (named_else i a n b.0) | inr b ↦ b.1 ]

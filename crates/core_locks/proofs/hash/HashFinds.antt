@@ -12,6 +12,7 @@ use Rattle.mark_word.specs.Mark.{read_mark as read}
 use Rattle.core_locks.proofs.hash.HashLoads.{IsFindable, finds_none, finds_it}
 use Rattle.core_locks.proofs.enter_exit.MarkHolds.{standing_names}
 use Rattle.core_locks.proofs.WaitOut.{holder_owns, ready_is_out}
+use Rattle.core_locks.proofs.enter_exit.HoldWays.{saw_inflated}
 
 mark_three : read 3 ≡ Some Marked
 unfolding read
@@ -56,7 +57,7 @@ module _ (w : World) (P : List PlainObject) (t : ℕ) (o : ℕ) (may : MayHash w
   -- the mark names the monitor that the thread saw
   module _ (m : ℕ) (saw : SawInflated (w.known t) o m) where
     pub mark_is : monitor_in (marks w o) ≡ Some m
-    mark_is = ap monitor_in (v.seen.stays t (Mark o) saw.0 saw.1 (inl (may.runs, inr (inl (m, saw.2))))) ∙ saw.2
+    mark_is = saw_inflated w P t o may.runs v m saw
 
     pub header_is : header w o ≡ Some (headers w m)
     header_is = ap (λ f. header_form f (marks w o) (displaced_words w) (headers w) (inflations w o)) (inflated_form (read_mark (marks w o)) m mark_is)

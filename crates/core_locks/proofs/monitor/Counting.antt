@@ -1,19 +1,19 @@
 -- A thread that has an object by its monitor stores the recursions: one more before it stores a hold word, one less before it clears one, or 0.
 use Rattle.core_locks.proofs.Prelude.{◌≡◌, ◌≢◌, ◌⊎◌, ℕ, ◌+◌, ◌<◌, ◌≤◌, ◌||◌, eq-eqb, ne_eqb, Bool, true, cond, List, Some, None, refl, sym, ap, ◌∙◌}
-use Rattle.core_locks.proofs.Prelude.{subst, arith, inl, inr, same_Some, is_thread, PlainObject, Mark, Recursions, StepPlan, Stage, Settled, Resumes}
+use Rattle.core_locks.proofs.Prelude.{subst, arith, inl, inr, same_Some, PlainObject, Recursions, StepPlan, Stage, Settled, Resumes}
 use Rattle.core_locks.proofs.Prelude.{Waits, OwnerConverted, RecursionsRaised, RecursionsLowered, monitor_in, inflation_in, bears, hold_words_ahead}
 use Rattle.core_locks.proofs.Prelude.{recursions_ahead, recursions_lowered, one_if, ThreadView, last_seen, World, Open, OnRecord, OwnedBy, lock}
-use Rattle.core_locks.proofs.Prelude.{marks, displaced_words, holder, hold_count, recursion_count, owner_at, Stays, IsKeptOrNamed, CallContext}
+use Rattle.core_locks.proofs.Prelude.{marks, displaced_words, who, holder, hold_count, recursion_count, owner_at, IsKeptOrNamed, CallContext}
 use Rattle.core_locks.proofs.Prelude.{with_stage, store, Fits, by_equal, each_with_known, header_stays, fits_running, KeepsValid, MayCount}
 use Rattle.core_locks.proofs.Prelude.{MayRaiseCount, MayLowerCount, MayResetCount, raise_count_plan, lower_count_plan, reset_count_plan}
 use Rattle.std.specs.Prelude.{◌-◌}
 use Rattle.core_locks.proofs.WaitOut.{even_holder_owns}
-use Rattle.core_locks.proofs.enter_exit.HoldWays.{saw_thread_owns}
+use Rattle.core_locks.proofs.enter_exit.HoldWays.{saw_inflated, saw_thread_owns}
 use Rattle.core_locks.proofs.Clauses.{kept_parts, parts_stand, seen, recursions, AllHold}
 use Rattle.core_locks.proofs.Steps.{turning, IsStep, next, step_fits, seen_next, inflates_stay}
 use Rattle.core_locks.proofs.EvenSteps.{IsEven, even_by, even_step, held_even}
 use Rattle.core_locks.proofs.OwnSeen.{own_seen, left_with, hit_world}
-use Rattle.core_locks.proofs.monitor.MonitorSeen.{uncounted_named}
+use Rattle.core_locks.proofs.monitor.MonitorSeen.{uncounted_held}
 
 -- where the thread stands before the store: Settled, or OwnerConverted with o
 abbrev pub AtCount : ThreadView → ℕ → Type 0
@@ -32,11 +32,12 @@ module _ (w : World) (P : List PlainObject) (t : ℕ) (e : CallContext) (o m : �
   pub thread_owns : lock w o ≡ OwnedBy t
   thread_owns = saw_thread_owns w P t o may.runs v m (omega (arith, within, v.limits.threads)) owned may.inflated may.owner
 
+  holder_is : who w o ≡ Some t
+  holder_is = ap (λ f. holder f (λ u. hold_count o (w.known u).holds)) thread_owns
+
   -- o's mark names m
   pub mark_names : monitor_in (marks w o) ≡ Some m
-  mark_names =
-      let saw = may.inflated in
-      ap monitor_in (v.seen.stays t (Mark o) saw.0 saw.1 (inl (may.runs, inr (inl (m, saw.2))))) ∙ saw.2
+  mark_names = saw_inflated w P t o may.runs v m may.inflated
 
   -- a word of m that the thread saw in this call
   saw_count : (r : ℕ) → last_seen (Recursions m) (w.known t).seen ≡ Some r → w.words (Recursions m) ≡ r
@@ -92,12 +93,9 @@ module _ (w : World) (P : List PlainObject) (t : ℕ) (e : CallContext) (o m : �
     held : (i : ℕ) → (owner_at P i t || bears stage i) ≡ true → (owner_at P i t || bears (w.known t).stage i) ≡ true
     held i = held_even step before now (owner_at P) i 0
 
-    uncounted : (u s : ℕ) → u ≢ t → Stays w (w.known u) (owner_at P) u (Recursions m) s → w.words (Recursions m) ≡ s → ⊥
-    uncounted u s d h is = uncounted_named w P o m u v mark_names
-        (ap (λ f. is_thread (holder f (λ y. hold_count o (w.known y).holds)) u) thread_owns ∙ ne_eqb t u (λ q. d (sym q))) (Recursions m) s refl h
-
     all_after : AllHold (kept_parts w z P)
-    all_after seen = seen_next step x.words P (own_seen w P t plan (search (may.runs, inflates, known, held, uncounted)) v)
+    all_after seen = seen_next step x.words P
+        (own_seen w P t plan (search (may.runs, inflates, known, held, uncounted_held w P t o m v mark_names holder_is (Recursions m) refl)) v)
     all_after recursions = record {
       first = v.recursions.first;
       others = v.recursions.others;

@@ -1,17 +1,19 @@
 -- A thread clears the owner word of a monitor, and so logs its last Exit.
-use Rattle.core_locks.proofs.Prelude.{◌≡◌, ◌≢◌, ◌⊎◌, ℕ, ◌<◌, ◌||◌, ne_eqb, Bool, true, List, Some, refl, sym, ap, ◌∙◌, subst, arith, inl, inr}
-use Rattle.core_locks.proofs.Prelude.{same_Some, is_thread, PlainObject, take_entry, Exit, Mark, Owner, Recursions, StepPlan, monitor_in}
+use Rattle.core_locks.proofs.Prelude.{◌≡◌, ℕ, ◌<◌, ◌||◌, Bool, true, List, Some, refl, sym, ap, ◌∙◌, subst, arith, inl, inr}
+use Rattle.core_locks.proofs.Prelude.{same_Some, PlainObject, take_entry, Exit, Owner, Recursions, StepPlan, monitor_in}
 use Rattle.core_locks.proofs.Prelude.{inflation_in, bears, ThreadView, World, with_word_and_known, Lock, Open, BiasedTo, OnRecord, OwnedBy, lock}
-use Rattle.core_locks.proofs.Prelude.{marks, who, holder, hold_count, monitor_of, owner_at, waits_at, owner_lock, Stays, IsKeptOrNamed, SeenStays}
+use Rattle.core_locks.proofs.Prelude.{marks, who, holder, hold_count, monitor_of, owner_at, waits_at, owner_lock, IsKeptOrNamed, SeenStays}
 use Rattle.core_locks.proofs.Prelude.{CallContext, known_hit, Fits, IsOwner, owner_zero, fits_running, MayFree, free_plan, LogsValid}
 use Rattle.core_locks.proofs.Clauses.{parts_of, seen, forms, biases, recursions, hashes, AllHold}
 use Rattle.core_locks.proofs.enter_exit.ExitEntries.{objects_where, exit_parts, exit_are}
-use Rattle.core_locks.proofs.enter_exit.HoldWays.{saw_thread_owns}
+use Rattle.core_locks.proofs.enter_exit.HoldWays.{saw_inflated, saw_thread_owns}
 use Rattle.core_locks.proofs.enter_exit.LastExit.{freed, MayExit, IsExit, inside, owned as owned_before, letting_go_taken as takes_exit}
 use Rattle.core_locks.proofs.enter_exit.LastExit.{owner_back, was_locked, recursions_law, last_step}
+use Rattle.core_locks.proofs.MarkChanges.{biases_by_marks, hashes_by_marks}
+use Rattle.core_locks.proofs.LockTurns.{LockTurn}
 use Rattle.core_locks.proofs.MarkMeanings.{forms_owned}
-use Rattle.core_locks.proofs.monitor.MonitorSeen.{uncounted_named}
-use Rattle.core_locks.proofs.monitor.OwnerTurns.{owned_locks, lock_now, lock_forth, locks_turn, heads_turn}
+use Rattle.core_locks.proofs.monitor.MonitorSeen.{uncounted_held}
+use Rattle.core_locks.proofs.monitor.OwnerTurns.{owned_locks, owner_turn, locks_turn, heads_turn}
 use Rattle.core_locks.proofs.OwnSeen.{seen_as}
 use Rattle.core_locks.proofs.Steps.{noting, IsStep, next, stepped, step_fits, holds_next, inflates_stay}
 
@@ -46,7 +48,7 @@ module _ (w : World) (P : List PlainObject) (t : ℕ) (e : CallContext) (o c p s
 
   -- THE LOCK was the thread's by the monitor, and is open
   mark_names : monitor_in (marks w o) ≡ Some c
-  mark_names = let saw = may.inflated in ap monitor_in (v.seen.stays t (Mark o) saw.0 saw.1 (inl (may.runs, inr (inl (c, saw.2))))) ∙ saw.2
+  mark_names = saw_inflated w P t o may.runs v c may.inflated
 
   thread_owns : lock w o ≡ OwnedBy t
   thread_owns = saw_thread_owns w P t o may.runs v c (omega (arith, within, v.limits.threads)) owned.0 may.inflated may.owner
@@ -57,27 +59,23 @@ module _ (w : World) (P : List PlainObject) (t : ℕ) (e : CallContext) (o c p s
   abbrev locks : ℕ → Lock
   locks = owned_locks w c 0
 
-  now : (i : ℕ) → ((i ≡ o) × (locks i ≡ Open)) ⊎ ((i ≢ o) × (locks i ≡ lock w i))
-  now = lock_now w P o c 0 (OwnedBy t) Open v mark_names thread_owns (ap owner_lock owner_zero)
+  turn : LockTurn w o locks (OwnedBy t) Open
+  turn = owner_turn w P o c 0 (OwnedBy t) Open v mark_names thread_owns (ap owner_lock owner_zero)
 
-  forth : (i : ℕ) (f : Lock) → lock w i ≡ f → (OwnedBy t ≡ f → ⊥) → locks i ≡ f
-  forth = lock_forth w P o c 0 (OwnedBy t) Open v mark_names thread_owns (ap owner_lock owner_zero)
+  open turn use {now, forth}
 
   -- nobody else owns the object or bears it
   holder_is : who w o ≡ Some t
   holder_is = ap (λ f. holder f (λ u. hold_count o (w.known u).holds)) thread_owns
 
-  -- WHAT WAS SEEN. Nobody else counts on the words of a monitor that the mark of the thread's object names.
-  uncounted : (u r : ℕ) → u ≢ t → Stays w (w.known u) (owner_at P) u (Owner c) r → w.words (Owner c) ≡ r → ⊥
-  uncounted u r d h is = uncounted_named w P o c u v mark_names (ap (λ a. is_thread a u) holder_is ∙ ne_eqb t u (λ q. d (sym q))) (Owner c) r refl h
-
+  -- what was seen stays, as nobody else counts on the words of a monitor that the mark of the thread's object names
   seen_law : SeenStays x (owner_at Q) (waits_at P)
   seen_law =
       let inflates : inflation_in l.stage ≡ inflation_in (w.known t).stage = sym (ap inflation_in may.calm) in
       let held : (i : ℕ) → (owner_at P i t || bears l.stage i) ≡ true
       → (owner_at P i t || bears (w.known t).stage i) ≡ true = λ i h. ap (λ f. owner_at P i t || bears f i) may.calm ∙ h in
       let named : IsKeptOrNamed w (w.known t) c = inr (o, mark_names) in
-      seen_as w P t plan (search (may.runs, inflates, held, named, uncounted)) (owner_at Q)
+      seen_as w P t plan (search (may.runs, inflates, held, named, uncounted_held w P t o c v mark_names holder_is (Owner c) refl)) (owner_at Q)
       (λ i u h. (owner_back step P o p s may_exit exit_it v i u h).1) (waits_at P) (λ i h. h) v
 
   abbrev n : World
@@ -86,19 +84,11 @@ module _ (w : World) (P : List PlainObject) (t : ℕ) (e : CallContext) (o c p s
   all_after : AllHold (exit_parts w (stepped w t l x.words) P locks (parts_of n Q))
   all_after seen = holds_next step (λ y. SeenStays y (owner_at Q) (waits_at P)) x.words seen_law
   all_after forms = forms_owned c 0 v.forms (subst (IsOwner w.shape) (sym owner_zero) tt)
-  all_after biases = record {
-    hashless = v.biases.hashless;
-    nobody = v.biases.nobody;
-    unheld = λ i u b d. v.biases.unheld i u b (λ g. d (forth i (BiasedTo u) g (λ f. cc f)));
-  }
+  all_after biases = biases_by_marks (marks w) (marks w) (lock w) locks _ _ _ _ (λ i b. b) (λ i u g b. forth i (BiasedTo u) g (λ c. cc c)) v.biases
   all_after recursions = recursions_law step P o p s may_exit exit_it v holder_is locks now (marks w)
       (λ i a h. h) (λ a h. ap (λ k. w.words (Recursions k)) (same_Some _ _ (sym h ∙ mark_names)) ∙ count_zero)
-  all_after hashes = record {
-    stands = v.hashes.stands;
-    records = v.hashes.records;
-    on_record = λ i u q f. v.hashes.on_record i u q
-        (was_locked step P o p s may_exit exit_it v holder_is locks now i (OnRecord u q) f (λ g. cc g)).1;
-  }
+  all_after hashes = hashes_by_marks (marks w) (marks w) (lock w) locks _ _ _ _ (λ i b. b)
+      (λ i u q f. (was_locked step P o p s may_exit exit_it v holder_is locks now i (OnRecord u q) f (λ g. cc g)).1) v.hashes
   all_after c = last_step step P o p s may_exit exit_it v holder_is locks now c
 
   freed_fits : Fits x Q

@@ -11,7 +11,7 @@ use Rattle.core_locks.proofs.Clauses.{parts_with, parts_are, seen, forms, biases
 use Rattle.core_locks.proofs.EvenSteps.{IsEven, even_by, even_step}
 use Rattle.core_locks.proofs.monitor.InflationOf.{inflation_else, is_other, inflation_here}
 use Rattle.core_locks.proofs.MarkChanges.{names_same, mark_here, mark_else, mark_back, bias_back, bias_forth}
-use Rattle.core_locks.proofs.MarkChanges.{bias_before, biases_by_marks, classes_by_marks, recursions_by_marks}
+use Rattle.core_locks.proofs.MarkChanges.{bias_before, biases_by_marks, hashes_by_marks, classes_by_marks, recursions_by_marks}
 use Rattle.core_locks.proofs.MarkMeanings.{forms_marked, IsBare, locked_bare, locked_some, locked_lock, locked_header}
 use Rattle.core_locks.proofs.monitor.MonitorSeen.{stays_nearly, monitor_seen}
 use Rattle.core_locks.proofs.monitor.Names.{uncounted_mark}
@@ -190,11 +190,7 @@ module _ (w : World) (P : List PlainObject) (t : ℕ) (e : CallContext) (o mark 
     takes_over = λ i c. cc c;
   })
       (recursions_by_marks (marks w) (marks x) names _ (lock w) (lock w) _ _ _ _ _ _ (λ i y g. g) (λ i a n. refl) v.recursions)
-  all_after hashes = record {
-    stands = v.hashes.stands;
-    records = λ i y q h b. v.hashes.records i y q h (bias_before w o m t l old.unbiased i b);
-    on_record = v.hashes.on_record;
-  }
+  all_after hashes = hashes_by_marks (marks w) (marks x) (lock w) (lock w) _ _ _ _ (bias_before w o m t l old.unbiased) (λ i u q r. r) v.hashes
   all_after classes = classes_by_marks w.biasing _ _ _ (marks w) (marks x) _ _ (bias_forth w o m t l new.unbiased) v.classes
   all_after c = even_step step before now P may.goes_on may.runs v c
 

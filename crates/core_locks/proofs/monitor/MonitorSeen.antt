@@ -1,5 +1,5 @@
 -- What the threads have seen stays when a running thread makes a step that logs nothing: what it counts on afterwards, and what the others count on.
-use Rattle.core_locks.proofs.Prelude.{◌≡◌, ◌≢◌, ◌⊎◌, ℕ, ◌||◌, Bool, true, false, List, [], ◌∷◌, Some, None, refl, sym, ap, ◌∙◌, subst, inl}
+use Rattle.core_locks.proofs.Prelude.{◌≡◌, ◌≢◌, ◌⊎◌, ℕ, ◌||◌, ne_eqb, Bool, true, false, List, [], ◌∷◌, Some, None, refl, sym, ap, ◌∙◌, subst, inl}
 use Rattle.core_locks.proofs.Prelude.{inr, read_mark, is_thread, PlainObject, WordId, Safepoint, Prototype, Mark, Stamp, Slot, Hold, Displaced}
 use Rattle.core_locks.proofs.Prelude.{Waiting, Length, Owner, Recursions, Header, Object, Claim, Revocations, LastBulk, StepPlan, is_biased}
 use Rattle.core_locks.proofs.Prelude.{monitor_in, waits_on, Inflation, inflation_in, bears, revocation_in, word_after, same_name, its_monitor}
@@ -203,3 +203,9 @@ uncounted_named w P o m u v named none n s is h = elim (monitor_word_counts w (w
       let has : is_thread (who w o) u ≡ true = v.owners.same o u ∙ ap (λ i. owner_at P i u || bears (w.known u).stage i) (sym same) ∙ a.2 in
       absurd (cc (has, none))
 ]
+
+-- so no other thread does where one has the lock
+pub uncounted_held : (w : World) (P : List PlainObject) (t o m : ℕ) → Fits w P → monitor_in (marks w o) ≡ Some m → who w o ≡ Some t
+    → (n : WordId) → its_monitor n ≡ Some m → (u s : ℕ) → u ≢ t → Stays w (w.known u) (owner_at P) u n s → w.words n ≡ s → ⊥
+uncounted_held w P t o m v named has n its u s d h is =
+    uncounted_named w P o m u v named (ap (λ a. is_thread a u) has ∙ ne_eqb t u (λ q. d (sym q))) n s its h

@@ -17,7 +17,7 @@ use Rattle.core_locks.proofs.monitor.Places.{one_holder, one_object, kept_once, 
 use Rattle.core_locks.proofs.monitor.Moved.{moved, Moves, moves_from, one_fewer}
 use Rattle.core_locks.proofs.Clauses.{parts_with, parts_are, seen, forms, biases, inflating, monitors, recursions, hashes, waits, claims, classes, AllHold}
 use Rattle.core_locks.proofs.EvenSteps.{IsEven, even_by, even_step, held_even}
-use Rattle.core_locks.proofs.MarkChanges.{mark_here, mark_else, bias_back, bias_forth, bias_before, biases_by_marks, classes_by_marks}
+use Rattle.core_locks.proofs.MarkChanges.{mark_here, mark_else, bias_back, bias_forth, bias_before, biases_by_marks, hashes_by_marks, classes_by_marks}
 use Rattle.core_locks.proofs.MarkMeanings.{forms_marked}
 use Rattle.core_locks.proofs.monitor.MonitorSeen.{stays_nearly, monitor_seen}
 use Rattle.core_locks.proofs.OwnSeen.{left_with, hit_world}
@@ -257,11 +257,7 @@ module _ (w : World) (P : List PlainObject) (t : ℕ) (e : CallContext) (o m : �
     ];
   }
   all_after one_law recursions = recursions_law
-  all_after one_law hashes = record {
-    stands = v.hashes.stands;
-    records = λ i u q h b. v.hashes.records i u q h (bias_before w o mark t l unbiased i b);
-    on_record = v.hashes.on_record;
-  }
+  all_after one_law hashes = hashes_by_marks (marks w) (marks x) (lock w) (lock w) _ _ _ _ (bias_before w o mark t l unbiased) (λ i u q r. r) v.hashes
   all_after one_law waits =
       let b = even_step step before now P goes_on runs v waits in
       let entering : (u i : ℕ) → enters_on (w.words (Waiting u)) i ≡ true → IsUnfinished (with_known t l w.known u).unfinished op.Enter i

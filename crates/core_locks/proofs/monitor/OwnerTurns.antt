@@ -9,6 +9,7 @@ use Rattle.core_locks.proofs.enter_exit.HoldCounts.{hold_tells}
 use Rattle.core_locks.proofs.enter_exit.MarkHolds.{number_same}
 use Rattle.core_locks.proofs.monitor.UnnamedWords.{lock_unnamed}
 use Rattle.core_locks.proofs.Clauses.{AllHold, turned_parts, parts_turn}
+use Rattle.core_locks.proofs.LockTurns.{LockTurn, turns_from}
 use Rattle.core_locks.proofs.Steps.{Fields, turning, IsStep, next, stepped, step_fits, inflates_stay}
 
 -- LISTS. A word stands at one place, where its number is at most 1.
@@ -87,7 +88,7 @@ owned_locks w m word i = lock_form (read_mark (marks w i)) (prototype_of w i) (�
 
 module _ (w : World) (P : List PlainObject) (o m word : ℕ) (A B : Lock) (v : Fits w P)
     (names : monitor_in (marks w o) ≡ Some m) (was : lock w o ≡ A) (is : owner_lock (read_owner word) ≡ B) where
-  pub lock_now : (i : ℕ) → ((i ≡ o) × (owned_locks w m word i ≡ B)) ⊎ ((i ≢ o) × (owned_locks w m word i ≡ lock w i))
+  lock_now : (i : ℕ) → ((i ≡ o) × (owned_locks w m word i ≡ B)) ⊎ ((i ≢ o) × (owned_locks w m word i ≡ lock w i))
   lock_now i = by_equal i o
       (λ s.
       let form = inflated_form (read_mark (marks w i)) m (ap (λ j. monitor_in (marks w j)) s ∙ names) in
@@ -102,11 +103,8 @@ module _ (w : World) (P : List PlainObject) (o m word : ℕ) (A B : Lock) (v : F
             (λ a n. ap (λ (b : Bool). cond b word (owner_words w a)) (ne_eqb a m (λ s. d (v.monitors.alone i o m (n ∙ ap Some s) names)))),
       ))
 
-  pub lock_back : (i : ℕ) (f : Lock) → owned_locks w m word i ≡ f → (B ≡ f → ⊥) → lock w i ≡ f
-  lock_back i f g d = elim (lock_now i) [ inl a ↦ absurd (d (sym a.1 ∙ g)) | inr a ↦ sym a.1 ∙ g ]
-
-  pub lock_forth : (i : ℕ) (f : Lock) → lock w i ≡ f → (A ≡ f → ⊥) → owned_locks w m word i ≡ f
-  lock_forth i f g d = elim (lock_now i) [ inl a ↦ absurd (d (sym was ∙ ap (lock w) (sym a.0) ∙ g)) | inr a ↦ a.1 ∙ g ]
+  pub owner_turn : LockTurn w o (owned_locks w m word) A B
+  owner_turn = turns_from w o (owned_locks w m word) A B was lock_now
 
 -- and where no inflation begins or ends, these are the locks in the world after the step, and the headers stay
 module _ (w : World) (t : ℕ) (fields : Fields) (m word : ℕ) (l : ThreadView)

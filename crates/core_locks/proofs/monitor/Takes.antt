@@ -1,7 +1,7 @@
 -- A thread exchanges the free owner word of a monitor for itself, to enter or at the end of a wait.
 use Rattle.core_locks.proofs.Prelude.{◌≡◌, ◌≢◌, ◌⊎◌, ℕ, ◌+◌, ◌<◌, ◌≤◌, ◌==◌, ◌||◌, eq-eqb, ne_eqb, Bool, true, false, cond, List, slice_index}
 use Rattle.core_locks.proofs.Prelude.{Some, None, refl, sym, ap, ◌∙◌, subst, arith, inl, inr, eqb-true, same_Some, read_mark, read_owner}
-use Rattle.core_locks.proofs.Prelude.{owner_of, ByThread, Free, read_owner-owner_of, is_thread, is_listed, PlainObject, WordId, Mark, Owner}
+use Rattle.core_locks.proofs.Prelude.{owner_of, ByThread, Free, read_owner-owner_of, is_thread, is_listed, PlainObject, WordId, Owner}
 use Rattle.core_locks.proofs.Prelude.{Recursions, StepPlan, Stage, Settled, RecordLocked, MonitorAcquired, Resumes, Exits, Waits, OwnerConverted}
 use Rattle.core_locks.proofs.Prelude.{Notifies, hold_word, monitor_in, inflation_in, bears, hold_words_ahead, recursions_ahead, recursions_lowered}
 use Rattle.core_locks.proofs.Prelude.{notification_in, revocation_in, same_name, ThreadView, last_seen, World, with_known, Lock, Open, BiasedTo}
@@ -16,8 +16,10 @@ use Rattle.core_locks.proofs.Clauses.{turned_parts, seen, forms, quiet, waits, h
 use Rattle.core_locks.proofs.Steps.{turning, IsStep, next, seen_next, quiet_next, quiet_step, stage_back, waits_turn, holds_stand}
 use Rattle.core_locks.proofs.OwnSeen.{back_by, left_with, hit_world}
 use Rattle.core_locks.proofs.monitor.MonitorSeen.{stays_nearly, monitor_seen, others_by, uncounted_named}
-use Rattle.core_locks.proofs.LockTurns.{records_turn, owners_taken}
-use Rattle.core_locks.proofs.monitor.OwnerTurns.{owned_locks, lock_now, lock_back, lock_forth, again_zero, owner_turned}
+use Rattle.core_locks.proofs.LockTurns.{LockTurn, records_turn, owners_taken}
+use Rattle.core_locks.proofs.monitor.OwnerTurns.{owned_locks, owner_turn, again_zero, owner_turned}
+use Rattle.core_locks.proofs.MarkChanges.{biases_by_marks, hashes_by_marks}
+use Rattle.core_locks.proofs.enter_exit.HoldWays.{saw_inflated}
 use Rattle.core_locks.proofs.monitor.SwapLaws.{swap_valid, found_by_mark}
 
 -- a thread that comes to bear o alone counts besides on the owner and the recursions of its monitor
@@ -51,7 +53,7 @@ module _ (w : World) (P : List PlainObject) (t : ℕ) (e : CallContext) (o m : �
   word = cond (w.words (Owner m) == owner_of Free) (owner_of (ByThread t)) (w.words (Owner m))
 
   mark_names : monitor_in (marks w o) ≡ Some m
-  mark_names = let saw = may.inflated in ap monitor_in (v.seen.stays t (Mark o) saw.0 saw.1 (inl (may.runs, inr (inl (m, saw.2))))) ∙ saw.2
+  mark_names = saw_inflated w P t o may.runs v m may.inflated
 
   was_open : lock w o ≡ Open
   was_open =
@@ -88,14 +90,10 @@ module _ (w : World) (P : List PlainObject) (t : ℕ) (e : CallContext) (o m : �
     abbrev locks : ℕ → Lock
     locks = owned_locks w m word
 
-    now : (i : ℕ) → ((i ≡ o) × (locks i ≡ OwnedBy t)) ⊎ ((i ≢ o) × (locks i ≡ lock w i))
-    now = lock_now w P o m word Open (OwnedBy t) v mark_names was_open (ap owner_lock spelled)
+    turn : LockTurn w o locks Open (OwnedBy t)
+    turn = owner_turn w P o m word Open (OwnedBy t) v mark_names was_open (ap owner_lock spelled)
 
-    back : (i : ℕ) (f : Lock) → locks i ≡ f → (OwnedBy t ≡ f → ⊥) → lock w i ≡ f
-    back = lock_back w P o m word Open (OwnedBy t) v mark_names was_open (ap owner_lock spelled)
-
-    forth : (i : ℕ) (f : Lock) → lock w i ≡ f → (Open ≡ f → ⊥) → locks i ≡ f
-    forth = lock_forth w P o m word Open (OwnedBy t) v mark_names was_open (ap owner_lock spelled)
+    open turn use {now, back, forth}
 
     inflates : inflation_in l.stage ≡ inflation_in (w.known t).stage
     inflates = by_way (λ f. inflation_in f ≡ None) refl refl ∙ sym (ap inflation_in may.calm)
@@ -179,11 +177,7 @@ module _ (w : World) (P : List PlainObject) (t : ℕ) (e : CallContext) (o m : �
     all_after owners = owners_taken step v locks o (OwnedBy t) now may.calm nobody refl bears_is
         (by_way (λ f. notification_in f ≡ None) refl refl) (λ i. by_way (λ f. f ≡ Waits i → ⊥) (λ c. cc c) (λ c. cc c))
         (λ i q. by_way (λ f. f ≡ Exits i q → ⊥) (λ c. cc c) (λ c. cc c))
-    all_after biases = record {
-      hashless = v.biases.hashless;
-      nobody = v.biases.nobody;
-      unheld = λ i u b d. v.biases.unheld i u b (λ g. d (forth i (BiasedTo u) g (λ c. cc c)));
-    }
+    all_after biases = biases_by_marks (marks w) (marks w) (lock w) locks _ _ _ _ (λ i b. b) (λ i u g b. forth i (BiasedTo u) g (λ c. cc c)) v.biases
     all_after records = records_turn step v locks o (OwnedBy t) now (λ u q c. cc c) alone (λ i q c. cc (sym may.calm ∙ c))
         (λ i q. by_way (λ f. f ≡ RecordLocked i q → ⊥) (λ c. cc c) (λ c. cc c))
         (λ i h. elim way [
@@ -230,11 +224,8 @@ module _ (w : World) (P : List PlainObject) (t : ℕ) (e : CallContext) (o m : �
       free = λ i a n g. v.recursions.free i a n (back i Open g (λ c. cc c));
       thread_owns = λ i u h. v.recursions.thread_owns i u (at_back (OwnerConverted i) u (λ c. cc c) (λ c. cc c) h).1;
     }
-    all_after hashes = record {
-      stands = v.hashes.stands;
-      records = v.hashes.records;
-      on_record = λ i u q r. v.hashes.on_record i u q (back i (OnRecord u q) r (λ c. cc c));
-    }
+    all_after hashes = hashes_by_marks (marks w) (marks w) (lock w) locks _ _ _ _ (λ i b. b)
+        (λ i u q r. back i (OnRecord u q) r (λ c. cc c)) v.hashes
     all_after quiet = quiet_next step P (by_way (λ f. revocation_in f ≡ None) refl refl) may.runs v
     all_after waits =
         waits_turn step calls_same (λ i c. cc (sym may.calm ∙ c)) (λ i k. by_way (λ f. f ≡ Notifies i k → ⊥) (λ c. cc c) (λ c. cc c))

@@ -1,21 +1,23 @@
 -- A thread that has an object by its own record stores itself as the owner of the monitor.
-use Rattle.core_locks.proofs.Prelude.{◌≡◌, ◌≢◌, ◌⊎◌, ℕ, ◌+◌, ◌<◌, ◌||◌, ne_eqb, Bool, true, List, slice_index, Some, refl, sym, ap, ◌∙◌}
+use Rattle.core_locks.proofs.Prelude.{◌≡◌, ◌⊎◌, ℕ, ◌+◌, ◌<◌, ◌||◌, Bool, true, List, slice_index, Some, refl, sym, ap, ◌∙◌}
 use Rattle.core_locks.proofs.Prelude.{subst, arith, inl, inr, same_Some, read_mark, read_owner, owner_of, ByThread, ByRecord, read_owner-owner_of}
-use Rattle.core_locks.proofs.Prelude.{is_thread, PlainObject, Mark, Owner, Recursions, StepPlan, Settled, Resumes, Waits, OwnerConverted}
+use Rattle.core_locks.proofs.Prelude.{is_thread, PlainObject, Owner, Recursions, StepPlan, Settled, Resumes, Waits, OwnerConverted}
 use Rattle.core_locks.proofs.Prelude.{hold_word, is_neutral, monitor_in, inflation_in, bears, recursions_ahead, recursions_lowered, ThreadView}
 use Rattle.core_locks.proofs.Prelude.{World, Lock, Open, BiasedTo, OnRecord, OwnedBy, lock, lock_form, marks, displaced_words, owner_words}
 use Rattle.core_locks.proofs.Prelude.{prototype_of, inflations, who, holder, hold_count, recursion_count, owner_at, waits_at, notified_at}
-use Rattle.core_locks.proofs.Prelude.{owner_lock, Stays, IsKeptOrNamed, GoesByMonitor, CallContext, Fits, IsOwner, each_with_known}
+use Rattle.core_locks.proofs.Prelude.{owner_lock, IsKeptOrNamed, GoesByMonitor, CallContext, Fits, IsOwner, each_with_known}
 use Rattle.core_locks.proofs.Prelude.{fits_running, inflated_form, KeepsValid, MayTakeOver, take_over_plan}
 use Rattle.core_locks.proofs.WaitOut.{holder_owns}
+use Rattle.core_locks.proofs.MarkChanges.{biases_by_marks, hashes_by_marks}
+use Rattle.core_locks.proofs.enter_exit.HoldWays.{saw_inflated}
 use Rattle.core_locks.proofs.MarkMeanings.{forms_owned}
 use Rattle.core_locks.proofs.Clauses.{turned_parts, seen, forms, owners, biases, records, recursions, hashes, AllHold}
 use Rattle.core_locks.proofs.Steps.{turning, IsStep, next, seen_next}
 use Rattle.core_locks.proofs.EvenSteps.{IsEven, even_by, even_step, held_even}
 use Rattle.core_locks.proofs.OwnSeen.{own_seen, left_with, hit_world}
-use Rattle.core_locks.proofs.monitor.MonitorSeen.{uncounted_named}
-use Rattle.core_locks.proofs.LockTurns.{records_turn}
-use Rattle.core_locks.proofs.monitor.OwnerTurns.{owned_locks, lock_now, lock_back, lock_forth, rest_place, rest_deeper, rest_again, owner_turned}
+use Rattle.core_locks.proofs.monitor.MonitorSeen.{uncounted_held}
+use Rattle.core_locks.proofs.LockTurns.{LockTurn, records_turn}
+use Rattle.core_locks.proofs.monitor.OwnerTurns.{owned_locks, owner_turn, rest_place, rest_deeper, rest_again, owner_turned}
 
 module _ (w : World) (P : List PlainObject) (t : ℕ) (e : CallContext) (o m p : ℕ)
     (within : t < w.shape.threads) (may : MayTakeOver (w.known t) e o m p) (v : Fits w P) where
@@ -32,7 +34,7 @@ module _ (w : World) (P : List PlainObject) (t : ℕ) (e : CallContext) (o m p :
   owned = (holder_owns w P t v may.out o may.calm may.holds).0
 
   mark_names : monitor_in (marks w o) ≡ Some m
-  mark_names = let saw = may.inflated in ap monitor_in (v.seen.stays t (Mark o) saw.0 saw.1 (inl (may.runs, inr (inl (m, saw.2))))) ∙ saw.2
+  mark_names = saw_inflated w P t o may.runs v m may.inflated
 
   -- the owner word still names the record
   rests : lock w o ≡ OnRecord t p
@@ -48,14 +50,10 @@ module _ (w : World) (P : List PlainObject) (t : ℕ) (e : CallContext) (o m p :
   abbrev locks : ℕ → Lock
   locks = owned_locks w m (owner_of (ByThread t))
 
-  now : (i : ℕ) → ((i ≡ o) × (locks i ≡ OwnedBy t)) ⊎ ((i ≢ o) × (locks i ≡ lock w i))
-  now = lock_now w P o m (owner_of (ByThread t)) (OnRecord t p) (OwnedBy t) v mark_names rests (ap owner_lock spelled)
+  turn : LockTurn w o locks (OnRecord t p) (OwnedBy t)
+  turn = owner_turn w P o m (owner_of (ByThread t)) (OnRecord t p) (OwnedBy t) v mark_names rests (ap owner_lock spelled)
 
-  back : (i : ℕ) (f : Lock) → locks i ≡ f → (OwnedBy t ≡ f → ⊥) → lock w i ≡ f
-  back = lock_back w P o m (owner_of (ByThread t)) (OnRecord t p) (OwnedBy t) v mark_names rests (ap owner_lock spelled)
-
-  forth : (i : ℕ) (f : Lock) → lock w i ≡ f → (OnRecord t p ≡ f → ⊥) → locks i ≡ f
-  forth = lock_forth w P o m (owner_of (ByThread t)) (OnRecord t p) (OwnedBy t) v mark_names rests (ap owner_lock spelled)
+  open turn use {now, back, forth}
 
   before : IsEven (w.known t).stage
   before = subst IsEven (sym may.calm) (even_by Settled refl)
@@ -72,11 +70,14 @@ module _ (w : World) (P : List PlainObject) (t : ℕ) (e : CallContext) (o m p :
   abbrev z : World
   z = next w t l turning x.words
 
+  holder_is : who w o ≡ Some t
+  holder_is = ap (λ f. holder f (λ u. hold_count o (w.known u).holds)) rests
+
   -- who has each lock is who had it
   who_same : (i : ℕ) → holder (locks i) (λ u. hold_count i (w.known u).holds) ≡ who w i
   who_same i = elim (now i) [
     | inl a ↦ ap (λ f. holder f (λ u. hold_count i (w.known u).holds)) a.1
-        ∙ sym (ap (λ f. holder f (λ u. hold_count i (w.known u).holds)) (ap (lock w) a.0 ∙ rests))
+        ∙ sym (ap (who w) a.0 ∙ holder_is)
     | inr a ↦ ap (λ f. holder f (λ u. hold_count i (w.known u).holds)) a.1
   ]
 
@@ -99,22 +100,15 @@ module _ (w : World) (P : List PlainObject) (t : ℕ) (e : CallContext) (o m p :
   held : (i : ℕ) → (owner_at P i t || bears (OwnerConverted o) i) ≡ true → (owner_at P i t || bears (w.known t).stage i) ≡ true
   held i = held_even step before after_it (owner_at P) i 0
 
-  uncounted : (u s : ℕ) → u ≢ t → Stays w (w.known u) (owner_at P) u (Owner m) s → w.words (Owner m) ≡ s → ⊥
-  uncounted u s d h is = uncounted_named w P o m u v mark_names
-      (ap (λ f. is_thread (holder f (λ y. hold_count o (w.known y).holds)) u) rests ∙ ne_eqb t u (λ q. d (sym q))) (Owner m) s refl h
-
   all_after : AllHold (turned_parts w z P locks)
-  all_after seen = seen_next step x.words P (own_seen w P t plan (search (may.runs, inflates, known, held, uncounted)) v)
+  all_after seen = seen_next step x.words P
+      (own_seen w P t plan (search (may.runs, inflates, known, held, uncounted_held w P t o m v mark_names holder_is (Owner m) refl)) v)
   all_after forms = forms_owned m (owner_of (ByThread t)) v.forms (subst (IsOwner w.shape) (sym spelled) within)
   all_after owners = let b = even_step step before after_it P may.goes_on may.runs v owners in
       record { same = λ i u. ap (λ f. is_thread f u) (who_same i) ∙ b.same i u; let_go = b.let_go; left = b.left; calls = b.calls }
-  all_after biases = record {
-    hashless = v.biases.hashless;
-    nobody = v.biases.nobody;
-    unheld = λ i u b d. v.biases.unheld i u b (λ g. d (forth i (BiasedTo u) g (λ c. cc c)));
-  }
-  all_after records = records_turn step v locks o (OwnedBy t) now (λ u q c. cc c) (λ u h. same_Some _ _
-      (sym h ∙ ap (λ f. holder f (λ u. hold_count o (w.known u).holds)) rests)) before.seizes after_it.seizes (λ i h. absurd (after_it.grabs i h))
+  all_after biases = biases_by_marks (marks w) (marks w) (lock w) locks _ _ _ _ (λ i b. b) (λ i u g b. forth i (BiasedTo u) g (λ c. cc c)) v.biases
+  all_after records = records_turn step v locks o (OwnedBy t) now (λ u q c. cc c)
+      (λ u h. same_Some _ _ (sym h ∙ holder_is)) before.seizes after_it.seizes (λ i h. absurd (after_it.grabs i h))
   all_after recursions = record {
     first = λ i u q g h. elim (goes i u g) [
       | inl a ↦ v.recursions.first i u q a h
@@ -149,11 +143,8 @@ module _ (w : World) (P : List PlainObject) (t : ℕ) (e : CallContext) (o m p :
         (λ h. let s : o ≡ i = cc h in ap (λ j. recursion_count j (displaced_words w t) (w.known t).holds) (sym s)
         ∙ rest_again w P t o p v rests may.calm) (λ d. v.recursions.thread_owns i u);
   }
-  all_after hashes = record {
-    stands = v.hashes.stands;
-    records = v.hashes.records;
-    on_record = λ i u q r. v.hashes.on_record i u q (back i (OnRecord u q) r (λ c. cc c));
-  }
+  all_after hashes = hashes_by_marks (marks w) (marks w) (lock w) locks _ _ _ _ (λ i b. b)
+      (λ i u q r. back i (OnRecord u q) r (λ c. cc c)) v.hashes
   all_after c = even_step step before after_it P may.goes_on may.runs v c
 
   takes_over_fits : Fits x P

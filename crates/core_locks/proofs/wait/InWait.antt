@@ -1,14 +1,15 @@
 -- A thread in a wait that has the monitor, before it lets go or after it was notified, stores the recursions, whatever they are.
 use Rattle.core_locks.proofs.Prelude.{◌≡◌, ◌≢◌, ◌⊎◌, ℕ, ◌+◌, ◌<◌, ◌||◌, eq-eqb, ne_eqb, Bool, true, false, cond, List, Some, refl, sym, ap, ◌∙◌}
 use Rattle.core_locks.proofs.Prelude.{arith, inl, inr, or-true, read_mark, read_owner, owner_of, ByThread, read_owner-owner_of, is_thread}
-use Rattle.core_locks.proofs.Prelude.{PlainObject, Mark, Owner, Recursions, StepPlan, Stage, Resumes, Waits, monitor_in, inflation_in, bears}
+use Rattle.core_locks.proofs.Prelude.{PlainObject, Owner, Recursions, StepPlan, Stage, Resumes, Waits, monitor_in, inflation_in, bears}
 use Rattle.core_locks.proofs.Prelude.{recursions_lowered, ThreadView, World, Open, OnRecord, OwnedBy, lock, lock_form, marks, owner_words}
-use Rattle.core_locks.proofs.Prelude.{prototype_of, inflations, who, holder, hold_count, owner_at, owner_lock, Stays, IsKeptOrNamed, CallContext}
+use Rattle.core_locks.proofs.Prelude.{prototype_of, inflations, who, holder, hold_count, owner_at, owner_lock, IsKeptOrNamed, CallContext}
 use Rattle.core_locks.proofs.Prelude.{with_stage, store, Fits, by_equal, header_stays, inflated_form, GoesOn, SawInflated, SawOwn}
 use Rattle.core_locks.proofs.Clauses.{kept_parts, parts_stand, seen, recursions, AllHold}
 use Rattle.core_locks.proofs.Steps.{quietly, IsStep, next, step_fits, seen_next, quiet_step}
 use Rattle.core_locks.proofs.OwnSeen.{own_seen, left_with, hit_world}
-use Rattle.core_locks.proofs.monitor.MonitorSeen.{uncounted_named}
+use Rattle.core_locks.proofs.monitor.MonitorSeen.{uncounted_held}
+use Rattle.core_locks.proofs.enter_exit.HoldWays.{saw_inflated}
 
 -- it stands at s, which bears o; a seen mark names o's monitor m, of which it found itself the owner
 pub record IsInWait (k : ThreadView) (e : CallContext) (o m : ℕ) (s : Stage) : Type 0 where
@@ -30,7 +31,7 @@ module _ (w : World) (P : List PlainObject) (t : ℕ) (e : CallContext) (o m : �
   held_it = ap (λ (b : Bool). owner_at P o t || b) bears_it ∙ or-true (owner_at P o t)
 
   pub mark_names : monitor_in (marks w o) ≡ Some m
-  mark_names = let saw = may.inflated in ap monitor_in (v.seen.stays t (Mark o) saw.0 saw.1 (inl (may.runs, inr (inl (m, saw.2))))) ∙ saw.2
+  mark_names = saw_inflated w P t o may.runs v m may.inflated
 
   pub thread_owns : lock w o ≡ OwnedBy t
   thread_owns =
@@ -64,16 +65,14 @@ module _ (w : World) (P : List PlainObject) (t : ℕ) (e : CallContext) (o m : �
     other i a n d = ap (λ (b : Bool). cond b word (w.words (Recursions a))) (ne_eqb a m (λ s. d (v.monitors.alone i o m (n ∙ ap Some s) mark_names)))
 
     count_after : AllHold (kept_parts w counted P)
-    count_after seen = seen_next count_step (hit_world w t plan).words P (own_seen w P t plan (search (may.runs, inflates, known, held, uncounted)) v)
+    count_after seen = seen_next count_step (hit_world w t plan).words P
+        (own_seen w P t plan (search (may.runs, inflates, known, held, uncounted_held w P t o m v mark_names holder_is (Recursions m) refl)) v)
       where
         inflates : inflation_in s ≡ inflation_in (w.known t).stage
         inflates = sym (ap inflation_in may.stage)
 
         held : (i : ℕ) → (owner_at P i t || bears s i) ≡ true → (owner_at P i t || bears (w.known t).stage i) ≡ true
         held i h = ap (λ s. owner_at P i t || bears s i) may.stage ∙ h
-
-        uncounted : (u s : ℕ) → u ≢ t → Stays w (w.known u) (owner_at P) u (Recursions m) s → w.words (Recursions m) ≡ s → ⊥
-        uncounted u s d h is = uncounted_named w P o m u v mark_names (other_thread u d) (Recursions m) s refl h
     count_after recursions = record {
       first = v.recursions.first;
       others = v.recursions.others;

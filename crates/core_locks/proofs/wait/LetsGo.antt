@@ -1,19 +1,21 @@
 -- A thread that has logged its Wait lets go of the monitor: it stores 0 as the recursions, and clears the owner word.
-use Rattle.core_locks.proofs.Prelude.{◌≡◌, ◌≢◌, ◌⊎◌, ℕ, ◌+◌, ◌<◌, ◌||◌, ne_eqb, Bool, true, false, List, Some, refl, sym, ap, ◌∙◌, subst}
+use Rattle.core_locks.proofs.Prelude.{◌≡◌, ◌≢◌, ℕ, ◌+◌, ◌<◌, ◌||◌, ne_eqb, Bool, true, false, List, Some, refl, sym, ap, ◌∙◌, subst}
 use Rattle.core_locks.proofs.Prelude.{arith, inl, inr, same_Some, is_thread, PlainObject, Owner, Recursions, StepPlan, Settled, Resumes}
 use Rattle.core_locks.proofs.Prelude.{Exits, Waits, OwnerConverted, monitor_in, inflation_in, bears, hold_words_ahead, recursions_ahead}
 use Rattle.core_locks.proofs.Prelude.{recursions_lowered, notification_in, ThreadView, World, with_known, Lock, Open, BiasedTo, OnRecord}
 use Rattle.core_locks.proofs.Prelude.{OwnedBy, lock, marks, displaced_words, who, holder, hold_count, recursion_count, owner_at, waits_at}
-use Rattle.core_locks.proofs.Prelude.{notified_at, owner_lock, Stays, IsKeptOrNamed, GoesByMonitor, CallContext, Fits, IsOwner, each_with_known}
+use Rattle.core_locks.proofs.Prelude.{notified_at, owner_lock, IsKeptOrNamed, GoesByMonitor, CallContext, Fits, IsOwner, each_with_known}
 use Rattle.core_locks.proofs.Prelude.{owner_zero, fits_running, KeepsValid, MayDrop, MayQuit, drop_plan, quit_plan}
+use Rattle.core_locks.proofs.MarkChanges.{biases_by_marks, hashes_by_marks}
 use Rattle.core_locks.proofs.MarkMeanings.{forms_owned}
 use Rattle.core_locks.proofs.Clauses.{turned_parts, seen, forms, quiet, holds, owners, biases, records, recursions, hashes, waits, AllHold}
 use Rattle.core_locks.proofs.Steps.{stage_part, turning, IsStep, next, seen_next, quiet_next, quiet_step, stage_back, waits_turn, holds_stand}
 use Rattle.core_locks.proofs.OwnSeen.{own_seen, left_with, hit_world}
-use Rattle.core_locks.proofs.monitor.MonitorSeen.{uncounted_named}
-use Rattle.core_locks.proofs.wait.InWait.{IsInWait, held_it, mark_names as its_mark, thread_owns as has_it, known as finds, other_thread as alone, count_fits}
-use Rattle.core_locks.proofs.LockTurns.{records_turn}
-use Rattle.core_locks.proofs.monitor.OwnerTurns.{owned_locks, lock_now, lock_back, lock_forth, owner_turned}
+use Rattle.core_locks.proofs.monitor.MonitorSeen.{uncounted_held}
+use Rattle.core_locks.proofs.wait.InWait.{IsInWait, held_it, mark_names as its_mark, thread_owns as has_it, holder_is as has}
+use Rattle.core_locks.proofs.wait.InWait.{known as finds, other_thread as alone, count_fits}
+use Rattle.core_locks.proofs.LockTurns.{LockTurn, records_turn}
+use Rattle.core_locks.proofs.monitor.OwnerTurns.{owned_locks, owner_turn, owner_turned}
 
 module _ (w : World) (P : List PlainObject) (t : ℕ) (e : CallContext) (o m : ℕ)
     (within : t < w.shape.threads) (may : MayDrop (w.known t) e o m) (v : Fits w P) where
@@ -25,6 +27,9 @@ module _ (w : World) (P : List PlainObject) (t : ℕ) (e : CallContext) (o m : �
 
   thread_owns : lock w o ≡ OwnedBy t
   thread_owns = has_it w P t e o m (Waits o) within at_wait v
+
+  holder_is : who w o ≡ Some t
+  holder_is = has w P t e o m (Waits o) within at_wait v
 
   known : IsKeptOrNamed w (w.known t) m
   known = finds w P t e o m (Waits o) within at_wait v
@@ -46,14 +51,10 @@ module _ (w : World) (P : List PlainObject) (t : ℕ) (e : CallContext) (o m : �
     abbrev locks : ℕ → Lock
     locks = owned_locks w m 0
 
-    now : (i : ℕ) → ((i ≡ o) × (locks i ≡ Open)) ⊎ ((i ≢ o) × (locks i ≡ lock w i))
-    now = lock_now w P o m 0 (OwnedBy t) Open v mark_names thread_owns (ap owner_lock owner_zero)
+    turn : LockTurn w o locks (OwnedBy t) Open
+    turn = owner_turn w P o m 0 (OwnedBy t) Open v mark_names thread_owns (ap owner_lock owner_zero)
 
-    back : (i : ℕ) (f : Lock) → locks i ≡ f → (Open ≡ f → ⊥) → lock w i ≡ f
-    back = lock_back w P o m 0 (OwnedBy t) Open v mark_names thread_owns (ap owner_lock owner_zero)
-
-    forth : (i : ℕ) (f : Lock) → lock w i ≡ f → (OwnedBy t ≡ f → ⊥) → locks i ≡ f
-    forth = lock_forth w P o m 0 (OwnedBy t) Open v mark_names thread_owns (ap owner_lock owner_zero)
+    open turn use {now, back, forth}
 
     inflates : inflation_in Settled ≡ inflation_in (w.known t).stage
     inflates = sym (ap inflation_in may.stage)
@@ -64,9 +65,6 @@ module _ (w : World) (P : List PlainObject) (t : ℕ) (e : CallContext) (o m : �
         by_owner : (b : Bool) → owner_at P i t ≡ b → (b || false) ≡ true → (owner_at P i t || bears (w.known t).stage i) ≡ true
         by_owner true a g = ap (λ (b : Bool). b || bears (w.known t).stage i) a
         by_owner false a g = absurd (cc g)
-
-    uncounted : (u s : ℕ) → u ≢ t → Stays w (w.known u) (owner_at P) u (Owner m) s → w.words (Owner m) ≡ s → ⊥
-    uncounted u s d h is = uncounted_named w P o m u v mark_names (other_thread u d) (Owner m) s refl h
 
     step : IsStep w t l turning
     step = record { within = within; mine = refl; others = λ k. refl }
@@ -84,7 +82,8 @@ module _ (w : World) (P : List PlainObject) (t : ℕ) (e : CallContext) (o m : �
     goes i u (inr g) = inr g
 
     all_after : AllHold (turned_parts w z P locks)
-    all_after seen = seen_next step x.words P (own_seen w P t plan (search (may.runs, inflates, known, held, uncounted)) v)
+    all_after seen = seen_next step x.words P
+        (own_seen w P t plan (search (may.runs, inflates, known, held, uncounted_held w P t o m v mark_names holder_is (Owner m) refl)) v)
     all_after forms = forms_owned m 0 v.forms (subst (IsOwner w.shape) (sym owner_zero) tt)
     all_after quiet = quiet_next step P refl may.runs v
     all_after holds = holds_stand step P (λ i. sym (ap (λ s. hold_words_ahead s i) may.stage)) v
@@ -102,13 +101,9 @@ module _ (w : World) (P : List PlainObject) (t : ℕ) (e : CallContext) (o m : �
       left = λ i u q s. v.owners.left i u q (stage_back step (Exits i q) u (λ c. cc c) s).1;
       calls = λ i u s. v.owners.calls i u (sym (stage_part step notification_in (sym (ap notification_in may.stage)) u) ∙ s);
     }
-    all_after biases = record {
-      hashless = v.biases.hashless;
-      nobody = v.biases.nobody;
-      unheld = λ i u b d. v.biases.unheld i u b (λ g. d (forth i (BiasedTo u) g (λ c. cc c)));
-    }
+    all_after biases = biases_by_marks (marks w) (marks w) (lock w) locks _ _ _ _ (λ i b. b) (λ i u g b. forth i (BiasedTo u) g (λ c. cc c)) v.biases
     all_after records = records_turn step v locks o Open now (λ u q c. cc c)
-        (λ u h. same_Some _ _ (sym h ∙ ap (λ f. holder f (λ u. hold_count o (w.known u).holds)) thread_owns))
+        (λ u h. same_Some _ _ (sym h ∙ holder_is))
         (λ i q c. cc (sym may.stage ∙ c)) (λ i q c. cc c) (λ i c. absurd (cc c))
     all_after recursions = record {
       first = λ i u q g. v.recursions.first i u q (goes i u g);
@@ -134,11 +129,8 @@ module _ (w : World) (P : List PlainObject) (t : ℕ) (e : CallContext) (o m : �
       ];
       thread_owns = λ i u h. v.recursions.thread_owns i u (stage_back step (OwnerConverted i) u (λ c. cc c) h).1;
     }
-    all_after hashes = record {
-      stands = v.hashes.stands;
-      records = v.hashes.records;
-      on_record = λ i u q r. v.hashes.on_record i u q (back i (OnRecord u q) r (λ c. cc c));
-    }
+    all_after hashes = hashes_by_marks (marks w) (marks w) (lock w) locks _ _ _ _ (λ i b. b)
+        (λ i u q r. back i (OnRecord u q) r (λ c. cc c)) v.hashes
     all_after waits = waits_turn step (sym (ap notification_in may.stage)) (λ i c. cc (sym may.stage ∙ c))
         (λ i k c. cc c) (λ i c. absurd (cc c)) (λ i c. absurd (cc c)) (quiet_step step P may.goes_on may.runs v waits)
     all_after c = quiet_step step P may.goes_on may.runs v c

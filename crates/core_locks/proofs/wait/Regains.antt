@@ -2,15 +2,12 @@
 use Rattle.core_locks.proofs.Prelude.{◌≡◌, ℕ, ◌<◌, ◌==◌, true, false, List, refl, sym, ap, ◌∙◌, inl, inr, owner_of, Free}
 use Rattle.core_locks.proofs.Prelude.{is_listed, PlainObject, Waiting, Owner, Resumes, says_notified, bears, last_seen, World}
 use Rattle.core_locks.proofs.Prelude.{owner_at, notified_at, CallContext, Fits, KeepsValid, MayRegain, regain_plan}
-use Rattle.core_locks.proofs.monitor.Takes.{MayTake, nobody, takes_free}
+use Rattle.core_locks.proofs.monitor.Takes.{nobody, takes_free}
 
 module _ (w : World) (P : List PlainObject) (t : ℕ) (e : CallContext) (o m : ℕ) (within : t < w.shape.threads)
     (may : MayRegain (w.known t) e o m) (hit : (w.words (Owner m) == owner_of Free) ≡ true) (v : Fits w P) where
-  may_take : MayTake (w.known t) e o m
-  may_take = record { runs = may.runs; calm = may.calm; inflated = may.inflated; unseen = may.unseen; goes_on = may.goes_on }
-
   free : (u : ℕ) → (owner_at P o u ≡ false) × (bears (w.known u).stage o ≡ false)
-  free = nobody w P t e o m within may_take hit v
+  free = nobody w P t e o m within (search may) hit v
 
   -- the thread was notified: who tells all of o's waiters would own it
   called : is_listed (notified_at P o) t ≡ true
@@ -25,10 +22,4 @@ module _ (w : World) (P : List PlainObject) (t : ℕ) (e : CallContext) (o m : �
 
 pub regains_free : (e : CallContext) (o m : ℕ) → KeepsValid (λ w t. MayRegain (w.known t) e o m) (λ w t. regain_plan e t o m)
 regains_free e o m w P t within may valid =
-    takes_free w P t e o m (Resumes o) within (record {
-      runs = may.runs;
-      calm = may.calm;
-      inflated = may.inflated;
-      unseen = may.unseen;
-      goes_on = may.goes_on;
-    }) (λ hit v. inr (refl, called w P t e o m within may hit v)) valid
+    takes_free w P t e o m (Resumes o) within (search may) (λ hit v. inr (refl, called w P t e o m within may hit v)) valid

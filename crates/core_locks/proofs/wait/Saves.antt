@@ -1,15 +1,15 @@
 -- A thread that is about to wait loads the recursions of its monitor, and saves them. Loads of a monitor's words by who has found it are looks.
-use Rattle.core_locks.proofs.Prelude.{◌≡◌, ◌≢◌, ◌⊎◌, ℕ, ◌+◌, ◌<◌, ◌||◌, eq-eqb, ne_eqb, Bool, true, cond, List, Some, refl, sym, ap}
-use Rattle.core_locks.proofs.Prelude.{◌∙◌, subst, inl, inr, same_Some, is_thread, is_listed, PlainObject, WordId, Recursions, StepPlan}
+use Rattle.core_locks.proofs.Prelude.{◌≡◌, ◌⊎◌, ℕ, ◌+◌, ◌<◌, ◌||◌, eq-eqb, ne_eqb, Bool, true, cond, List, Some, refl, sym, ap}
+use Rattle.core_locks.proofs.Prelude.{◌∙◌, subst, inl, inr, same_Some, is_listed, PlainObject, WordId, Recursions, StepPlan}
 use Rattle.core_locks.proofs.Prelude.{Settled, monitor_in, inflation_in, bears, recursions_lowered, ThreadView, World, marks}
-use Rattle.core_locks.proofs.Prelude.{displaced_words, holder, hold_count, recursion_count, owner_at, waits_at, notified_at, Stays}
+use Rattle.core_locks.proofs.Prelude.{displaced_words, who, holder, hold_count, recursion_count, owner_at, waits_at, notified_at}
 use Rattle.core_locks.proofs.Prelude.{IsKeptOrNamed, CallContext, Fits, HasFound, by_equal, each_with_known, header_stays, fits_running}
 use Rattle.core_locks.proofs.Prelude.{KeepsValid, MayCount, MaySaveCount, MayLoadOfMonitor, save_count_plan, load_plan}
 use Rattle.core_locks.proofs.WaitOut.{out_unlisted}
 use Rattle.core_locks.proofs.Clauses.{kept_parts, parts_stand, seen, recursions, AllHold}
 use Rattle.core_locks.proofs.Steps.{saving, IsStep, next, step_fits, seen_next, quiet_step}
 use Rattle.core_locks.proofs.OwnSeen.{own_seen, left_with, hit_world}
-use Rattle.core_locks.proofs.monitor.MonitorSeen.{uncounted_named}
+use Rattle.core_locks.proofs.monitor.MonitorSeen.{uncounted_held}
 use Rattle.core_locks.proofs.monitor.Counting.{thread_owns as has_it, mark_names as its_mark}
 use Rattle.core_locks.proofs.LookOn.{load_valid}
 use Rattle.core_locks.proofs.monitor.SwapLaws.{found_by_mark}
@@ -47,18 +47,18 @@ module _ (w : World) (P : List PlainObject) (t : ℕ) (e : CallContext) (o m : �
   inflates : inflation_in Settled ≡ inflation_in (w.known t).stage
   inflates = sym (ap inflation_in calm)
 
+  holder_is : who w o ≡ Some t
+  holder_is = ap (λ f. holder f (λ u. hold_count o (w.known u).holds)) (has_it w P t e o m within may (inl calm) v)
+
   known : IsKeptOrNamed w (w.known t) m
   known = inr (o, mark_names)
 
   held : (i : ℕ) → (owner_at P i t || bears Settled i) ≡ true → (owner_at P i t || bears (w.known t).stage i) ≡ true
   held i h = ap (λ s. owner_at P i t || bears s i) calm ∙ h
 
-  uncounted : (u s : ℕ) → u ≢ t → Stays w (w.known u) (owner_at P) u (Recursions m) s → w.words (Recursions m) ≡ s → ⊥
-  uncounted u s d h is = uncounted_named w P o m u v mark_names (ap (λ f. is_thread (holder f (λ y. hold_count o (w.known y).holds)) u)
-      (has_it w P t e o m within may (inl calm) v) ∙ ne_eqb t u (λ q. d (sym q))) (Recursions m) s refl h
-
   all_after : AllHold (kept_parts w z P)
-  all_after seen = seen_next step x.words P (own_seen w P t plan (search (may.runs, inflates, known, held, uncounted)) v)
+  all_after seen = seen_next step x.words P
+      (own_seen w P t plan (search (may.runs, inflates, known, held, uncounted_held w P t o m v mark_names holder_is (Recursions m) refl)) v)
   all_after recursions = record {
     first = v.recursions.first;
     others = v.recursions.others;
