@@ -9,6 +9,7 @@ use Rattle.core_world.specs.Trees.DeflateSteps.{enqueue_plan, advance_plan}
 use Rattle.core_world.proofs.deflation.Rings.{ring_few, place_of_word}
 use Rattle.core_locks.specs.DeflationLaws.{IsFilled}
 use Rattle.core_locks.proofs.monitor.Claims.{one_place}
+use Rattle.core_locks.proofs.monitor.Fetches.{filled_at}
 use Rattle.core_locks.proofs.monitor.Places.{one_leaver}
 use Rattle.core_locks.proofs.monitor.Moved.{as_many, one_fewer}
 use Rattle.core_locks.proofs.RefutedSteps.{knows, hit_fits, standing_fits}
@@ -114,25 +115,12 @@ module _ (w : World) (Q : List PlainObject) (m t d : ℕ) (e : CallContext) (ret
   abbrev p : ℕ
   p = afterwards.claims.first + d
 
-  as_filled : d < afterwards.claims.ringed
-  as_filled =
-      let few = afterwards.limits in
-      let most = filled.1 in
-      let word = filled.2 in
-      let low = filled.3 in
-      omega (arith, afterwards.claims.claim_word, afterwards.claims.end_word, afterwards.claims.counted, most, word, low, few.threads, few.objects)
-
-  place_is : p % 2 ^ ring_bits w.shape ≡ at
-  place_is =
-      let few : ring_bits w.shape ≤ 64 = let most = ring_few w.shape in omega (arith, most) in
-      let twice : afterwards.claims.first % 2 ^ 64 ≡ w.words Claim % 2 ^ 64 = (let word = afterwards.claims.claim_word in omega (arith, word)) in
-      one_place afterwards.claims.first (w.words Claim) d (ring_bits w.shape) few twice
-
   stands_there : afterwards.claims.place m ≡ InRing p
   stands_there =
-      let stood = afterwards.claims.stands p (omega arith) (omega (arith, as_filled)) in
+      let filled_now = filled_at (with_word_and_known (Ring at) m t k w) Q afterwards d filled in
+      let stood = afterwards.claims.stands p (omega arith) (omega (arith, filled_now.0)) in
       let here : cond (p % 2 ^ ring_bits w.shape == at) m (w.words (Ring (p % 2 ^ ring_bits w.shape))) ≡ m =
-      ap (λ b. cond b m (w.words (Ring (p % 2 ^ ring_bits w.shape)))) (eq-eqb (p % 2 ^ ring_bits w.shape) at place_is) in
+      ap (λ b. cond b m (w.words (Ring (p % 2 ^ ring_bits w.shape)))) (eq-eqb (p % 2 ^ ring_bits w.shape) at filled_now.1) in
       ap afterwards.claims.place (sym here) ∙ stood.1
 
   twice_there : ⊥

@@ -1,6 +1,6 @@
 -- A thread exchanges a neutral mark without a hash for the same with its next draw.
 use Rattle.core_locks.proofs.Prelude.{◌≡◌, ◌≢◌, ℕ, ◌<◌, ◌==◌, eq-eqb, ne_eqb, Bool, true, cond, List, Some, refl, sym, ap, ◌∙◌, subst, inl}
-use Rattle.core_locks.proofs.Prelude.{eqb-true, same_Some, read_mark, mark_of, Neutral, PlainObject, Mark, StepPlan, is_neutral, hash_in}
+use Rattle.core_locks.proofs.Prelude.{eqb-true, same_Some, read_mark, mark_of, Neutral, PlainObject, Logged, Mark, StepPlan, is_neutral, hash_in}
 use Rattle.core_locks.proofs.Prelude.{monitor_in, hash_form, is_neutral_form, word_after, ThreadView, World, with_word_and_known, lock, lock_form}
 use Rattle.core_locks.proofs.Prelude.{header, header_form, marks, displaced_words, headers, owner_words, prototype_of, inflations, owner_at}
 use Rattle.core_locks.proofs.Prelude.{hash_at, waits_at, inflated_to, CallContext, with_stage, known_hit, seen_before, Fits, SeenFit}
@@ -8,8 +8,9 @@ use Rattle.core_locks.proofs.Prelude.{CompareExchange, IsMark, NextDraw, fits_ru
 use Rattle.core_locks.proofs.Prelude.{unwaited_fits, Logs, LogsValid, KeepsValid, MayHash, IsItsNext, MayDrawInMark, draw_plan}
 use Rattle.plain_monitor.specs.declared.entry.Entry.TheVariants as entry
 use Rattle.core_locks.proofs.Clauses.{Parts, parts_of, seen, forms, biases, inflating, recursions, hashes, classes, AllHold}
-use Rattle.core_locks.proofs.hash.HashDraws.{IsBlank, Q as objects, spells, telling_it, exchanged, slots_drawn, draws_law, biases_drawn, hashes_drawn}
-use Rattle.core_locks.proofs.telling.Tells.{told_parts, told_are, told_step}
+use Rattle.core_locks.proofs.hash.HashDraws.{IsBlank, Q as objects, y as its_entry, spells, telling_it, exchanged}
+use Rattle.core_locks.proofs.hash.HashDraws.{slots_drawn, draws_law, biases_drawn, hashes_drawn}
+use Rattle.core_locks.proofs.telling.Tells.{IsTelling, told_parts, told_are, told_step}
 use Rattle.core_locks.proofs.MarkMeanings.{forms_marked, each_set, IsBare, neutral_bare, neutral_some, neutral_lock, neutral_header}
 use Rattle.core_locks.proofs.MarkChanges.{names_same, bias_back, bias_forth, bias_before, zero_back, zero_forth, mark_back}
 use Rattle.core_locks.proofs.MarkChanges.{mark_spares, recursions_by_marks, classes_by_marks, inflating_by_marks}
@@ -47,6 +48,12 @@ module _ (w : World) (P : List PlainObject) (t : ℕ) (e : CallContext) (draw : 
 
   abbrev Q : List PlainObject
   Q = objects w P t e draw o mark (Mark o) within may its v hashless
+
+  abbrev entry_told : Logged
+  entry_told = its_entry w P t e draw o mark (Mark o) within may its v hashless
+
+  tells : IsTelling w P Q t entry_told l
+  tells = telling_it w P t e draw o mark (Mark o) within may its v hashless
 
   spelled : read_mark m ≡ Some (Neutral draw.value 0)
   spelled = spells w P t e draw o mark (Mark o) within may its v hashless hit
@@ -104,14 +111,11 @@ module _ (w : World) (P : List PlainObject) (t : ℕ) (e : CallContext) (draw : 
       spares v.seen
 
   abbrev drawn_parts : Parts
-  drawn_parts = record (told_parts step (telling_it w P t e draw o mark (Mark o) within may its v hashless) x.words) { inflated = inflated_to w; lock = lock w }
+  drawn_parts = record (told_parts step tells x.words) { inflated = inflated_to w; lock = lock w }
 
   parts : parts_of z Q ≡ drawn_parts
-  parts = told_are step (telling_it w P t e draw o mark (Mark o) within may its v hashless) x.words
-      ∙ (λ j. record (told_parts step (telling_it w P t e draw o mark (Mark o) within may its v hashless) x.words) {
-        inflated = λ i. sym (names i) j;
-        lock = λ i. lock_at i j;
-      })
+  parts = told_are step tells x.words
+      ∙ (λ j. record (told_parts step tells x.words) { inflated = λ i. sym (names i) j; lock = λ i. lock_at i j })
 
   all_after : AllHold drawn_parts
   all_after seen = seen_next step x.words P seen_law
@@ -123,7 +127,7 @@ module _ (w : World) (P : List PlainObject) (t : ℕ) (e : CallContext) (draw : 
   all_after hashes = hashes_drawn w P t e draw o mark (Mark o) within may its v hashless
       (marks x) (header z) (bias_before w o m t l old_bare.unbiased) header_here header_else
   all_after classes = classes_by_marks w.biasing _ _ _ (marks w) (marks x) _ _ (bias_forth w o m t l new_bare.unbiased) v.classes
-  all_after c = told_step step (telling_it w P t e draw o mark (Mark o) within may its v hashless) v
+  all_after c = told_step step tells v
       (slots_drawn w P t e draw o mark (Mark o) within may its v hashless) (draws_law w P t e draw o mark (Mark o) within may its v hashless) c
 
   pub drawn_logs : Logs w P t (draw_plan e draw (Mark o) o mark) (entry.Hash o draw.value (Some draw.number))

@@ -144,6 +144,9 @@ module _ (w : World) (P : List PlainObject) (t : ℕ) (e : CallContext) (within 
   abbrev z : World
   z = next w t l handling x.words
 
+  inflates : inflation_in l.stage ≡ inflation_in (w.known t).stage
+  inflates = sym (ap inflation_in may.calm)
+
   uncounted : (u s : ℕ) → u ≢ t → Stays w (w.known u) (owner_at P) u Claim s → w.words Claim ≡ s → ⊥
   uncounted u s d h is = elim h [ inl a ↦ a.1 | inr a ↦ a.2 ]
 
@@ -151,22 +154,7 @@ module _ (w : World) (P : List PlainObject) (t : ℕ) (e : CallContext) (within 
   held o a h = subst (λ s. (owner_at P o t || bears s o) ≡ true) (sym may.calm) h
 
   all_after : AllHold (kept_parts w z P)
-  all_after seen = seen_next step x.words P (own_seen w P t plan (record {
-    runs = may.runs;
-    seen = refl;
-    requesting = refl;
-    reached = refl;
-    kept = refl;
-    inflates = sym (ap inflation_in may.calm);
-    held = λ o a n. held o a;
-    marks = refl;
-    prototypes = refl;
-    no_mark = λ o. refl;
-    no_class = λ o. refl;
-    named = tt;
-    waits = λ u o h. h;
-    uncounted = uncounted;
-  }) v)
+  all_after seen = seen_next step x.words P (own_seen w P t plan (search (may.runs, inflates, held, uncounted)) v)
   all_after claims = claims_law
   all_after moves = moves_law w t l P (λ p h. may.runs) (λ a h. absurd (cc h)) v
   all_after k = quiet_step step P may.goes_on may.runs v k

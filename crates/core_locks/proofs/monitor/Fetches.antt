@@ -132,25 +132,26 @@ module _ (w : World) (P : List PlainObject) (t : ℕ) (e : CallContext) (p : ℕ
 pub fetches_one : (e : CallContext) (p : ℕ) → KeepsValid (λ w t. MayFetch (w.known t) e p) (λ w t. fetch_plan e w.shape p)
 fetches_one e p w P t within may valid = inl (fetched_fits w P t e p within may (fits_running w P t may.runs valid))
 
--- at each filled position a monitor stands in the ring
+-- the d-th filled position: it is one of those between the first and the last, and this is its place
+pub filled_at : (w : World) (P : List PlainObject) (v : Fits w P) (d : ℕ) → IsFilled w d
+    → (d < v.claims.ringed) × ((v.claims.first + d) % 2 ^ ring_bits w.shape ≡ (w.words Claim + d) % 2 ^ ring_bits w.shape)
+filled_at w P v d filled =
+    let limits = v.limits in
+    let most = filled.1 in
+    let word = filled.2 in
+    let low = filled.3 in
+    let few : ring_bits w.shape ≤ 64 = let bits = ring_few w.shape in omega (arith, bits) in
+    let twice : v.claims.first % 2 ^ 64 ≡ w.words Claim % 2 ^ 64 = let claimed = v.claims.claim_word in omega (arith, claimed) in (
+      omega (arith, v.claims.claim_word, v.claims.end_word, v.claims.counted, most, word, low, limits.threads, limits.objects),
+      one_place v.claims.first (w.words Claim) d (ring_bits w.shape) few twice,
+    )
+
+-- a monitor stands there in the ring
 in_ring : (w : World) (P : List PlainObject) (v : Fits w P) (d : ℕ) → IsFilled w d
     → v.claims.place (w.words (Ring ((w.words Claim + d) % ring_places w.shape))) ≡ InRing (v.claims.first + d)
-in_ring w P v d filled = ap (λ z. v.claims.place (w.words (Ring z))) (sym place)
-    ∙ (v.claims.stands (v.claims.first + d) (omega arith) (omega (arith, d_below))).1
-  where
-    d_below : d < v.claims.ringed
-    d_below =
-        let few = v.limits in
-        let most = filled.1 in
-        let word = filled.2 in
-        let low = filled.3 in
-        omega (arith, v.claims.claim_word, v.claims.end_word, v.claims.counted, most, word, low, few.threads, few.objects)
-
-    place : (v.claims.first + d) % 2 ^ ring_bits w.shape ≡ (w.words Claim + d) % 2 ^ ring_bits w.shape
-    place =
-        let few : ring_bits w.shape ≤ 64 = let most = ring_few w.shape in omega (arith, most) in
-        let twice : v.claims.first % 2 ^ 64 ≡ w.words Claim % 2 ^ 64 = (let word = v.claims.claim_word in omega (arith, word)) in
-        one_place v.claims.first (w.words Claim) d (ring_bits w.shape) few twice
+in_ring w P v d filled =
+    let at = filled_at w P v d filled in
+    ap (λ z. v.claims.place (w.words (Ring z))) (sym at.1) ∙ (v.claims.stands (v.claims.first + d) (omega arith) (omega (arith, at.0))).1
 
 -- the monitor that it finds is nobody else's: no mark names it, no thread keeps it or gives it back, no other has claimed its place, and it stands at no
 -- filled position

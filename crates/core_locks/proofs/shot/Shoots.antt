@@ -54,22 +54,8 @@ module _ (w : World) (P : List PlainObject) (t : ℕ) (e : CallContext)
 
   glance : Glance w P (w.known t) l plan
   glance = record {
-    same = record {
-      thread = refl;
-      log = refl;
-      running = refl;
-      requesting = refl;
-      kept = refl;
-      moving = refl;
-      saved = refl;
-      holds = refl;
-      wait = refl;
-      published = refl;
-      stage = may.calm;
-      counts = refl;
-      draws = refl;
-      unfinished = inl (sym may.goes_on);
-    };
+    same =
+        let goes_on : ((w.known t).unfinished ≡ l.unfinished) ⊎ ((w.known t).unfinished ≡ None) = inl (sym may.goes_on) in search (may.calm, goes_on);
     looks = record {
       word = refl;
       as_found = refl;
