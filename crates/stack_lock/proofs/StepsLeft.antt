@@ -33,13 +33,13 @@ module _ {A : Type 0} {h : HeapSeen} {t : HeapCall} {o : PassSeen} {d : StepTree
   pub all_left : IsOf h o → IsDueOn h o t d → AreLeft h t o d o d
   all_left heap due = record { heap = heap; due = due; whole = λ q a run. run }
 
-  -- The first of them can be made, which the code says in other words.
+  -- The first of them can be made, and then the others are left. The code's words for the step are the tree's: by `refl`, unless they name what a call
+  -- answered. That it is a step of this call, and takes no shot, is `refl` at each plan.
   pub can_make : {p : PassSeen} {plan said : StepPlan} {f : ℕ → StepTree A} → AreLeft h t o d p (step plan f) → said ≡ plan → plan.task ≡ t
       → is_shot plan.own ≡ false → LogHasRoom plan.note p.known.log p.limit → CanStep h p said
   can_make {p = p} {plan = plan} {f = f} left same task shotless room =
       subst (CanStep h p) (sym same) (can h p t plan f left.due task left.heap room shotless)
 
-  -- After it the others are left.
   pub step_made : {p q : PassSeen} {plan said : StepPlan} {f : ℕ → StepTree A} {n : ℕ} → AreLeft h t o d p (step plan f) → said ≡ plan → plan.task ≡ t
       → is_shot plan.own ≡ false → HasStepped h p q said n → AreLeft h t o d q (f n)
   step_made {p = p} {q = q} {plan = plan} {f = f} {n = n} left same task shotless did =

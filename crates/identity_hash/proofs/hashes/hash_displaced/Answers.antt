@@ -21,7 +21,8 @@ found : (c : After-hash_of_word-hash) → AreLeft c.args.heap.now c.args.call.no
     (done (if c.hash_of_word-hash.result == 0 then None else Some c.hash_of_word-hash.result))
 found c =
     let left = step_made (all_left c.requires.heap c.requires.due)
-    (λ i. find_hash_plan c.args.call.now (Displaced (c.thread-thread.ensures.same i) (c.first_place-place.ensures i)) c.args.object) refl refl c.find_hash-header.ensures in
+    (λ i. find_hash_plan c.args.call.now (Displaced (c.thread-thread.ensures.same i) (c.first_place-place.ensures i)) c.args.object)
+    refl refl c.find_hash-header.ensures in
     left_as left (ap (λ n. done (if n == 0 then None else Some n)) (sym c.hash_of_word-hash.ensures))
 
 pub returns-then-hash-ne0 : goal.returns-then-hash-ne0
