@@ -21,7 +21,7 @@ use Rattle.core_world.specs.Trees.LockSteps.{hold_steps}
 use Rattle.core_world.specs.Trees.Plans.{CallContext, load, load_plan, class_steps}
 use Rattle.core_world.specs.Trees.StepTree.{StepTree, done, unreachable, step, ◌>>=◌}
 use Rattle.heap_table.proofs.ClassSteps.{class_splits}
-use Rattle.stack_lock.proofs.StepsLeft.{known_alike}
+use Rattle.heap_table.proofs.StepsLeft.{known_alike}
 use Rattle.bias_lock.specs.inner.Parts.{prototype_enter, prototype_drop}
 use Rattle.bias_lock.specs.Kept.{IsKeptUnlessTook}
 

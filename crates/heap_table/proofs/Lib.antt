@@ -23,3 +23,4 @@ pub mod Loops
 pub mod Forms
 pub mod ClassSteps
 pub mod Idling
+pub mod StepsLeft

@@ -15,7 +15,7 @@ use Rattle.core_world.specs.Trees.Plans.{CallContext, load, done_with, pending_f
 use Rattle.core_world.specs.Words.Shape.{Shape}
 use Rattle.heap_table.specs.Parts.{HasMadeSteps}
 use Rattle.heap_table.specs.Seen.{HeapSeen, PassSeen}
-use Rattle.stack_lock.proofs.StepsLeft.{known_alike}
+use Rattle.heap_table.proofs.StepsLeft.{known_alike}
 use Rattle.object_monitor.proofs.Inflating.{locked_on}
 
 module _ (s : Shape) (start : ℕ) (e : CallContext) (o : ℕ) (l : ThreadView) (a : Progress ℕ) where

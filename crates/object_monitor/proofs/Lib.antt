@@ -6,4 +6,3 @@ mod RecursionRoom
 mod Resuming
 mod Looking
 mod Waking
-pub mod StepsLeft

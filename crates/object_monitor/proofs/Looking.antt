@@ -8,7 +8,7 @@ use Rattle.core_world.specs.Trees.WaitSteps.{look_steps}
 use Rattle.heap_table.specs.Parts.{IsDueOn, HasMadeSteps}
 use Rattle.heap_table.specs.Seen.{HeapSeen, PassSeen, IsOf}
 use Rattle.heap_table.specs.Stepping.{CanStep, HasStepped}
-use Rattle.stack_lock.proofs.StepsLeft.{AreLeft, part_left}
+use Rattle.heap_table.proofs.StepsLeft.{AreLeft, part_left}
 use Rattle.heap_table.proofs.Loops.{HasCome, nothing_yet, comes_on, comes_as, each_next, bind_done}
 use Rattle.heap_table.proofs.Aside.{AreAside, StartsAlike, aside, each_aside}
 use Rattle.heap_table.proofs.Parts.{can, rest_due, last_step, ends, part_then}

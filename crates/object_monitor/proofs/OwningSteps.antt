@@ -10,7 +10,7 @@ use Rattle.core_world.specs.Trees.StepTree.{StepTree, ◌>>=◌}
 use Rattle.heap_table.specs.Parts.{IsDueOn, HasMadeSteps}
 use Rattle.heap_table.specs.Seen.{HeapSeen, PassSeen}
 use Rattle.heap_table.proofs.Parts.{part_then}
-use Rattle.stack_lock.proofs.StepsLeft.{AreLeft, part_left}
+use Rattle.heap_table.proofs.StepsLeft.{AreLeft, part_left}
 
 -- after them what comes next is due
 after_owning : {A : Type 0} (f : Option OwnerForm) (h : HeapSeen) (p q : PassSeen) (e : CallContext) (k : Local) (o m : ℕ) (d : StepTree A)

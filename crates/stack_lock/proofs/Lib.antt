@@ -1,3 +1,2 @@
 mod Never
 mod Room
-pub mod StepsLeft

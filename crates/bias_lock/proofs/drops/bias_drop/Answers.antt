@@ -6,7 +6,7 @@ use Rattle.core_world.specs.Trees.BiasSteps.{bias_drop_steps}
 use Rattle.core_world.specs.Trees.Plans.{class_steps}
 use Rattle.core_world.specs.Trees.StepTree.{done, ◌>>=◌}
 use Rattle.bias_lock.specs.inner.Parts.{prototype_drop}
-use Rattle.stack_lock.proofs.StepsLeft.{AreLeft, all_left, can_make, step_made, left_then, left_else, all_made, part_of, class_left}
+use Rattle.heap_table.proofs.StepsLeft.{AreLeft, all_left, can_make, step_made, left_then, left_else, all_made, part_of, class_left}
 use Rattle.bias_lock.proofs.Keeping.{drop_keeps}
 use Rattle.bias_lock.proofs.drops.bias_drop.Goals as goal
 use Rattle.bias_lock.proofs.drops.bias_drop.Goals.{After-load-mark, After-class_of-class}

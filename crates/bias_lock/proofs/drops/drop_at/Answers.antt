@@ -1,7 +1,7 @@
 use Rattle.std.proofs.Common.{Some, ap, ne_eqb}
 use Rattle.mark_word.specs.declared.mark.MarkForm.{MarkForm}
 use Rattle.core_world.specs.Trees.BiasSteps.{bias_drop_at}
-use Rattle.stack_lock.proofs.StepsLeft.{all_left, left_as, left_else, never}
+use Rattle.heap_table.proofs.StepsLeft.{all_left, left_as, left_else, never}
 use Rattle.bias_lock.proofs.Never.{never_dropped}
 use Rattle.bias_lock.proofs.drops.drop_at.Goals as goal
 

@@ -1,7 +1,7 @@
 use Rattle.std.proofs.Common.{ℕ, Option, refl, sym, ap}
 use Rattle.core_world.specs.Trees.BiasSteps.{bias_drop_by}
 use Rattle.bias_lock.specs.inner.Parts.{prototype_drop}
-use Rattle.stack_lock.proofs.StepsLeft.{AreLeft, all_left, can_make, step_made, left_as}
+use Rattle.heap_table.proofs.StepsLeft.{AreLeft, all_left, can_make, step_made, left_as}
 use Rattle.bias_lock.proofs.drops.drop_biased.Goals as goal
 use Rattle.bias_lock.proofs.drops.drop_biased.Goals.{After-class_epoch-epoch}
 

@@ -1,5 +1,5 @@
 use Rattle.std.proofs.Common.{refl, eq-eqb, ne_eqb}
-use Rattle.stack_lock.proofs.StepsLeft.{all_left, can_make, step_made, left_then, left_else, all_made}
+use Rattle.heap_table.proofs.StepsLeft.{all_left, can_make, step_made, left_then, left_else, all_made}
 use Rattle.bias_lock.proofs.drops.unbias.Goals as goal
 
 pub exchange-found-requires : goal.exchange-found-requires

@@ -7,7 +7,7 @@ use Rattle.core_world.specs.Words.Forms.{is_biased}
 use Rattle.core_world.specs.Trees.BiasSteps.{bias_after_at, bias_after_steps}
 use Rattle.core_world.specs.Trees.Plans.{load_plan}
 use Rattle.core_world.specs.Trees.StepTree.{done}
-use Rattle.stack_lock.proofs.StepsLeft.{AreLeft, all_left, can_make, step_made, left_as, left_then, left_else, all_made}
+use Rattle.heap_table.proofs.StepsLeft.{AreLeft, all_left, can_make, step_made, left_as, left_then, left_else, all_made}
 use Rattle.bias_lock.proofs.Keeping.{after_keeps}
 use Rattle.bias_lock.proofs.enter_after_revocation.bias_after.Goals as goal
 use Rattle.bias_lock.proofs.enter_after_revocation.bias_after.Goals.{After-load-mark, After-mark_of_word-form}

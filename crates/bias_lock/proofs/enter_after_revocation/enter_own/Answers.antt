@@ -5,7 +5,7 @@ use Rattle.core_world.specs.Threads.ThreadView.{local_of}
 use Rattle.core_world.specs.Trees.BiasSteps.{took_steps, bias_after_at}
 use Rattle.core_world.specs.Trees.StepTree.{unreachable}
 use Rattle.heap_table.proofs.Ruled.{chosen}
-use Rattle.stack_lock.proofs.StepsLeft.{AreLeft, all_left, left_as, left_then, never}
+use Rattle.heap_table.proofs.StepsLeft.{AreLeft, all_left, left_as, left_then, never}
 use Rattle.bias_lock.proofs.Never.{never_after}
 use Rattle.bias_lock.proofs.enter_after_revocation.enter_own.Goals as goal
 use Rattle.bias_lock.proofs.enter_after_revocation.enter_own.Goals.{In-Biased}

@@ -9,7 +9,7 @@ use Rattle.core_world.specs.Trees.StepTree.{done, ◌>>=◌}
 use Rattle.heap_table.proofs.Aside.{room_aside}
 use Rattle.heap_table.proofs.ClassSteps.{class_alike}
 use Rattle.bias_lock.specs.inner.Parts.{prototype_enter}
-use Rattle.stack_lock.proofs.StepsLeft.{AreLeft, all_left, can_make, step_made, left_as, left_then, left_else, all_made, part_of, class_left, room_after}
+use Rattle.heap_table.proofs.StepsLeft.{AreLeft, all_left, can_make, step_made, left_as, left_then, left_else, all_made, part_of, class_left, room_after}
 use Rattle.bias_lock.proofs.Keeping.{enter_keeps}
 use Rattle.bias_lock.proofs.enters.bias_enter.Goals as goal
 use Rattle.bias_lock.proofs.enters.bias_enter.Goals.{After-load-mark, After-class_of-class}

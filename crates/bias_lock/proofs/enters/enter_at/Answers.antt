@@ -2,7 +2,7 @@ use Rattle.std.proofs.Common.{◌==◌, if◌then◌else◌, Some, ap, eq-eqb, n
 use Rattle.mark_word.specs.declared.mark.MarkForm.{MarkForm}
 use Rattle.core_world.specs.Threads.ThreadView.{local_of}
 use Rattle.core_world.specs.Trees.BiasSteps.{bias_enter_at, bias_valid_steps, rebias_steps}
-use Rattle.stack_lock.proofs.StepsLeft.{AreLeft, all_left, left_as, left_then, left_else, never}
+use Rattle.heap_table.proofs.StepsLeft.{AreLeft, all_left, left_as, left_then, left_else, never}
 use Rattle.bias_lock.proofs.Never.{never_entered}
 use Rattle.bias_lock.proofs.enters.enter_at.Goals as goal
 use Rattle.bias_lock.proofs.enters.enter_at.Goals.{In-Biased}

@@ -4,7 +4,7 @@ use Rattle.mark_word.specs.Mark.{read_mark}
 use Rattle.core_world.specs.Threads.ThreadView.{local_of}
 use Rattle.core_world.specs.Trees.BiasSteps.{bias_enter_by}
 use Rattle.bias_lock.specs.inner.Parts.{prototype_enter}
-use Rattle.stack_lock.proofs.StepsLeft.{AreLeft, all_left, can_make, step_made, left_as, never}
+use Rattle.heap_table.proofs.StepsLeft.{AreLeft, all_left, can_make, step_made, left_as, never}
 use Rattle.bias_lock.proofs.enters.enter_biased.Goals as goal
 use Rattle.bias_lock.proofs.enters.enter_biased.Goals.{After-load-prototype}
 

@@ -5,7 +5,7 @@ use Rattle.mark_word.specs.Mark.{read_mark}
 use Rattle.mark_word.proofs.ReadingMarks.{read_mark-spells}
 use Rattle.core_world.specs.Threads.ThreadView.{local_of}
 use Rattle.core_world.specs.Trees.BiasSteps.{bias_enter_at, bias_enter_by}
-use Rattle.stack_lock.proofs.StepsLeft.{AreLeft, all_left, left_as, never}
+use Rattle.heap_table.proofs.StepsLeft.{AreLeft, all_left, left_as, never}
 use Rattle.bias_lock.proofs.Never.{no_prototype}
 use Rattle.bias_lock.proofs.enters.enter_by_prototype.Goals as goal
 use Rattle.bias_lock.proofs.enters.enter_by_prototype.Goals.{In-Anonymous}

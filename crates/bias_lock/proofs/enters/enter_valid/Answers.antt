@@ -1,5 +1,5 @@
 use Rattle.std.proofs.Common.{sym, ◌∙◌, eq-eqb, ne_eqb}
-use Rattle.stack_lock.proofs.StepsLeft.{all_left, left_then, left_else, all_made}
+use Rattle.heap_table.proofs.StepsLeft.{all_left, left_then, left_else, all_made}
 use Rattle.bias_lock.proofs.enters.enter_valid.Goals as goal
 
 pub log_biased_enter-requires-clause-due : goal.log_biased_enter-requires-clause-due

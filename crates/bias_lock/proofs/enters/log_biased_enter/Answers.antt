@@ -1,7 +1,7 @@
 use Rattle.std.proofs.Common.{refl}
 use Rattle.core_world.specs.declared.answer.BiasTry.TheVariants.{Took}
 use Rattle.core_world.specs.Trees.StepTree.{done}
-use Rattle.stack_lock.proofs.StepsLeft.{all_left, part_of, last_made}
+use Rattle.heap_table.proofs.StepsLeft.{all_left, part_of, last_made}
 use Rattle.bias_lock.proofs.enters.log_biased_enter.Goals as goal
 
 pub hold-requires-clause-due : goal.hold-requires-clause-due

@@ -9,7 +9,7 @@ use Rattle.core_world.specs.Threads.ThreadView.{local_of}
 use Rattle.core_world.specs.Trees.BiasSteps.{rebias_plan, rebias_steps, took_steps}
 use Rattle.core_world.specs.Trees.StepTree.{done}
 use Rattle.heap_table.specs.StepPlans.{swap_plan}
-use Rattle.stack_lock.proofs.StepsLeft.{AreLeft, all_left, can_make, step_made, left_as, left_then, left_else, all_made, alike_after, room_after}
+use Rattle.heap_table.proofs.StepsLeft.{AreLeft, all_left, can_make, step_made, left_as, left_then, left_else, all_made, alike_after, room_after}
 use Rattle.bias_lock.proofs.enters.rebias.Goals as goal
 use Rattle.bias_lock.proofs.enters.rebias.Goals.{After-encode-own, After-exchange-found}
 

@@ -4,7 +4,7 @@ use Rattle.core_world.specs.Words.Forms.{is_biased}
 use Rattle.core_world.specs.Trees.StepTree.{done, ◌>>=◌}
 use Rattle.stack_lock.specs.Parts.{leave_at}
 use Rattle.bias_lock.specs.inner.Parts.{marked_exit}
-use Rattle.stack_lock.proofs.StepsLeft.{AreLeft, all_left, can_make, step_made, left_as, left_then, left_else, all_made, part_of, last_made, thread_stays}
+use Rattle.heap_table.proofs.StepsLeft.{AreLeft, all_left, can_make, step_made, left_as, left_then, left_else, all_made, part_of, last_made, thread_stays}
 use Rattle.bias_lock.proofs.exits.leave_marked.Goals as goal
 use Rattle.bias_lock.proofs.exits.leave_marked.Goals.{After-load-mark}
 

@@ -1,6 +1,6 @@
 use Rattle.std.proofs.Common.{refl, eq-eqb, ne_eqb}
 use Rattle.core_world.specs.Trees.HashSteps.{NextDraw}
-use Rattle.object_monitor.proofs.StepsLeft.{all_left, can_make, step_made, left_then, left_else, all_made}
+use Rattle.heap_table.proofs.StepsLeft.{all_left, can_make, step_made, left_then, left_else, all_made}
 use Rattle.identity_hash.proofs.Drawing.{draws}
 use Rattle.identity_hash.proofs.hashes.draw.Goals as goal
 

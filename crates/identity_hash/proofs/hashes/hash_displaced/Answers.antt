@@ -4,7 +4,7 @@ use Rattle.core_world.specs.Threads.ThreadView.{local_of}
 use Rattle.core_world.specs.Trees.HashSteps.{find_hash_plan, hash_displaced_steps}
 use Rattle.core_world.specs.Trees.StepTree.{done}
 use Rattle.heap_table.proofs.Ruled.{few_objects}
-use Rattle.object_monitor.proofs.StepsLeft.{AreLeft, all_left, can_make, step_made, left_as, all_made}
+use Rattle.heap_table.proofs.StepsLeft.{AreLeft, all_left, can_make, step_made, left_as, all_made}
 use Rattle.identity_hash.proofs.hashes.hash_displaced.Goals as goal
 use Rattle.identity_hash.proofs.hashes.hash_displaced.Goals.{After-hash_of_word-hash}
 

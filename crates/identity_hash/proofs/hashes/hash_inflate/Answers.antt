@@ -3,7 +3,7 @@ use Rattle.core_world.specs.Threads.ThreadView.{Local}
 use Rattle.core_world.specs.Trees.HashSteps.{hash_inflate_steps, hash_inflated, hash_monitor_steps}
 use Rattle.core_world.specs.Trees.MonitorSteps.{inflate_steps}
 use Rattle.heap_table.specs.Parts.{HasMadeSteps}
-use Rattle.object_monitor.proofs.StepsLeft.{AreLeft, all_left, part_of, after_part, last_made}
+use Rattle.heap_table.proofs.StepsLeft.{AreLeft, all_left, part_of, after_part, last_made}
 use Rattle.identity_hash.proofs.hashes.hash_inflate.Goals as goal
 use Rattle.identity_hash.proofs.hashes.hash_inflate.Goals.{In-Done}
 

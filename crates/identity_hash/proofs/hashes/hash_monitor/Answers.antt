@@ -2,7 +2,7 @@ use Rattle.std.proofs.Common.{◌==◌, if◌then◌else◌, refl, sym, ap, ◌�
 use Rattle.core_world.specs.declared.word_id.WordId.TheVariants.{Header}
 use Rattle.core_world.specs.Trees.HashSteps.{draw_steps, hash_monitor_steps}
 use Rattle.core_world.specs.Trees.Plans.{done_with}
-use Rattle.object_monitor.proofs.StepsLeft.{AreLeft, all_left, can_make, step_made, left_as, left_then, left_else, all_made}
+use Rattle.heap_table.proofs.StepsLeft.{AreLeft, all_left, can_make, step_made, left_as, left_then, left_else, all_made}
 use Rattle.identity_hash.proofs.Finding.{room_left}
 use Rattle.identity_hash.proofs.hashes.hash_monitor.Goals as goal
 use Rattle.identity_hash.proofs.hashes.hash_monitor.Goals.{After-hash_of_word-hash}

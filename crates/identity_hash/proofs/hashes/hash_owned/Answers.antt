@@ -3,7 +3,7 @@ use Rattle.core_world.specs.Threads.ThreadView.{local_of}
 use Rattle.core_world.specs.Trees.HashSteps.{hash_displaced_steps, hash_unless, hash_inflate_steps}
 use Rattle.identity_hash.specs.inner.Parts.{hash_owned_steps}
 use Rattle.heap_table.specs.Parts.{HasMadeSteps}
-use Rattle.object_monitor.proofs.StepsLeft.{AreLeft, all_left, left_as, part_of, after_part, last_made}
+use Rattle.heap_table.proofs.StepsLeft.{AreLeft, all_left, left_as, part_of, after_part, last_made}
 use Rattle.identity_hash.proofs.Finding.{after_kept, after_room}
 use Rattle.identity_hash.proofs.hashes.hash_owned.Goals as goal
 use Rattle.identity_hash.proofs.hashes.hash_owned.Goals.{In-None}

@@ -7,7 +7,7 @@ use Rattle.core_world.specs.Threads.ThreadView.{local_of}
 use Rattle.core_world.specs.Trees.HashSteps.{hash_inflate_steps, hash_mark_steps, hash_header_steps}
 use Rattle.core_world.specs.Words.Forms.{hash_in, hash_form}
 use Rattle.identity_hash.specs.inner.Parts.{hash_owned_steps}
-use Rattle.object_monitor.proofs.StepsLeft.{AreLeft, all_left, can_make, step_made, left_as, left_then, left_else, all_made, never, thread_stays}
+use Rattle.heap_table.proofs.StepsLeft.{AreLeft, all_left, can_make, step_made, left_as, left_then, left_else, all_made, never, thread_stays}
 use Rattle.identity_hash.proofs.Finding.{room_left, same_local, same_kept}
 use Rattle.identity_hash.proofs.Marks.{never_hashed}
 use Rattle.identity_hash.proofs.hashes.header_hash.Goals as goal

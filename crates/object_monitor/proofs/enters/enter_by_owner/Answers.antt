@@ -2,7 +2,7 @@ use Rattle.std.proofs.Common.{◌==◌, Some, ap, ◌∙◌, eq-eqb}
 use Rattle.mark_word.specs.declared.owner.OwnerForm.{OwnerForm}
 use Rattle.core_world.specs.Threads.ThreadView.{local_of}
 use Rattle.core_world.specs.Trees.MonitorSteps.{owned_steps, monitor_again_steps, monitor_own_steps, monitor_enter_at}
-use Rattle.stack_lock.proofs.StepsLeft.{all_left, left_as, left_then}
+use Rattle.heap_table.proofs.StepsLeft.{all_left, left_as, left_then}
 use Rattle.object_monitor.proofs.enters.enter_by_owner.Goals as goal
 
 pub returns-then-thread : goal.returns-then-thread

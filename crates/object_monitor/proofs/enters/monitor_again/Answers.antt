@@ -3,7 +3,7 @@ use Rattle.plain_monitor.specs.declared.entry.Path.TheVariants.{MonitorAgain}
 use Rattle.core_world.specs.declared.stage.Stage.TheVariants.{RecursionsRaised}
 use Rattle.core_world.specs.Threads.ThreadView.{local_of}
 use Rattle.core_world.specs.Trees.MonitorSteps.{monitor_again_steps, record_steps}
-use Rattle.stack_lock.proofs.StepsLeft.{AreLeft, all_left, can_make, step_made, left_as}
+use Rattle.heap_table.proofs.StepsLeft.{AreLeft, all_left, can_make, step_made, left_as}
 use Rattle.object_monitor.proofs.RecursionRoom.{recursion_room}
 use Rattle.object_monitor.proofs.enters.monitor_again.Goals as goal
 use Rattle.object_monitor.proofs.enters.monitor_again.Goals.{After-store}

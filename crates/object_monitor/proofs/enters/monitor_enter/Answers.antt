@@ -7,7 +7,7 @@ use Rattle.core_world.specs.declared.stage.Stage.TheVariants.{MonitorAcquired}
 use Rattle.core_world.specs.Threads.ThreadView.{local_of}
 use Rattle.core_world.specs.Trees.MonitorSteps.{grab_plan, monitor_enter_at, monitor_enter_steps}
 use Rattle.heap_table.specs.StepPlans.{swap_plan}
-use Rattle.stack_lock.proofs.StepsLeft.{AreLeft, all_left, can_make, step_made, left_as, never, alike_after}
+use Rattle.heap_table.proofs.StepsLeft.{AreLeft, all_left, can_make, step_made, left_as, never, alike_after}
 use Rattle.object_monitor.proofs.enters.monitor_enter.Goals as goal
 use Rattle.object_monitor.proofs.enters.monitor_enter.Goals.{After-encode_owner-word, After-exchange-found}
 

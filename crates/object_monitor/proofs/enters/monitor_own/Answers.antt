@@ -8,7 +8,7 @@ use Rattle.core_world.specs.Threads.ThreadView.{local_of}
 use Rattle.core_world.specs.Trees.MonitorSteps.{monitor_own_steps, record_steps}
 use Rattle.core_world.specs.Trees.StepTree.{after_answer}
 use Rattle.heap_table.specs.StepPlans.{store_plan}
-use Rattle.stack_lock.proofs.StepsLeft.{AreLeft, all_left, can_make, step_made, left_as}
+use Rattle.heap_table.proofs.StepsLeft.{AreLeft, all_left, can_make, step_made, left_as}
 use Rattle.object_monitor.proofs.enters.monitor_own.Goals as goal
 use Rattle.object_monitor.proofs.enters.monitor_own.Goals.{After-store, After-store-2}
 

@@ -3,7 +3,7 @@ use Rattle.core_world.specs.declared.word_id.WordId.TheVariants.{Waiting}
 use Rattle.core_world.specs.declared.stage.Stage.TheVariants.{Settled}
 use Rattle.heap_table.specs.StepPlans.{store_plan}
 use Rattle.heap_table.proofs.Ruled.{few_objects}
-use Rattle.stack_lock.proofs.StepsLeft.{all_left, can_make, step_made, all_made}
+use Rattle.heap_table.proofs.StepsLeft.{all_left, can_make, step_made, all_made}
 use Rattle.object_monitor.proofs.enters.pend_on_owner.Goals as goal
 
 pub encode_wait-entering-requires : goal.encode_wait-entering-requires

@@ -6,7 +6,7 @@ use Rattle.core_world.specs.Trees.MonitorSteps.{record_steps}
 use Rattle.core_world.specs.Trees.Plans.{done_with}
 use Rattle.core_world.specs.Trees.StepTree.{◌>>=◌}
 use Rattle.heap_table.specs.StepPlans.{store_plan}
-use Rattle.stack_lock.proofs.StepsLeft.{AreLeft, all_left, can_make, step_made, left_as, part_of, last_made}
+use Rattle.heap_table.proofs.StepsLeft.{AreLeft, all_left, can_make, step_made, left_as, part_of, last_made}
 use Rattle.object_monitor.proofs.enters.push_record.Goals as goal
 use Rattle.object_monitor.proofs.enters.push_record.Goals.{After-store}
 

@@ -7,7 +7,7 @@ use Rattle.core_world.specs.Trees.Plans.{top_place}
 use Rattle.core_world.specs.Trees.StepTree.{◌>>=◌}
 use Rattle.heap_table.proofs.Ruled.{few_objects}
 use Rattle.object_monitor.specs.inner.ExitParts.{counted_exit}
-use Rattle.stack_lock.proofs.StepsLeft.{AreLeft, all_left, can_make, step_made, left_as, never, part_of}
+use Rattle.heap_table.proofs.StepsLeft.{AreLeft, all_left, can_make, step_made, left_as, never, part_of}
 use Rattle.object_monitor.proofs.OwningSteps.{owning_left}
 use Rattle.object_monitor.proofs.exits.monitor_exit.Goals as goal
 use Rattle.object_monitor.proofs.exits.monitor_exit.Goals.{After-load-owner, After-own}

@@ -7,7 +7,7 @@ use Rattle.core_world.specs.declared.stage.Stage.TheVariants.{OwnerConverted}
 use Rattle.core_world.specs.Threads.ThreadView.{local_of}
 use Rattle.core_world.specs.Trees.MonitorSteps.{own_steps}
 use Rattle.heap_table.specs.StepPlans.{store_plan}
-use Rattle.stack_lock.proofs.StepsLeft.{AreLeft, all_left, can_make, step_made, left_as, never}
+use Rattle.heap_table.proofs.StepsLeft.{AreLeft, all_left, can_make, step_made, left_as, never}
 use Rattle.object_monitor.proofs.exits.own.Goals as goal
 use Rattle.object_monitor.proofs.exits.own.Goals.{In-ByRecord}
 

@@ -6,7 +6,7 @@ use Rattle.core_world.specs.Threads.ThreadView.{local_of}
 use Rattle.core_world.specs.Trees.MonitorSteps.{release_steps}
 use Rattle.heap_table.specs.StepPlans.{log_store_plan}
 use Rattle.stack_lock.specs.Parts.{clear_at}
-use Rattle.stack_lock.proofs.StepsLeft.{AreLeft, all_left, can_make, step_made, left_as, thread_stays}
+use Rattle.heap_table.proofs.StepsLeft.{AreLeft, all_left, can_make, step_made, left_as, thread_stays}
 use Rattle.object_monitor.proofs.exits.release.Goals as goal
 use Rattle.object_monitor.proofs.exits.release.Goals.{After-log_store}
 

@@ -3,7 +3,7 @@ use Rattle.mark_word.specs.declared.mark.MarkForm.{MarkForm}
 use Rattle.mark_word.specs.Mark.{read_mark}
 use Rattle.core_world.specs.Threads.ThreadView.{ThreadView}
 use Rattle.core_world.specs.Trees.MonitorSteps.{inflate_at, inflate_steps}
-use Rattle.stack_lock.proofs.StepsLeft.{AreLeft, all_left, can_make, step_made, left_as, all_made}
+use Rattle.heap_table.proofs.StepsLeft.{AreLeft, all_left, can_make, step_made, left_as, all_made}
 use Rattle.object_monitor.proofs.Inflated.{local_stays}
 use Rattle.object_monitor.proofs.Inflating.{is_made}
 use Rattle.object_monitor.proofs.inflates.inflate.Goals as goal

@@ -2,7 +2,7 @@ use Rattle.std.proofs.Common.{◌≡◌, ℕ, refl, sym, ap, ◌∙◌, Option, 
 use Rattle.mark_word.specs.Mark.{read_mark}
 use Rattle.core_world.specs.Threads.ThreadView.{ThreadView}
 use Rattle.core_world.specs.Trees.MonitorSteps.{inflate_with, inflate_by}
-use Rattle.stack_lock.proofs.StepsLeft.{AreLeft, all_left, can_make, step_made, left_as}
+use Rattle.heap_table.proofs.StepsLeft.{AreLeft, all_left, can_make, step_made, left_as}
 use Rattle.object_monitor.proofs.Inflating.{fits, kept_in}
 use Rattle.object_monitor.proofs.inflates.inflate_by.Goals as goal
 use Rattle.object_monitor.proofs.inflates.inflate_by.Goals.{In-None, After-fetch-claimed}

@@ -5,7 +5,7 @@ use Rattle.core_world.specs.Trees.MonitorSteps.{inflate_locked, prepare_steps}
 use Rattle.core_world.specs.Trees.Plans.{pending_for}
 use Rattle.core_world.specs.Trees.StepTree.{◌>>=◌}
 use Rattle.heap_table.proofs.Ruled.{there}
-use Rattle.stack_lock.proofs.StepsLeft.{AreLeft, all_left, can_make, step_made, left_as, left_then, left_else, all_made, part_of, after_part}
+use Rattle.heap_table.proofs.StepsLeft.{AreLeft, all_left, can_make, step_made, left_as, left_then, left_else, all_made, part_of, after_part}
 use Rattle.object_monitor.proofs.Inflating.{limits, locked_on, locked_named, fits_mark, names}
 use Rattle.object_monitor.proofs.inflates.inflate_locked.Goals as goal
 use Rattle.object_monitor.proofs.inflates.inflate_locked.Goals.{After-exchange-found, After-encode_owner-owner, After-prepare}

@@ -2,7 +2,7 @@ use Rattle.std.proofs.Common.{refl, sym, eq-eqb, ne_eqb}
 use Rattle.core_world.specs.declared.stage.Stage.TheVariants.{Settled}
 use Rattle.core_world.specs.Trees.MonitorSteps.{inflate_neutral, prepare_steps}
 use Rattle.core_world.specs.Trees.StepTree.{◌>>=◌}
-use Rattle.stack_lock.proofs.StepsLeft.{AreLeft, all_left, can_make, step_made, left_as, left_then, left_else, all_made, part_of, after_part}
+use Rattle.heap_table.proofs.StepsLeft.{AreLeft, all_left, can_make, step_made, left_as, left_then, left_else, all_made, part_of, after_part}
 use Rattle.object_monitor.proofs.Inflating.{neutral_named, fits_mark, names_neutral}
 use Rattle.object_monitor.proofs.inflates.inflate_neutral.Goals as goal
 use Rattle.object_monitor.proofs.inflates.inflate_neutral.Goals.{After-encode_owner-owner, After-prepare}

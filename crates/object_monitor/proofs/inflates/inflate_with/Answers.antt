@@ -2,7 +2,7 @@ use Rattle.std.proofs.Common.{◌≡◌, refl, sym, ap, ◌∙◌, Option, Some}
 use Rattle.mark_word.specs.declared.mark.MarkForm.{MarkForm}
 use Rattle.mark_word.specs.Mark.{read_mark}
 use Rattle.core_world.specs.Trees.MonitorSteps.{inflate_with}
-use Rattle.stack_lock.proofs.StepsLeft.{AreLeft, all_left, left_as, never}
+use Rattle.heap_table.proofs.StepsLeft.{AreLeft, all_left, left_as, never}
 use Rattle.object_monitor.proofs.Inflating.{never_with}
 use Rattle.object_monitor.proofs.inflates.inflate_with.Goals as goal
 use Rattle.object_monitor.proofs.inflates.inflate_with.Goals.{After-mark_of_word}

@@ -1,7 +1,7 @@
 use Rattle.std.proofs.Common.{refl}
 use Rattle.core_world.specs.Trees.MonitorSteps.{prepare_steps}
 use Rattle.core_world.specs.Trees.StepTree.{after_answer}
-use Rattle.stack_lock.proofs.StepsLeft.{AreLeft, all_left, can_make, step_made, all_made}
+use Rattle.heap_table.proofs.StepsLeft.{AreLeft, all_left, can_make, step_made, all_made}
 use Rattle.object_monitor.proofs.inflates.prepare.Goals as goal
 use Rattle.object_monitor.proofs.inflates.prepare.Goals.{After-store-2}
 

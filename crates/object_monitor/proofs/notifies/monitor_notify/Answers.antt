@@ -4,7 +4,7 @@ use Rattle.core_world.specs.Trees.WaitSteps.{waiters, by_age, notify_first, moni
 use Rattle.core_world.specs.Words.Shape.{Shape}
 use Rattle.heap_table.proofs.Aside.{room_aside}
 use Rattle.object_monitor.specs.inner.NotifyParts.{first_of, notify_one}
-use Rattle.stack_lock.proofs.StepsLeft.{AreLeft, all_left, left_as, part_of}
+use Rattle.heap_table.proofs.StepsLeft.{AreLeft, all_left, left_as, part_of}
 use Rattle.object_monitor.proofs.Looking.{looks_aside, look_left}
 use Rattle.object_monitor.proofs.Waking.{first_notified, waiting}
 use Rattle.object_monitor.proofs.notifies.monitor_notify.Goals as goal

@@ -5,7 +5,7 @@ use Rattle.core_world.specs.Trees.WaitSteps.{waiters, by_age, notify_listed, mon
 use Rattle.core_world.specs.Words.Shape.{Shape}
 use Rattle.heap_table.proofs.Aside.{room_aside}
 use Rattle.object_monitor.specs.inner.NotifyParts.{first_of}
-use Rattle.stack_lock.proofs.StepsLeft.{AreLeft, all_left, left_as, part_of, last_made}
+use Rattle.heap_table.proofs.StepsLeft.{AreLeft, all_left, left_as, part_of, last_made}
 use Rattle.object_monitor.proofs.Looking.{looks_aside, look_left}
 use Rattle.object_monitor.proofs.Waking.{some_listed, none_listed, waiting}
 use Rattle.object_monitor.proofs.notifies.monitor_notify_all.Goals as goal

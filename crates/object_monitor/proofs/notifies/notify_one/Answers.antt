@@ -6,7 +6,7 @@ use Rattle.core_world.specs.Threads.ThreadView.{local_of}
 use Rattle.core_world.specs.Trees.StepTree.{done}
 use Rattle.heap_table.specs.StepPlans.{log_store_plan}
 use Rattle.object_monitor.specs.inner.NotifyParts.{notify_one}
-use Rattle.stack_lock.proofs.StepsLeft.{AreLeft, all_left, can_make, step_made, left_as, all_made, part_of, last_made}
+use Rattle.heap_table.proofs.StepsLeft.{AreLeft, all_left, can_make, step_made, left_as, all_made, part_of, last_made}
 use Rattle.object_monitor.proofs.notifies.notify_one.Goals as goal
 use Rattle.object_monitor.proofs.notifies.notify_one.Goals.{In-Some, In-None}
 

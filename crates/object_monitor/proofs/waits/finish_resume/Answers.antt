@@ -3,7 +3,7 @@ use Rattle.core_world.specs.declared.word_id.WordId.TheVariants.{Waiting}
 use Rattle.core_world.specs.declared.stage.Stage.TheVariants.{Resumes}
 use Rattle.core_world.specs.Threads.ThreadView.{ThreadView}
 use Rattle.heap_table.specs.StepPlans.{store_plan}
-use Rattle.stack_lock.proofs.StepsLeft.{all_left, can_make, step_made, thread_stays}
+use Rattle.heap_table.proofs.StepsLeft.{all_left, can_make, step_made, thread_stays}
 use Rattle.object_monitor.proofs.waits.finish_resume.Goals as goal
 
 pub store-requires : goal.store-requires

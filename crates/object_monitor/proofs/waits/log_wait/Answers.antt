@@ -8,7 +8,7 @@ use Rattle.core_world.specs.Trees.LockSteps.{raise_stamp_plan}
 use Rattle.heap_table.specs.StepPlans.{log_store_within_plan}
 use Rattle.heap_table.proofs.Ruled.{few_objects}
 use Rattle.heap_table.proofs.Stamps.{low}
-use Rattle.stack_lock.proofs.StepsLeft.{all_left, can_make, step_made, thread_stays, room_after}
+use Rattle.heap_table.proofs.StepsLeft.{all_left, can_make, step_made, thread_stays, room_after}
 use Rattle.object_monitor.proofs.waits.log_wait.Goals as goal
 
 pub overflow_add-stamp : goal.overflow_add-stamp

@@ -4,7 +4,7 @@ use Rattle.mark_word.specs.Wait.{read_wait}
 use Rattle.core_world.specs.declared.word_id.WordId.TheVariants.{Waiting}
 use Rattle.core_world.specs.Trees.Plans.{load}
 use Rattle.core_world.specs.Trees.WaitSteps.{resume_at, monitor_resume_steps}
-use Rattle.stack_lock.proofs.StepsLeft.{AreLeft, all_left, can_make, step_made, left_as, all_made, never, thread_stays}
+use Rattle.heap_table.proofs.StepsLeft.{AreLeft, all_left, can_make, step_made, left_as, all_made, never, thread_stays}
 use Rattle.object_monitor.proofs.Resuming.{never_resumed}
 use Rattle.object_monitor.proofs.waits.monitor_resume.Goals as goal
 use Rattle.object_monitor.proofs.waits.monitor_resume.Goals.{After-load-word}

@@ -6,7 +6,7 @@ use Rattle.core_world.specs.Trees.MonitorSteps.{own_steps}
 use Rattle.core_world.specs.Trees.StepTree.{◌>>=◌}
 use Rattle.core_world.specs.Trees.WaitSteps.{monitor_wait_steps}
 use Rattle.object_monitor.specs.inner.WaitParts.{owned_wait}
-use Rattle.stack_lock.proofs.StepsLeft.{AreLeft, all_left, can_make, step_made, left_as, never, part_of}
+use Rattle.heap_table.proofs.StepsLeft.{AreLeft, all_left, can_make, step_made, left_as, never, part_of}
 use Rattle.object_monitor.proofs.OwningSteps.{owning_left}
 use Rattle.object_monitor.proofs.waits.monitor_wait.Goals as goal
 use Rattle.object_monitor.proofs.waits.monitor_wait.Goals.{After-load-owner, After-own}

@@ -2,7 +2,7 @@ use Rattle.std.proofs.Common.{◌+◌, refl}
 use Rattle.core_world.specs.declared.word_id.WordId.TheVariants.{Length}
 use Rattle.core_world.specs.declared.stage.Stage.TheVariants.{Settled}
 use Rattle.heap_table.specs.StepPlans.{log_store_plan}
-use Rattle.stack_lock.proofs.StepsLeft.{all_left, can_make}
+use Rattle.heap_table.proofs.StepsLeft.{all_left, can_make}
 use Rattle.object_monitor.proofs.waits.publish.Goals as goal
 
 pub log_store-requires : goal.log_store-requires

@@ -2,7 +2,7 @@ use Rattle.std.proofs.Common.{refl, ap}
 use Rattle.core_world.specs.declared.word_id.WordId.TheVariants.{Owner}
 use Rattle.core_world.specs.declared.stage.Stage.TheVariants.{Settled}
 use Rattle.heap_table.specs.StepPlans.{store_plan}
-use Rattle.stack_lock.proofs.StepsLeft.{all_left, can_make, step_made}
+use Rattle.heap_table.proofs.StepsLeft.{all_left, can_make, step_made}
 use Rattle.object_monitor.proofs.waits.quit.Goals as goal
 
 pub store-requires : goal.store-requires

@@ -1,4 +1,4 @@
-use Rattle.stack_lock.proofs.StepsLeft.{all_left, left_as, all_made}
+use Rattle.heap_table.proofs.StepsLeft.{all_left, left_as, all_made}
 use Rattle.object_monitor.proofs.Resuming.{owned}
 use Rattle.object_monitor.proofs.waits.resume_by.Goals as goal
 

@@ -3,7 +3,7 @@ use Rattle.mark_word.specs.declared.mark.MarkForm.{MarkForm}
 use Rattle.mark_word.specs.Mark.{read_mark}
 use Rattle.core_world.specs.Trees.WaitSteps.{resume_mark_at}
 use Rattle.object_monitor.specs.inner.WaitParts.{marked_resume}
-use Rattle.stack_lock.proofs.StepsLeft.{AreLeft, all_left, can_make, step_made, left_as, never, thread_stays}
+use Rattle.heap_table.proofs.StepsLeft.{AreLeft, all_left, can_make, step_made, left_as, never, thread_stays}
 use Rattle.object_monitor.proofs.Resuming.{never_marked}
 use Rattle.object_monitor.proofs.waits.resume_mark.Goals as goal
 use Rattle.object_monitor.proofs.waits.resume_mark.Goals.{After-load-mark}

@@ -5,7 +5,7 @@ use Rattle.core_world.specs.declared.word_id.WordId.TheVariants.{Owner}
 use Rattle.core_world.specs.declared.stage.Stage.TheVariants.{Resumes}
 use Rattle.core_world.specs.Trees.WaitSteps.{resume_owner_steps, resume_owner_at}
 use Rattle.heap_table.specs.StepPlans.{swap_plan}
-use Rattle.stack_lock.proofs.StepsLeft.{AreLeft, all_left, can_make, step_made, left_as, thread_stays}
+use Rattle.heap_table.proofs.StepsLeft.{AreLeft, all_left, can_make, step_made, left_as, thread_stays}
 use Rattle.object_monitor.proofs.waits.resume_owner.Goals as goal
 use Rattle.object_monitor.proofs.waits.resume_owner.Goals.{In-Some}
 

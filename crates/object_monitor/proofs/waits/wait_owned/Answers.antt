@@ -2,7 +2,7 @@ use Rattle.std.proofs.Common.{refl, sym, ap}
 use Rattle.core_world.specs.Threads.ThreadView.{local_of}
 use Rattle.core_world.specs.Trees.StepTree.{done, ◌>>=◌}
 use Rattle.object_monitor.specs.inner.WaitParts.{owned_wait, stamped_wait, quit_steps}
-use Rattle.stack_lock.proofs.StepsLeft.{AreLeft, all_left, can_make, step_made, left_as, part_of, after_part}
+use Rattle.heap_table.proofs.StepsLeft.{AreLeft, all_left, can_make, step_made, left_as, part_of, after_part}
 use Rattle.object_monitor.proofs.waits.wait_owned.Goals as goal
 use Rattle.object_monitor.proofs.waits.wait_owned.Goals.{After-load_and_keep-recursions}
 

@@ -4,7 +4,7 @@ use Rattle.core_world.specs.declared.stage.Stage.TheVariants.{Enters}
 use Rattle.core_world.specs.Words.Forms.{is_entering}
 use Rattle.heap_table.specs.StepPlans.{store_plan}
 use Rattle.stack_lock.specs.inner.Parts.{entered_by, ready_steps}
-use Rattle.stack_lock.proofs.StepsLeft.{AreLeft, all_left, can_make, step_made, left_then}
+use Rattle.heap_table.proofs.StepsLeft.{AreLeft, all_left, can_make, step_made, left_then}
 use Rattle.stack_lock.proofs.enters.entered.Goals as goal
 use Rattle.stack_lock.proofs.enters.entered.Goals.{After-encode_wait}
 

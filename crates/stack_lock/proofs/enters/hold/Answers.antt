@@ -9,7 +9,7 @@ use Rattle.core_world.specs.Threads.ThreadView.{ThreadView, local_of}
 use Rattle.stack_lock.specs.inner.Parts.{entered_by}
 use Rattle.stack_lock.proofs.Room.{room}
 use Rattle.heap_table.proofs.Ruled.{there, few_objects}
-use Rattle.stack_lock.proofs.StepsLeft.{AreLeft, all_left, can_make, step_made, left_as}
+use Rattle.heap_table.proofs.StepsLeft.{AreLeft, all_left, can_make, step_made, left_as}
 use Rattle.stack_lock.proofs.enters.hold.Goals as goal
 use Rattle.stack_lock.proofs.enters.hold.Goals.{After-encode_hold-word, After-store_hold}
 

@@ -7,7 +7,7 @@ use Rattle.core_world.specs.Trees.LockSteps.{stack_again_steps, hold_steps}
 use Rattle.core_world.specs.Trees.Plans.{done_with}
 use Rattle.core_world.specs.Trees.StepTree.{◌>>=◌}
 use Rattle.heap_table.specs.StepPlans.{store_plan}
-use Rattle.stack_lock.proofs.StepsLeft.{AreLeft, all_left, can_make, step_made, left_as, part_of, last_made}
+use Rattle.heap_table.proofs.StepsLeft.{AreLeft, all_left, can_make, step_made, left_as, part_of, last_made}
 use Rattle.stack_lock.proofs.enters.stack_again.Goals as goal
 use Rattle.stack_lock.proofs.enters.stack_again.Goals.{After-store}
 

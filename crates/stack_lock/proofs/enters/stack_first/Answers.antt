@@ -11,8 +11,8 @@ use Rattle.core_world.specs.Trees.Plans.{free_place, done_with, pending_for}
 use Rattle.core_world.specs.Trees.StepTree.{◌>>=◌, after_answer}
 use Rattle.heap_table.specs.StepPlans.{store_plan, swap_plan}
 use Rattle.heap_table.proofs.Ruled.{there}
-use Rattle.stack_lock.proofs.StepsLeft.{AreLeft, all_left, can_make, step_made, left_as, left_then, left_else, all_made, part_of, last_made}
-use Rattle.stack_lock.proofs.StepsLeft.{alike_after, room_after}
+use Rattle.heap_table.proofs.StepsLeft.{AreLeft, all_left, can_make, step_made, left_as, left_then, left_else, all_made, part_of, last_made}
+use Rattle.heap_table.proofs.StepsLeft.{alike_after, room_after}
 use Rattle.stack_lock.proofs.enters.stack_first.Goals as goal
 use Rattle.stack_lock.proofs.enters.stack_first.Goals.{After-store, After-encode-locked, After-exchange-found}
 

@@ -1,7 +1,7 @@
 use Rattle.std.proofs.Common.{None, refl, ap}
 use Rattle.core_world.specs.Trees.LockSteps.{clear_plan}
 use Rattle.core_world.specs.Trees.Plans.{CallContext}
-use Rattle.stack_lock.proofs.StepsLeft.{all_left, can_make, step_made, all_made}
+use Rattle.heap_table.proofs.StepsLeft.{all_left, can_make, step_made, all_made}
 use Rattle.stack_lock.proofs.exits.clear.Goals as goal
 
 pub store_hold-requires : goal.store_hold-requires

@@ -1,6 +1,6 @@
 use Rattle.std.proofs.Common.{refl}
 use Rattle.core_world.specs.Trees.LockSteps.{leave_plan}
-use Rattle.stack_lock.proofs.StepsLeft.{all_left, can_make, step_made, all_made}
+use Rattle.heap_table.proofs.StepsLeft.{all_left, can_make, step_made, all_made}
 use Rattle.stack_lock.proofs.exits.leave.Goals as goal
 
 pub log_store-requires : goal.log_store-requires

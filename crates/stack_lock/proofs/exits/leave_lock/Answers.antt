@@ -5,7 +5,7 @@ use Rattle.core_world.specs.Threads.ThreadView.{local_of}
 use Rattle.core_world.specs.Trees.LockSteps.{stack_exit_at}
 use Rattle.stack_lock.specs.inner.Parts.{marked_exit}
 use Rattle.stack_lock.proofs.Never.{never_left}
-use Rattle.stack_lock.proofs.StepsLeft.{AreLeft, all_left, can_make, step_made, left_as, all_made, never}
+use Rattle.heap_table.proofs.StepsLeft.{AreLeft, all_left, can_make, step_made, left_as, all_made, never}
 use Rattle.stack_lock.proofs.exits.leave_lock.Goals as goal
 use Rattle.stack_lock.proofs.exits.leave_lock.Goals.{After-load-mark}
 

@@ -7,7 +7,7 @@ use Rattle.core_world.specs.Trees.Plans.{load}
 use Rattle.core_world.specs.Trees.StepTree.{done, ◌>>=◌}
 use Rattle.stack_lock.specs.Parts.{leave_at}
 use Rattle.stack_lock.specs.inner.Parts.{marked_exit}
-use Rattle.stack_lock.proofs.StepsLeft.{AreLeft, all_left, can_make, step_made, left_as, left_then, left_else, part_of, last_made, thread_stays}
+use Rattle.heap_table.proofs.StepsLeft.{AreLeft, all_left, can_make, step_made, left_as, left_then, left_else, part_of, last_made, thread_stays}
 use Rattle.stack_lock.proofs.exits.leave_record.Goals as goal
 use Rattle.stack_lock.proofs.exits.leave_record.Goals.{After-load-header}
 

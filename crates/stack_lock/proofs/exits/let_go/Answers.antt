@@ -5,7 +5,7 @@ use Rattle.core_world.specs.Threads.ThreadView.{local_of}
 use Rattle.core_world.specs.Trees.LockSteps.{let_go_plan, stack_exit_by}
 use Rattle.core_world.specs.Trees.StepTree.{done, ◌>>=◌}
 use Rattle.stack_lock.specs.Parts.{clear_at}
-use Rattle.stack_lock.proofs.StepsLeft.{AreLeft, all_left, can_make, step_made, left_as, left_then, left_else, all_made, part_of, last_made, thread_stays}
+use Rattle.heap_table.proofs.StepsLeft.{AreLeft, all_left, can_make, step_made, left_as, left_then, left_else, all_made, part_of, last_made, thread_stays}
 use Rattle.stack_lock.proofs.exits.let_go.Goals as goal
 use Rattle.stack_lock.proofs.exits.let_go.Goals.{After-log_exchange-found}
 

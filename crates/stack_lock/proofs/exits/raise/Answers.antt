@@ -4,7 +4,7 @@ use Rattle.core_world.specs.Trees.LockSteps.{raise_stamp_plan, raise_steps}
 use Rattle.core_world.specs.Trees.Plans.{next_stamp}
 use Rattle.core_world.specs.Trees.StepTree.{done, step}
 use Rattle.heap_table.proofs.Ruled.{stamp_room}
-use Rattle.stack_lock.proofs.StepsLeft.{AreLeft, all_left, can_make, left_then, left_else, all_made}
+use Rattle.heap_table.proofs.StepsLeft.{AreLeft, all_left, can_make, left_then, left_else, all_made}
 use Rattle.stack_lock.proofs.exits.raise.Goals as goal
 use Rattle.stack_lock.proofs.exits.raise.Goals.{After-last_stamp-stamp}
 

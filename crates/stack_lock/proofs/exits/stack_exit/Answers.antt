@@ -3,7 +3,7 @@ use Rattle.core_world.specs.Threads.ThreadView.{Local, local_of}
 use Rattle.core_world.specs.Trees.LockSteps.{stack_exit_record, stack_exit_steps}
 use Rattle.core_world.specs.Trees.Plans.{top_place}
 use Rattle.heap_table.proofs.Ruled.{few_objects}
-use Rattle.stack_lock.proofs.StepsLeft.{AreLeft, all_left, left_as, part_of, choice_left}
+use Rattle.heap_table.proofs.StepsLeft.{AreLeft, all_left, left_as, part_of, choice_left}
 use Rattle.stack_lock.proofs.exits.stack_exit.Goals as goal
 use Rattle.stack_lock.proofs.exits.stack_exit.Goals.{After-raise}
 
