@@ -26,13 +26,15 @@ use Rattle.core_world.specs.Locks.{OnRecord, inflations, lock, lock_form, displa
 use Rattle.core_world.specs.Trees.Operations.{value_found}
 use Rattle.core_world.specs.Trees.Plans.{CallContext, next_stamp}
 use Rattle.core_world.specs.Words.Shape.{Shape}
+use Rattle.core_world.specs.declared.plan.StepPlan.{StepPlan}
+use Rattle.core_world.specs.Threads.Counts.{CountedVerdict}
 use Rattle.core_world.specs.Threads.Stages.{path_into}
-use Rattle.core_world.specs.Steps.{world_after, known_after, is_taking, stamp_by}
+use Rattle.core_world.specs.Steps.{world_after, known_after, is_taking, stamp_by, counts_after, log_after}
 use Rattle.core_world.specs.Valid.{Fits}
 use Rattle.core_world.specs.World.{World}
 use Rattle.core_locks.specs.HashLaws.{MayHash, MayFind, MayFindInRecord, MayFindInMonitor, IsItsNext, MayDrawInMark, MayDrawInMonitor}
 use Rattle.core_locks.specs.JournalLaws.{MayGet, MayLogResume, MayPut, MayPublish, MayTell, MayWait}
-use Rattle.core_locks.specs.Knowing.{Logs, GoesOn}
+use Rattle.core_locks.specs.Knowing.{Logs, GoesOn, WorksFor}
 use Rattle.core_locks.specs.LockLaws.{MayLeave, MayLetGo}
 use Rattle.core_locks.specs.MonitorLaws.{MayFree}
 use Rattle.core_locks.specs.WakeLaws.{SawOldest, MayNotify, MayNotifyAll}
@@ -57,73 +59,65 @@ use Rattle.core_world.specs.Threads.ThreadView.{draw_of}
 use Rattle.plain_monitor.specs.Monitor.{PlainMonitor}
 use Rattle.mark_word.proofs.ReadingMarks.{read_mark-mark_of}
 use Rattle.core_law.specs.BiasLaw.{BiasLawHolds}
-use Rattle.bias_law.specs.Steps.{LeavesBiases, SawNone, LogsBeside, KeepsBiases}
+use Rattle.bias_law.specs.Steps.{LeavesBiases, HasNone, SawNone, LogsBeside, KeepsBiases}
 use Rattle.bias_law.proofs.Beside.{beside_keeps, missed_keeps}
 use Rattle.bias_law.proofs.Leaning.{exchange_leaves, inflated_unbiased}
 use Rattle.bias_law.proofs.Logged.{entry_logged, unbiased_still, none_by_sight}
 use Rattle.bias_law.proofs.TakenLogs.{taken_logged}
 
+-- what an entry and a plan that logs it say by themselves: no Enter and no Resume, no object made, the thread's next stamp, nothing counted, and the
+-- thread comes to no path
+record LogsPlainly (w : World) (t : ℕ) (p : StepPlan) (e : Entry) : Type 0 where
+  other : is_taking e ≡ false
+  makes_none : creates e ≡ None
+  log : log_after p.note (w.words p.at) (w.known t).log ≡ (w.known t).log ++ record { stamp = last_stamp (w.known t).log + 1; entry = e } ∷ []
+  own : (counts : List CountedVerdict) → counts_after p.own counts ≡ counts
+  left : (o : ℕ) → path_into p.stage o ≡ None
+
+-- the law after such a step of a running thread that works for the entry and is on no path, where the entry ends no bias and the store none either
+logs_plainly : (w : World) (P : List PlainObject) (t : ℕ) (p : StepPlan) (e : Entry) → LogsPlainly w t p e → (w.known t).running ≡ true
+    → WorksFor (w.known t) e → ((o : ℕ) → path_into (w.known t).stage o ≡ None) → HasNone w e → LeavesBiases w p.at (word_after p.act (w.words p.at))
+    → Logs w P t p e → Fits w P → BiasLawHolds w → BiasLawHolds (world_after p t w)
+logs_plainly w P t p e a runs operation calm ended leaves l = taken_logged w P t p e (record {
+  runs = runs;
+  other = a.other;
+  makes_none = a.makes_none;
+  log = a.log;
+  own = a.own;
+  operation = operation;
+  calm = calm;
+  left = a.left;
+  ended = ended;
+  leaves = leaves;
+  now = l.now;
+  taken = l.taken;
+})
+
 -- SLOTS
 pub gets : (e : CallContext) (o slot : ℕ) → KeepsBiases (λ w t. MayGet w.shape (w.known t) e o slot) (λ w t. get_plan e o slot)
 gets e o slot w P t within may v law =
     let l = get_law e o slot w P t within may (inl v) in
-    taken_logged w P t (get_plan e o slot) (entry.Get o slot (value_found (read_value (w.words (Slot o slot)))))
-    (record {
-      runs = may.touches.runs;
-      other = refl;
-      makes_none = refl;
-      log = refl;
-      own = λ c. refl;
-      operation = inl may.touches.nothing;
-      calm = λ i. ap (λ s. path_into s i) may.touches.calm;
-      left = λ i. refl;
-      ended = tt;
-      leaves = inl refl;
-      now = l.now;
-      taken = l.taken;
-    }) v law
+    logs_plainly w P t (get_plan e o slot) (entry.Get o slot (value_found (read_value (w.words (Slot o slot)))))
+    (record { other = refl; makes_none = refl; log = refl; own = λ c. refl; left = λ i. refl })
+    may.touches.runs (inl may.touches.nothing) (λ i. ap (λ s. path_into s i) may.touches.calm) tt (inl refl) l v law
 
 pub puts : (e : CallContext) (o slot : ℕ) (value : Value) → KeepsBiases (λ w t. MayPut w.shape (w.known t) o slot value) (λ w t. put_plan e o slot value)
 puts e o slot value w P t within may v law =
     let l = put_law e o slot value w P t within may (inl v) in
-    taken_logged w P t (put_plan e o slot value) (entry.Put o slot value)
-    (record {
-      runs = may.touches.runs;
-      other = refl;
-      makes_none = refl;
-      log = refl;
-      own = λ c. refl;
-      operation = inl may.touches.nothing;
-      calm = λ i. ap (λ s. path_into s i) may.touches.calm;
-      left = λ i. refl;
-      ended = tt;
-      leaves = inl refl;
-      now = l.now;
-      taken = l.taken;
-    }) v law
+    logs_plainly w P t (put_plan e o slot value) (entry.Put o slot value)
+    (record { other = refl; makes_none = refl; log = refl; own = λ c. refl; left = λ i. refl })
+    may.touches.runs (inl may.touches.nothing) (λ i. ap (λ s. path_into s i) may.touches.calm) tt (inl refl) l v law
 
 -- EXITS
 pub exits_by_hold : (e : CallContext) (o d p : ℕ) → KeepsBiases (λ w t. MayLeave w.shape (w.known t) o d p) (λ w t. leave_plan e t o p)
 exits_by_hold e o d p w P t within may v law =
     let l = exits_by_a_hold_word e o d p w P t within may (inl v) in
-    taken_logged w P t (leave_plan e t o p) (entry.Exit o)
-    (record {
-      runs = may.runs;
-      other = refl;
-      makes_none = refl;
-      log = refl;
-      own = λ c. refl;
-      operation = may.own_entry.operation;
-      calm = λ i. elim may.before [
-        | inl b ↦ ap (λ s. path_into s i) b.0
-        | inr c ↦ elim c [ inl b ↦ ap (λ s. path_into s i) b.0 | inr b ↦ ap (λ s. path_into s i) b.0 ]
-      ];
-      left = λ i. refl;
-      ended = tt;
-      leaves = inl refl;
-      now = l.now;
-      taken = l.taken;
-    }) v law
+    logs_plainly w P t (leave_plan e t o p) (entry.Exit o)
+    (record { other = refl; makes_none = refl; log = refl; own = λ c. refl; left = λ i. refl })
+    may.runs may.own_entry.operation (λ i. elim may.before [
+      | inl b ↦ ap (λ s. path_into s i) b.0
+      | inr c ↦ elim c [ inl b ↦ ap (λ s. path_into s i) b.0 | inr b ↦ ap (λ s. path_into s i) b.0 ]
+    ]) tt (inl refl) l v law
 
 pub exits_by_mark : (e : CallContext) (o header stamp p : ℕ)
     → KeepsBiases (λ w t. MayLetGo w.shape (w.known t) o header stamp p) (λ w t. let_go_plan e o (mark_of (Locked t p)) header p)
@@ -140,40 +134,17 @@ exits_by_mark e o header stamp p w P t within may v law = by_test (marks w o == 
         let stored : displaced_words w t p ≡ header = v.seen.stays t (Displaced t p) header
         (ap (λ u. last_seen (Displaced u p) (w.known t).seen) (sym (v.numbered t)) ∙ may.displaced) (inl (may.runs, inl refl)) in
         let neutral : is_neutral header ≡ true = ap is_neutral (sym stored) ∙ v.records.header o t p rests in
-        taken_logged w P t (let_go_plan e o (mark_of (Locked t p)) header p) (entry.Exit o)
-        (record {
-          runs = may.runs;
-          other = refl;
-          makes_none = refl;
-          log = refl;
-          own = λ c. refl;
-          operation = may.own_entry.operation;
-          calm = λ i. ap (λ s. path_into s i) may.calm;
-          left = λ i. refl;
-          ended = tt;
-          leaves = exchange_leaves w o (mark_of (Locked t p)) header (ap is_biased_form read) (neutral_bare header neutral).unbiased;
-          now = l.now;
-          taken = l.taken;
-        }) v law
+        logs_plainly w P t (let_go_plan e o (mark_of (Locked t p)) header p) (entry.Exit o)
+        (record { other = refl; makes_none = refl; log = refl; own = λ c. refl; left = λ i. refl })
+        may.runs may.own_entry.operation (λ i. ap (λ s. path_into s i) may.calm) tt
+        (exchange_leaves w o (mark_of (Locked t p)) header (ap is_biased_form read) (neutral_bare header neutral).unbiased) l v law
 
 pub exits_by_monitor : (e : CallContext) (o m p stamp : ℕ) → KeepsBiases (λ w t. MayFree w.shape (w.known t) o m stamp) (λ w t. free_plan e o m p)
 exits_by_monitor e o m p stamp w P t within may v law =
     let l = frees_owner e o m p stamp w P t within may (inl v) in
-    taken_logged w P t (free_plan e o m p) (entry.Exit o)
-    (record {
-      runs = may.runs;
-      other = refl;
-      makes_none = refl;
-      log = refl;
-      own = λ c. refl;
-      operation = may.own_entry.operation;
-      calm = λ i. ap (λ s. path_into s i) may.calm;
-      left = λ i. refl;
-      ended = tt;
-      leaves = inl refl;
-      now = l.now;
-      taken = l.taken;
-    }) v law
+    logs_plainly w P t (free_plan e o m p) (entry.Exit o)
+    (record { other = refl; makes_none = refl; log = refl; own = λ c. refl; left = λ i. refl })
+    may.runs may.own_entry.operation (λ i. ap (λ s. path_into s i) may.calm) tt (inl refl) l v law
 
 -- WAITS AND NOTIFIES
 pub waits : (e : CallContext) (o m stamp : ℕ)
@@ -181,21 +152,10 @@ pub waits : (e : CallContext) (o m stamp : ℕ)
 waits e o m stamp w P t within may v law =
     let l = leaves_to_wait e o m stamp w P t within may (inl v) in
     let saw = may.inflated in
-    taken_logged w P t (log_wait_plan e t o (next_stamp (local_of (w.known t)))) (entry.Wait o)
-    (record {
-      runs = may.runs;
-      other = refl;
-      makes_none = refl;
-      log = refl;
-      own = λ c. refl;
-      operation = inr (sym may.goes_on ∙ may.waits);
-      calm = λ i. ap (λ s. path_into s i) may.calm;
-      left = λ i. refl;
-      ended = unbiased_still w P t o v may.runs (saw.0, saw.1, inflated_unbiased saw.0 m saw.2);
-      leaves = inl refl;
-      now = l.now;
-      taken = l.taken;
-    }) v law
+    logs_plainly w P t (log_wait_plan e t o (next_stamp (local_of (w.known t)))) (entry.Wait o)
+    (record { other = refl; makes_none = refl; log = refl; own = λ c. refl; left = λ i. refl })
+    may.runs (inr (sym may.goes_on ∙ may.waits)) (λ i. ap (λ s. path_into s i) may.calm)
+    (unbiased_still w P t o v may.runs (saw.0, saw.1, inflated_unbiased saw.0 m saw.2)) (inl refl) l v law
 
 -- an object on which somebody waits has no bias
 waited_unbiased : (w : World) (P : List PlainObject) (t o u : ℕ) → Fits w P → (w.known t).running ≡ true
@@ -209,40 +169,20 @@ waited_unbiased w P t o u v runs owner saw =
 pub notifies : (e : CallContext) (o u : ℕ) → KeepsBiases (λ w t. MayNotify w.shape (w.known t) o u) (λ w t. notify_plan e o u)
 notifies e o u w P t within may v law =
     let l = notify_logs e o u w P t within may (inl v) in
-    taken_logged w P t (notify_plan e o u) (entry.Notify o (Some u))
-    (record {
-      runs = may.wakes.runs;
-      other = refl;
-      makes_none = refl;
-      log = refl;
-      own = λ c. refl;
-      operation = may.own_entry.operation;
-      calm = λ i. ap (λ s. path_into s i) may.calm;
-      left = λ i. refl;
-      ended = waited_unbiased w P t o u v may.wakes.runs (taken_by_owner P l.now t o (entry.Notify o (Some u)) (eq-eqb o o refl) l.taken) may.wakes.oldest;
-      leaves = inl refl;
-      now = l.now;
-      taken = l.taken;
-    }) v law
+    logs_plainly w P t (notify_plan e o u) (entry.Notify o (Some u))
+    (record { other = refl; makes_none = refl; log = refl; own = λ c. refl; left = λ i. refl })
+    may.wakes.runs may.own_entry.operation (λ i. ap (λ s. path_into s i) may.calm)
+    (waited_unbiased w P t o u v may.wakes.runs (taken_by_owner P l.now t o (entry.Notify o (Some u)) (eq-eqb o o refl) l.taken) may.wakes.oldest)
+    (inl refl) l v law
 
 pub notifies_all : (e : CallContext) (o u n : ℕ) → KeepsBiases (λ w t. MayNotifyAll w.shape (w.known t) o u n) (λ w t. notify_all_plan e o u (n + 1))
 notifies_all e o u n w P t within may v law =
     let l = notify_all_logs e o u n w P t within may (inl v) in
-    taken_logged w P t (notify_all_plan e o u (n + 1)) (entry.NotifyAll o (n + 1))
-    (record {
-      runs = may.wakes.runs;
-      other = refl;
-      makes_none = refl;
-      log = refl;
-      own = λ c. refl;
-      operation = may.own_entry.operation;
-      calm = λ i. elim may.wakes.told [ inl b ↦ ap (λ s. path_into s i) b.0 | inr b ↦ ap (λ s. path_into s i) b ];
-      left = λ i. refl;
-      ended = waited_unbiased w P t o u v may.wakes.runs (taken_by_owner P l.now t o (entry.NotifyAll o (n + 1)) (eq-eqb o o refl) l.taken) may.wakes.oldest;
-      leaves = inl refl;
-      now = l.now;
-      taken = l.taken;
-    }) v law
+    logs_plainly w P t (notify_all_plan e o u (n + 1)) (entry.NotifyAll o (n + 1))
+    (record { other = refl; makes_none = refl; log = refl; own = λ c. refl; left = λ i. refl })
+    may.wakes.runs may.own_entry.operation (λ i. elim may.wakes.told [ inl b ↦ ap (λ s. path_into s i) b.0 | inr b ↦ ap (λ s. path_into s i) b ])
+    (waited_unbiased w P t o u v may.wakes.runs (taken_by_owner P l.now t o (entry.NotifyAll o (n + 1)) (eq-eqb o o refl) l.taken) may.wakes.oldest)
+    (inl refl) l v law
 
 -- PUBLISHING
 told_other : (s : Shape) (k : ThreadView) (e : Entry) → MayTell s k e → is_taking e ≡ false
@@ -286,9 +226,8 @@ publishes e entry w P t within may v law =
     let l = publish_law e entry w P t within may.0 (inl v) in
     let other = told_other w.shape (w.known t) entry may.0.tells in
     let n = w.words (Length t) in
-    taken_logged w P t (publish_plan e t entry (length (w.known t).log + 1)) entry
+    logs_plainly w P t (publish_plan e t entry (length (w.known t).log + 1)) entry
     (record {
-      runs = may.0.runs;
       other = other;
       makes_none = told_makes_none w.shape (w.known t) entry may.0.tells;
       log = ap (λ (b : Bool). (w.known t).log ++ record {
@@ -296,14 +235,9 @@ publishes e entry w P t within may v law =
         entry = entry;
       } ∷ []) other;
       own = λ c. refl;
-      operation = may.0.own_entry.operation;
-      calm = λ i. ap (λ s. path_into s i) may.0.calm;
       left = λ i. refl;
-      ended = none_by_sight w P t entry v may.0.runs may.1;
-      leaves = inl refl;
-      now = l.now;
-      taken = l.taken;
-    }) v law
+    })
+    may.0.runs may.0.own_entry.operation (λ i. ap (λ s. path_into s i) may.0.calm) (none_by_sight w P t entry v may.0.runs may.1) (inl refl) l v law
 
 -- HASHES. A load of whatever word that logs the hash that it finds there, if any.
 finds : (w : World) (P : List PlainObject) (t : ℕ) (e : CallContext) (at : WordId) (o : ℕ) → MayHash w.shape (w.known t) o → GoesOn (w.known t) e
@@ -325,9 +259,8 @@ finds w P t e at o may goes_on it v law = by_test (hash_in (w.words at) == 0) re
         })
     by_test false some =
         let l = it (λ z. absurd (let q = eq-eqb (hash_in (w.words at)) 0 z in cc (q, some))) in
-        taken_logged w P t (find_hash_plan e at o) (entry.Hash o (hash_in (w.words at)) None)
+        logs_plainly w P t (find_hash_plan e at o) (entry.Hash o (hash_in (w.words at)) None)
         (record {
-          runs = may.runs;
           other = refl;
           makes_none = refl;
           log = ap (λ b. cond b (w.known t).log ((w.known t).log ++ record {
@@ -335,14 +268,9 @@ finds w P t e at o may goes_on it v law = by_test (hash_in (w.words at) == 0) re
             entry = entry.Hash o (hash_in (w.words at)) None;
           } ∷ [])) some;
           own = λ c. refl;
-          operation = (may.own_entry (hash_in (w.words at)) None).operation;
-          calm = λ i. ap (λ s. path_into s i) may.calm;
           left = λ i. refl;
-          ended = tt;
-          leaves = inr (inl refl);
-          now = l.now;
-          taken = l.taken;
-        }) v law
+        })
+        may.runs (may.own_entry (hash_in (w.words at)) None).operation (λ i. ap (λ s. path_into s i) may.calm) tt (inr (inl refl)) l v law
 
 pub finds_mark : (e : CallContext) (o : ℕ) → KeepsBiases (λ w t. MayFind w.shape (w.known t) e o) (λ w t. find_hash_plan e (Mark o) o)
 finds_mark e o w P t within may v law = finds w P t e (Mark o) o may.hashes may.goes_on (λ h. finds_in_mark e o w P t within (may, h) (inl v)) v law
@@ -366,21 +294,9 @@ draws w P t e draw at o header may it leaves v law = by_test (w.words at == head
     by_test false missed = missed_keeps w t (draw_plan e draw at o header) law missed
     by_test true hit =
         let l = it (eqb-true (w.words at) header hit) in
-        taken_logged w P t (draw_plan e draw at o header) (entry.Hash o draw.value (Some draw.number))
-        (record {
-          runs = may.runs;
-          other = refl;
-          makes_none = refl;
-          log = refl;
-          own = λ c. refl;
-          operation = (may.own_entry draw.value (Some draw.number)).operation;
-          calm = λ i. ap (λ s. path_into s i) may.calm;
-          left = λ i. refl;
-          ended = tt;
-          leaves = leaves;
-          now = l.now;
-          taken = l.taken;
-        }) v law
+        logs_plainly w P t (draw_plan e draw at o header) (entry.Hash o draw.value (Some draw.number))
+        (record { other = refl; makes_none = refl; log = refl; own = λ c. refl; left = λ i. refl })
+        may.runs (may.own_entry draw.value (Some draw.number)).operation (λ i. ap (λ s. path_into s i) may.calm) tt leaves l v law
 
 pub draws_header_kind : (e : CallContext) (draw : NextDraw) (o m header : ℕ)
     → KeepsBiases (λ w t. MayDrawInMonitor w.start w.shape (w.known t) draw o m header) (λ w t. draw_plan e draw (Header m) o header)
