@@ -1,9 +1,11 @@
--- The release that ends a revocation: the law of biases held of the world before its first store, and holds of the world after it.
+-- The step that ends a revocation, on no word of its object: the law of biases held of the world before the first store, and holds of the world after
+-- this step. It is the release, here, or a load.
 use Rattle.std.proofs.Common.{◌≡◌, ℕ, zero, suc, ◌+◌, ◌<◌, eq-eqb, cond, Bool, true, List, ◌∷◌, refl, sym, ap, ◌∙◌, subst, arith, inr}
 use Rattle.mark_word.specs.Mark.{read_mark}
 use Rattle.plain_monitor.specs.Objects.{PlainObject}
 use Rattle.plain_monitor.specs.Order.{order}
 use Rattle.plain_history.specs.EnterPaths.{entries_on}
+use Rattle.core_world.specs.declared.plan.StepPlan.{StepPlan}
 use Rattle.core_world.specs.declared.word_id.WordId.TheVariants.{Safepoint, Revocations}
 use Rattle.core_world.specs.Threads.Counts.{counts_of}
 use Rattle.core_world.specs.Threads.ThreadView.{ThreadView}
@@ -37,8 +39,11 @@ pub logs_same : (f g : ℕ → ThreadView) (u n : ℕ) → ((v : ℕ) → (f v).
 logs_same f g u zero h = refl
 logs_same f g u (suc n) h = λ i. h u i ∷ logs_same f g (u + 1) n h i
 
-module _ (w : World) (P : List PlainObject) (s : IsRevoking w P) (e : CallContext)
-    (took : Bool) (may : MayEndRevocation w P s e took) (law : BiasLawHolds s.before) where
+-- THE STEP, after which the thread knows l, and the safepoint word is this one
+module _ (w : World) (P : List PlainObject) (s : IsRevoking w P) (e : CallContext) (took : Bool) (may : MayEndRevocation w P s e took)
+    (law : BiasLawHolds s.before) (l : ThreadView) (word : ℕ) (same_log : l.log ≡ (w.known s.requester).log)
+    (same_counts : l.counts ≡ (w.known s.requester).counts) (same_unfinished : l.unfinished ≡ (w.known s.requester).unfinished)
+    (stage_now : l.stage ≡ stage_after took s.revocation.object) where
   abbrev b : World
   b = s.before
 
@@ -48,12 +53,8 @@ module _ (w : World) (P : List PlainObject) (s : IsRevoking w P) (e : CallContex
   abbrev o : ℕ
   o = s.revocation.object
 
-  -- what the thread knows after the release
-  abbrev l : ThreadView
-  l = known_hit w.shape w.start (release_plan e (stage_after took s.revocation.object) s.requester) (reached_word s.requester) (w.known s.requester)
-
   abbrev x : World
-  x = with_word_and_known Safepoint (released_word s.requester) s.requester l w
+  x = with_word_and_known Safepoint word s.requester l w
 
   within : t < b.shape.threads
   within = requester_within w P s may.over
@@ -65,13 +66,13 @@ module _ (w : World) (P : List PlainObject) (s : IsRevoking w P) (e : CallContex
   left : LeavesObject w t o took
   left = subst (LeavesObject w t o) (sym may.says) (leaves_object w P s may.over)
 
-  log_is : (w.known t).log ≡ (b.known t).log
-  log_is = ap (λ (k : ThreadView). k.log) s.knows
+  log_is : l.log ≡ (b.known t).log
+  log_is = same_log ∙ ap (λ (k : ThreadView). k.log) s.knows
 
   holds_are : (w.known t).holds ≡ (b.known t).holds
   holds_are = ap (λ (k : ThreadView). k.holds) s.knows
 
-  -- the stores of the release are of no word of the object
+  -- the step is on no word of the object
   taken : took ≡ true → lock x o ≡ BiasedTo t
   taken h = still_leans w x o refl refl t (left.taken h).0
 
@@ -85,7 +86,7 @@ module _ (w : World) (P : List PlainObject) (s : IsRevoking w P) (e : CallContex
   after_release : BiasLaw b.biasing b.shape.threads b.shape.classes (is_logged b.shape (logs b)) (class_by b.shape b.words)
       (marks x) (lock x) (λ i. entries_on i (order (logs b))) (λ u. (b.known u).log) (λ u. (x.known u).stage)
       (λ u. (x.known u).unfinished) (λ c. x.words (Revocations c)) (λ u. counts_of (x.known u).counts)
-  after_release = released w P s leaner.0 (leans b o leaner.0 leaner.1) law may.over l (released_word t) took log_is refl may.goes_on refl within
+  after_release = released w P s leaner.0 (leans b o leaner.0 leaner.1) law may.over l word took log_is same_counts same_unfinished stage_now within
       (class_in_heap b.shape b.words o s.fits.limits (s.fits.forms.classes o) s.object) taken left.dropped unheld
       (λ h. took_by_rebias w P s may.over (sym may.says ∙ h))
 
@@ -96,8 +97,8 @@ module _ (w : World) (P : List PlainObject) (s : IsRevoking w P) (e : CallContex
   logs_now : logs x ≡ logs b
   logs_now = ap (λ n. logs_from 0 n x.known) (ap (λ (h : Shape). h.threads) s.shape) ∙ logs_same x.known b.known 0 b.shape.threads log_now
 
-  ends : BiasLawHolds x
-  ends =
+  pub ended : BiasLawHolds x
+  ended =
       subst (λ h. BiasLaw w.biasing h.threads h.classes (is_logged h (logs x)) (class_by h w.words) (marks x)
       (lock x) (λ i. entries_on i (order (logs x))) (λ u. (x.known u).log) (λ u. (x.known u).stage)
       (λ u. (x.known u).unfinished) (λ c. x.words (Revocations c)) (λ u. counts_of (x.known u).counts)) (sym s.shape)
@@ -115,16 +116,27 @@ module _ (w : World) (P : List PlainObject) (s : IsRevoking w P) (e : CallContex
       (marks x) (lock x) (λ i. entries_on i (order ls)) (λ u. (b.known u).log) (λ u. (x.known u).stage)
       (λ u. (x.known u).unfinished) (λ c. x.words (Revocations c)) (λ u. counts_of (x.known u).counts)) (sym logs_now) after_release))))
 
-  finds : w.words Safepoint ≡ reached_word t
-  finds = reached_finds w P t (ap (λ (k : ThreadView). k.reached) s.knows ∙ s.reached) (inr s)
+-- THE RELEASE
+module _ (w : World) (P : List PlainObject) (s : IsRevoking w P) (e : CallContext)
+    (took : Bool) (may : MayEndRevocation w P s e took) (law : BiasLawHolds s.before) where
+  abbrev plan : StepPlan
+  plan = release_plan e (stage_after took s.revocation.object) s.requester
+
+  abbrev left_knowing : ThreadView
+  left_knowing = known_hit w.shape w.start plan (reached_word s.requester) (w.known s.requester)
+
+  finds : w.words Safepoint ≡ reached_word s.requester
+  finds = reached_finds w P s.requester (ap (λ (k : ThreadView). k.reached) s.knows ∙ s.reached) (inr s)
 
   abbrev found : ℕ → World
   found n = with_word_and_known Safepoint (word_after (CompareExchange (reached_word s.requester) (released_word s.requester)) n) s.requester
-      (known_after w.shape w.start (release_plan e (stage_after took s.revocation.object) s.requester) n (w.known s.requester)) w
+      (known_after w.shape w.start plan n (w.known s.requester)) w
 
-  pub revocation_ended : BiasLawHolds (world_after (release_plan e (stage_after took o) t) t w)
+  pub revocation_ended : BiasLawHolds (world_after (release_plan e (stage_after took s.revocation.object) s.requester) s.requester w)
   revocation_ended =
+      let reached = reached_word s.requester in
+      let released_now = released_word s.requester in
       subst (λ n. BiasLawHolds (found n)) (sym finds)
-      (subst (λ (c : Bool). BiasLawHolds (with_word_and_known Safepoint (cond c (released_word t) (reached_word t)) t
-      (cond c l (known_miss w.shape w.start (release_plan e (stage_after took o) t) (reached_word t) (w.known t))) w))
-      (sym (eq-eqb (reached_word t) (reached_word t) refl)) ends)
+      (subst (λ (c : Bool). BiasLawHolds (with_word_and_known Safepoint (cond c released_now reached) s.requester
+      (cond c left_knowing (known_miss w.shape w.start plan reached (w.known s.requester))) w))
+      (sym (eq-eqb reached reached refl)) (ended w P s e took may law left_knowing released_now refl refl may.goes_on refl))
