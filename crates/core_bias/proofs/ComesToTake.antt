@@ -1,9 +1,9 @@
 -- A running thread that stands in the middle of nothing comes to stand in that of taking an object under a bias: no clause says more of it there.
-use Rattle.core_locks.proofs.Prelude.{◌≡◌, ◌⊎◌, ℕ, ◌+◌, ◌<◌, true, false, List, [], Some, None, refl, sym, ap, ◌∙◌, subst, inl, inr, PlainObject}
-use Rattle.core_locks.proofs.Prelude.{WordId, Mark, Waiting, Recursions, Settled, Waits, Resumes, OwnerConverted, is_biased, monitor_in, waits_on}
-use Rattle.core_locks.proofs.Prelude.{inflation_in, recursions_ahead, recursions_lowered, revocation_in, ThreadView, last_seen, World, with_known}
-use Rattle.core_locks.proofs.Prelude.{OwnedBy, lock, displaced_words, recursion_count, owner_at, waits_at, notified_at, Fits, SeenFit, Stays}
-use Rattle.core_locks.proofs.Prelude.{RecursionsFit, each_with_known, header_stays, BiasAcquired, IsKeptOrNamed, with_knowledge, stays_back}
+use Rattle.core_locks.proofs.Prelude.{◌≡◌, ◌⊎◌, ℕ, ◌<◌, true, false, List, [], Some, None, refl, sym, ap, ◌∙◌, subst, inl, inr, PlainObject}
+use Rattle.core_locks.proofs.Prelude.{WordId, Mark, Waiting, Settled, is_biased, monitor_in, waits_on}
+use Rattle.core_locks.proofs.Prelude.{inflation_in, revocation_in, ThreadView, last_seen, World}
+use Rattle.core_locks.proofs.Prelude.{owner_at, waits_at, Fits, SeenFit, Stays}
+use Rattle.core_locks.proofs.Prelude.{each_with_known, header_stays, BiasAcquired, IsKeptOrNamed, with_knowledge, stays_back}
 use Rattle.core_world.specs.Words.Names.{has_class}
 use Rattle.core_world.specs.Clauses.SeenWords.{AreTheSteps, HasMet}
 use Rattle.core_locks.proofs.Clauses.{kept_parts, parts_stand, AllHold}
@@ -11,11 +11,32 @@ use Rattle.core_locks.proofs.Clauses as clause
 use Rattle.core_locks.proofs.EvenSteps.{IsEven, even_by, even_step, held_even}
 use Rattle.core_locks.proofs.monitor.MonitorSeen.{others_by}
 use Rattle.core_locks.proofs.OwnSeen.{back_by}
-use Rattle.core_locks.proofs.Steps.{GoesOnTo, IsStep, next, seen_next, step_fits, turning, inflates_stay}
+use Rattle.core_locks.proofs.Steps.{GoesOnTo, IsStep, IsAside, aside_by, recursions_stand, next, seen_next, step_fits, turning, inflates_stay}
 
--- it knows what it knew, but for its stage, and for its steps, by which it last saw the same words
+-- what the thread knows is what it knew, but for its stage, and for its steps
+abbrev pub TakesWithSteps : ThreadView → ThreadView → ℕ → Type 0
+TakesWithSteps k l o = l ≡ record k { stage = BiasAcquired o; seen = l.seen; seen_at_safepoint = l.seen_at_safepoint; steps = l.steps }
+
+pub taking_step : (w : World) (t o : ℕ) (l : ThreadView) → t < w.shape.threads → TakesWithSteps (w.known t) l o → IsStep w t l turning
+taking_step w t o l within is = record {
+  within = within;
+  mine =
+      is
+      ∙ (λ i. record (w.known t) {
+        stage = ap (λ (k : ThreadView). k.stage) (sym is) i;
+        unfinished = ap (λ (k : ThreadView). k.unfinished) (sym is) i;
+        checking = ap (λ (k : ThreadView). k.checking) (sym is) i;
+        seen = l.seen;
+        seen_at_safepoint = l.seen_at_safepoint;
+        steps = l.steps;
+        call = ap (λ (k : ThreadView). k.call) (sym is) i;
+      });
+  others = λ k. refl;
+}
+
+-- by its steps it last saw the same words
 pub record OnlyTakes (k l : ThreadView) (o : ℕ) : Type 0 where
-  pub is : l ≡ record k { stage = BiasAcquired o; seen = l.seen; seen_at_safepoint = l.seen_at_safepoint; steps = l.steps }
+  pub is : TakesWithSteps k l o
   pub seen : (n : WordId) → last_seen n l.seen ≡ last_seen n k.seen
 
 module _ (w : World) (P : List PlainObject) (t o : ℕ) (l : ThreadView) (within : t < w.shape.threads)
@@ -40,21 +61,7 @@ module _ (w : World) (P : List PlainObject) (t o : ℕ) (l : ThreadView) (within
   inflates = ap inflation_in stage ∙ sym (ap inflation_in calm)
 
   step : IsStep w t l turning
-  step = record {
-    within = within;
-    mine =
-        only.is
-        ∙ (λ i. record (w.known t) {
-          stage = sym stage i;
-          unfinished = sym (ap (λ (k : ThreadView). k.unfinished) only.is) i;
-          checking = sym (ap (λ (k : ThreadView). k.checking) only.is) i;
-          seen = l.seen;
-          seen_at_safepoint = l.seen_at_safepoint;
-          steps = l.steps;
-          call = sym (ap (λ (k : ThreadView). k.call) only.is) i;
-        });
-    others = λ k. refl;
-  }
+  step = taking_step w t o l within only.is
 
   unreached : (u : ℕ) → (w.known u).reached ≡ true → ⊥
   unreached u e = let stopped = (v.safe.safepoint u e).1 t in absurd (cc (stopped, runs))
@@ -99,34 +106,13 @@ module _ (w : World) (P : List PlainObject) (t o : ℕ) (l : ThreadView) (within
       forth m (inl a) = inl (ap (λ (k : ThreadView). k.kept) only.is ∙ a)
       forth m (inr a) = inr a
 
-  recursions_law : RecursionsFit (λ i. w.words (Mark i)) (λ a. w.words (Recursions a)) (lock w) (λ u. (w.known u).holds)
-      (λ u. (with_known t l w.known u).stage) (λ u. (w.known u).saved) (displaced_words w) (waits_at P) (notified_at P)
-  recursions_law = record {
-    first = v.recursions.first;
-    others = v.recursions.others;
-    owned = λ i a u n. each_with_known (λ u y. lock w i ≡ OwnedBy u → (y.stage ≡ Waits i → ⊥) → (y.stage ≡ Resumes i → ⊥)
-        → w.words (Recursions a) + recursions_lowered y.stage i
-        ≡ recursion_count i (displaced_words w u) (w.known u).holds + recursions_ahead y.stage i) t l w.known u
-        (λ g b c.
-        let was = v.recursions.owned i a t n g (λ s. absurd (cc (s, calm))) (λ s. absurd (cc (s, calm))) in
-        subst (λ s. w.words (Recursions a) + recursions_lowered s i
-        ≡ recursion_count i (displaced_words w t) (w.known t).holds + recursions_ahead s i) (sym stage)
-        (subst (λ s. w.words (Recursions a) + recursions_lowered s i
-        ≡ recursion_count i (displaced_words w t) (w.known t).holds + recursions_ahead s i) calm was))
-        (λ d. v.recursions.owned i a u n);
-    waiting = v.recursions.waiting;
-    on_record = v.recursions.on_record;
-    free = v.recursions.free;
-    thread_owns = λ i u. each_with_known (λ u y. y.stage ≡ OwnerConverted i → recursion_count i (displaced_words w u) (w.known u).holds ≡ 0)
-        t l w.known u (λ h. absurd (cc (h, stage))) (λ d. v.recursions.thread_owns i u);
-  }
-
   abbrev z : World
   z = next w t l turning w.words
 
   all_after : AllHold (kept_parts w z P)
   all_after clause.seen = seen_next step w.words P seen_law
-  all_after clause.recursions = recursions_law
+  all_after clause.recursions = recursions_stand step (subst IsAside (sym calm) (aside_by Settled refl))
+      (subst IsAside (sym stage) (aside_by (BiasAcquired o) refl)) v.recursions
   all_after c = even_step step before now P goes_on runs v c
 
   pub takes_fits : Fits x P

@@ -171,15 +171,6 @@ module _ (w : World) (P : List PlainObject) (o t q d : ℕ) (calm : AllCalm w) (
   header_is = λ j. λ i. header_same i j
 
   pub displaced_turned : FitsUnseen x P
-  displaced_turned clause.forms = record {
-    marks = (v clause.forms).marks;
-    owners = (v clause.forms).owners;
-    waits = (v clause.forms).waits;
-    objects = (v clause.forms).objects;
-    holds = (v clause.forms).holds;
-    safepoint = (v clause.forms).safepoint;
-    classes = (v clause.forms).classes;
-  }
   displaced_turned clause.records = rest_law
   displaced_turned clause.recursions = recursions_law
   displaced_turned clause.hashes = frame6 HashesFit {x0 = marks w} {x1 = lock w} refl refl header_is refl refl refl hashes_law

@@ -48,24 +48,7 @@ module _ (w : World) (P : List PlainObject) (t : ℕ) (e : CallContext) (o mark 
   unseen_now : FitsUnseen x P
   unseen_now =
       knows_fits (set_mark o n w) P t l
-      (record {
-        thread = refl;
-        log = refl;
-        running = refl;
-        requesting = refl;
-        reached = refl;
-        halted = refl;
-        kept = refl;
-        moving = refl;
-        saved = refl;
-        holds = refl;
-        wait = refl;
-        published = refl;
-        draws = refl;
-        shots = refl;
-        stage = calm;
-        unfinished = sym goes_on;
-      })
+      (search (calm, sym goes_on))
       within (λ c. refl) (λ c. refl) (mark_turned w P o n f turns (unseen w P v))
 
   names : (i : ℕ) → monitor_in (marks w i) ≡ monitor_in (marks x i)

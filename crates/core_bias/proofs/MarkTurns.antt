@@ -6,7 +6,7 @@ use Rattle.core_locks.proofs.Prelude.{BiasedTo, OnRecord, OwnedBy, lock, lock_fo
 use Rattle.core_locks.proofs.Prelude.{owner_words, prototype_of, inflations, hold_count, hash_at, waits_at, notified_at, IsMark, LocksArePlain}
 use Rattle.core_locks.proofs.Prelude.{BiasedAreFree, RecordsRest, HashesFit, ClassesFit, FormsFit, frame3, by_equal, mark_zero}
 use Rattle.core_world.proofs.Readings.{mark_one}
-use Rattle.core_locks.proofs.MarkMeanings.{each_set}
+use Rattle.core_locks.proofs.MarkMeanings.{forms_marked, each_set}
 use Rattle.core_locks.proofs.MarkChanges.{monitors_by_marks, claims_by_marks, waits_by_marks, recursions_by_marks, inflating_by_marks}
 use Rattle.core_locks.proofs.Clauses as clause
 use Rattle.core_bias.proofs.Unseen.{FitsUnseen, set_mark}
@@ -114,15 +114,7 @@ module _ (w : World) (P : List PlainObject) (o m : ℕ) (f : Lock) (g : MarkTurn
   lock_inflated i a e = elim (lock_now i) [ inl b ↦ absurd (named_else i a e b.0) | inr b ↦ b.1 ]
 
   forms_law : FormsFit x
-  forms_law = record {
-    marks = λ i. each_set (λ j y. IsMark w.shape (read_mark y)) o m (marks w) i g.form (λ d. (v clause.forms).marks i);
-    owners = (v clause.forms).owners;
-    waits = (v clause.forms).waits;
-    objects = (v clause.forms).objects;
-    holds = (v clause.forms).holds;
-    safepoint = (v clause.forms).safepoint;
-    classes = (v clause.forms).classes;
-  }
+  forms_law = forms_marked o m (v clause.forms) g.form
 
   -- a mark that has the bias pattern had it
   bias_back : (i : ℕ) → is_biased (marks x i) ≡ true → is_biased (marks w i) ≡ true

@@ -220,24 +220,7 @@ module _ (w : World) (P : List PlainObject) (s : IsRevoking w P) (e : CallContex
           }))
 
       alike : SameButForStores ((with_word_and_known Safepoint v r y z).known r) l
-      alike = subst (λ k. SameButForStores k l) (sym (with_known_here r y (with_known r blank w.known))) (record {
-        thread = refl;
-        log = refl;
-        running = refl;
-        requesting = refl;
-        reached = refl;
-        halted = refl;
-        kept = refl;
-        moving = refl;
-        saved = refl;
-        holds = refl;
-        wait = refl;
-        published = refl;
-        draws = refl;
-        shots = refl;
-        stage = refl;
-        unfinished = refl;
-      })
+      alike = subst (λ k. SameButForStores k l) (sym (with_known_here r y (with_known r blank w.known))) search
 
       unseen_now : FitsUnseen x P
       unseen_now =

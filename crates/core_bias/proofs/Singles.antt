@@ -43,15 +43,6 @@ few_or false g h = h
 -- the count is stored
 pub count_fits : (w : World) (P : List PlainObject) (c n : ℕ) → w.biasing ≡ true → n ≤ most_revocations
     → FitsUnseen w P → FitsUnseen (with_words (with_word (Revocations c) n w.words) w) P
-count_fits w P c n on few v clause.forms = record {
-  marks = (v clause.forms).marks;
-  owners = (v clause.forms).owners;
-  waits = (v clause.forms).waits;
-  objects = (v clause.forms).objects;
-  holds = (v clause.forms).holds;
-  safepoint = (v clause.forms).safepoint;
-  classes = (v clause.forms).classes;
-}
 count_fits w P c n on few v clause.classes = record {
   plain = λ off i. absurd (cc (on, off));
   unbiased = (v clause.classes).unbiased;

@@ -1,10 +1,10 @@
 -- A thread at its reached safepoint that stands in the middle of nothing comes to stand in that of taking an object under a bias: no clause says
 -- more of it there. So a load that ends a revocation may leave its thread there, and a deflation may follow before the release.
-use Rattle.core_locks.proofs.Prelude.{◌≡◌, ◌⊎◌, ◌||◌, ℕ, ◌+◌, ◌<◌, true, false, List, Some, None, refl, sym, ap, ◌∙◌, subst, inl, inr, PlainObject}
-use Rattle.core_locks.proofs.Prelude.{WordId, Mark, Recursions, Settled, BiasAcquired, Waits, Resumes, OwnerConverted, RecordLocked, MonitorAcquired}
-use Rattle.core_locks.proofs.Prelude.{is_biased, inflation_in, revocation_in, recursions_ahead, recursions_lowered, ThreadView, last_seen}
-use Rattle.core_locks.proofs.Prelude.{World, with_known, OwnedBy, lock, displaced_words, recursion_count, owner_at, waits_at, notified_at}
-use Rattle.core_locks.proofs.Prelude.{Stays, RecursionsFit, Fits, SeenFit, with_knowledge, each_with_known, with_known_here, header_stays}
+use Rattle.core_locks.proofs.Prelude.{◌≡◌, ◌⊎◌, ◌||◌, ℕ, ◌<◌, true, false, List, Some, None, refl, sym, ap, ◌∙◌, subst, inl, inr, PlainObject}
+use Rattle.core_locks.proofs.Prelude.{WordId, Mark, Settled, BiasAcquired, RecordLocked, MonitorAcquired}
+use Rattle.core_locks.proofs.Prelude.{is_biased, inflation_in, revocation_in, ThreadView, last_seen}
+use Rattle.core_locks.proofs.Prelude.{World, with_known, owner_at}
+use Rattle.core_locks.proofs.Prelude.{Stays, Fits, SeenFit, with_knowledge, each_with_known, with_known_here, header_stays}
 use Rattle.core_locks.proofs.Prelude.{IsQuiet, IsValid, CallContext, StepPlan, load, load_plan, world_after, known_hit}
 use Rattle.core_world.specs.Words.Names.{has_class}
 use Rattle.core_world.specs.Clauses.SeenWords.{AreTheSteps}
@@ -14,14 +14,15 @@ use Rattle.core_locks.proofs.EvenSteps.{IsEven, even_by, even_back, bears_stay}
 use Rattle.core_locks.proofs.safepoint.Standing.{standing_step}
 use Rattle.core_world.specs.Threads.Stages.{Revocation}
 use Rattle.core_bias.specs.Revoking.{MayLookAfterRevoking}
+use Rattle.core_bias.proofs.ComesToTake.{TakesWithSteps, taking_step}
 use Rattle.core_bias.proofs.Knows.{told_told}
 use Rattle.core_bias.proofs.LoadEnds.{load_fits, reached_load}
-use Rattle.core_locks.proofs.Steps.{GoesOnTo, IsStep, next, seen_next, step_fits, turning, inflates_stay}
+use Rattle.core_locks.proofs.Steps.{GoesOnTo, IsStep, IsAside, aside_by, recursions_stand, next, seen_next, step_fits, turning, inflates_stay}
 use Rattle.core_locks.proofs.Steps.{stage_forth, holds_stand, owners_move, waits_move, waits_go_on}
 
 -- it knows what it knew, but for its stage, and for its steps, by which it last saw the same words
 pub record TakesStill (f : WordId → ℕ) (k l : ThreadView) (o : ℕ) : Type 0 where
-  pub is : l ≡ record k { stage = BiasAcquired o; seen = l.seen; seen_at_safepoint = l.seen_at_safepoint; steps = l.steps }
+  pub is : TakesWithSteps k l o
   pub seen : (n : WordId) → last_seen n l.seen ≡ last_seen n k.seen
   pub there : (n : WordId) → last_seen n l.seen_at_safepoint ≡ last_seen n k.seen_at_safepoint
   pub alone : AreTheSteps f k.seen_at_safepoint → AreTheSteps f l.seen_at_safepoint
@@ -45,21 +46,7 @@ module _ (w : World) (P : List PlainObject) (t o : ℕ) (l : ThreadView) (within
   now = subst IsEven (sym stage) (even_by (BiasAcquired o) refl)
 
   step : IsStep w t l turning
-  step = record {
-    within = within;
-    mine =
-        only.is
-        ∙ (λ i. record (w.known t) {
-          stage = sym stage i;
-          unfinished = sym (ap (λ (k : ThreadView). k.unfinished) only.is) i;
-          checking = sym (ap (λ (k : ThreadView). k.checking) only.is) i;
-          seen = l.seen;
-          seen_at_safepoint = l.seen_at_safepoint;
-          steps = l.steps;
-          call = sym (ap (λ (k : ThreadView). k.call) only.is) i;
-        });
-    others = λ k. refl;
-  }
+  step = taking_step w t o l within only.is
 
   stopped : (u : ℕ) → (w.known u).running ≡ false
   stopped = (v.safe.safepoint t reached).1
@@ -95,34 +82,13 @@ module _ (w : World) (P : List PlainObject) (t o : ℕ) (l : ThreadView) (within
     monitors = λ u m s r. absurd (nobody u r);
   }
 
-  recursions_law : RecursionsFit (λ i. w.words (Mark i)) (λ a. w.words (Recursions a)) (lock w) (λ u. (w.known u).holds)
-      (λ u. (with_known t l w.known u).stage) (λ u. (w.known u).saved) (displaced_words w) (waits_at P) (notified_at P)
-  recursions_law = record {
-    first = v.recursions.first;
-    others = v.recursions.others;
-    owned = λ i a u n. each_with_known (λ u y. lock w i ≡ OwnedBy u → (y.stage ≡ Waits i → ⊥) → (y.stage ≡ Resumes i → ⊥)
-        → w.words (Recursions a) + recursions_lowered y.stage i
-        ≡ recursion_count i (displaced_words w u) (w.known u).holds + recursions_ahead y.stage i) t l w.known u
-        (λ g b c.
-        let was = v.recursions.owned i a t n g (λ s. absurd (cc (s, calm))) (λ s. absurd (cc (s, calm))) in
-        subst (λ s. w.words (Recursions a) + recursions_lowered s i
-        ≡ recursion_count i (displaced_words w t) (w.known t).holds + recursions_ahead s i) (sym stage)
-        (subst (λ s. w.words (Recursions a) + recursions_lowered s i
-        ≡ recursion_count i (displaced_words w t) (w.known t).holds + recursions_ahead s i) calm was))
-        (λ d. v.recursions.owned i a u n);
-    waiting = v.recursions.waiting;
-    on_record = v.recursions.on_record;
-    free = v.recursions.free;
-    thread_owns = λ i u. each_with_known (λ u y. y.stage ≡ OwnerConverted i → recursion_count i (displaced_words w u) (w.known u).holds ≡ 0)
-        t l w.known u (λ h. absurd (cc (h, stage))) (λ d. v.recursions.thread_owns i u);
-  }
-
   abbrev z : World
   z = next w t l turning w.words
 
   all_after : AllHold (kept_parts w z P)
   all_after clause.seen = seen_next step w.words P seen_law
-  all_after clause.recursions = recursions_law
+  all_after clause.recursions = recursions_stand step (subst IsAside (sym calm) (aside_by Settled refl))
+      (subst IsAside (sym stage) (aside_by (BiasAcquired o) refl)) v.recursions
   all_after clause.quiet = record {
     quiet = λ u. each_with_known (λ u y. (w.known u).running ≡ false → IsQuiet (w.known u).reached y.stage) t l w.known u
         (λ r. inr (reached, (o, stage))) (λ d. v.quiet.quiet u);

@@ -1,7 +1,7 @@
 -- A step of one thread, field by field: what its thread knows afterwards is what it knew, but for the fields that the step names.
 use Rattle.core_locks.proofs.Prelude.{◌≡◌, ◌≢◌, ◌⊎◌, ℕ, ◌+◌, ◌<◌, ◌≤◌, ◌==◌, eq-eqb, ne_eqb, Bool, true, false, cond, List, length, Option}
 use Rattle.core_locks.proofs.Prelude.{Some, None, refl, sym, ap, ◌∙◌, subst, arith, inl, inr, is_listed, PlainObject, Logged, WordId, Safepoint}
-use Rattle.core_locks.proofs.Prelude.{Stamp, Waiting, Length, Stage, Settled, Resumes, Waits, OwnerConverted, Notifies, Revokes, monitor_in}
+use Rattle.core_locks.proofs.Prelude.{Stamp, Waiting, Length, Stage, Resumes, Waits, OwnerConverted, RecursionsRaised, RecursionsLowered, Notifies, Revokes, monitor_in}
 use Rattle.core_locks.proofs.Prelude.{enters_on, is_halted, inflation_in, notification_in, revocation_in, ThreadView, World, with_known, logs}
 use Rattle.core_locks.proofs.Prelude.{marks, monitor_of, waits_at, notified_at, Fits, SeenFit, WaitsFit, ends, IsUnfinished, StoppedAreQuiet}
 use Rattle.core_locks.proofs.Prelude.{SafepointIsKnown, StampsFit, lets_go, LengthsFit, log_limit, first_known, Unfinished, by_equal}
@@ -115,8 +115,21 @@ pub record IsAside (s : Stage) : Type 0 where
   pub resumes : (o : ℕ) → s ≡ Resumes o → ⊥
   pub takes_over : (o : ℕ) → s ≡ OwnerConverted o → ⊥
 
-pub calm_aside : IsAside Settled
-calm_aside = record { ahead = λ o. refl; lowered = λ o. refl; waits = λ o c. cc c; resumes = λ o c. cc c; takes_over = λ o c. cc c }
+abbrev pub is_aside : Stage → Bool
+is_aside (Waits o) = false
+is_aside (Resumes o) = false
+is_aside (OwnerConverted o) = false
+is_aside (RecursionsRaised o) = false
+is_aside (RecursionsLowered o) = false
+is_aside _ = true
+
+pub aside_by : (s : Stage) → is_aside s ≡ true → IsAside s
+aside_by (Waits o) e = absurd (cc e)
+aside_by (Resumes o) e = absurd (cc e)
+aside_by (OwnerConverted o) e = absurd (cc e)
+aside_by (RecursionsRaised o) e = absurd (cc e)
+aside_by (RecursionsLowered o) e = absurd (cc e)
+aside_by _ e = record { ahead = λ o. refl; lowered = λ o. refl; waits = λ o c. cc c; resumes = λ o c. cc c; takes_over = λ o c. cc c }
 
 -- the thread is in the middle of no wait, no notify and no revocation
 pub record IsPlain (s : Stage) : Type 0 where

@@ -18,7 +18,7 @@ use Rattle.core_locks.proofs.OwnSeen.{hit_moved}
 use Rattle.core_locks.proofs.WaitOut.{fails, no_other}
 use Rattle.core_locks.proofs.enter_exit.MarkHolds.{standing_names}
 use Rattle.core_locks.proofs.Clauses.{turned_parts, parts_turn, seen, forms, holds, owners, biases, records, inflating, recursions, hashes, classes, AllHold}
-use Rattle.core_locks.proofs.Steps.{IsAside, calm_aside, recursions_stand, stage_back, stage_forth, holds_stand, none_reached, turning}
+use Rattle.core_locks.proofs.Steps.{IsAside, aside_by, recursions_stand, stage_back, stage_forth, holds_stand, none_reached, turning}
 use Rattle.core_locks.proofs.Steps.{IsPlain, plain_by, IsStep, next, next_is, step_fits, seen_next, plain_step, inflates_stay}
 
 -- the exchange
@@ -192,13 +192,7 @@ module _ (w : World) (P : List PlainObject) (t : ℕ) (e : CallContext) (o mark 
   }
   all_after inflating = inflating_by_marks (marks w) (marks x) _ _ (zero_back w o m t l (locked_some m t p spelled))
       (zero_forth w o m t l (neutral_some (marks w o) was_neutral)) v.inflating
-  all_after recursions = recursions_stand step (subst IsAside (sym may.calm) calm_aside) (record {
-    ahead = λ i. refl;
-    lowered = λ i. refl;
-    waits = λ i c. cc c;
-    resumes = λ i c. cc c;
-    takes_over = λ i c. cc c;
-  })
+  all_after recursions = recursions_stand step (subst IsAside (sym may.calm) (aside_by Settled refl)) (aside_by (RecordLocked o p) refl)
       (recursions_by_marks (marks w) (marks x) names _ (lock w) (lock x) _ _ _ _ _ _
       (λ i u g. lock_back i (OwnedBy u) g (λ c. cc c)) lock_inflated v.recursions)
   all_after hashes = record {

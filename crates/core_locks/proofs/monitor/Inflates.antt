@@ -16,7 +16,7 @@ use Rattle.core_locks.proofs.MarkMeanings.{forms_marked, IsBare, locked_bare, lo
 use Rattle.core_locks.proofs.monitor.MonitorSeen.{stays_nearly, monitor_seen}
 use Rattle.core_locks.proofs.monitor.Names.{uncounted_mark}
 use Rattle.core_locks.proofs.OwnSeen.{left_with, hit_world}
-use Rattle.core_locks.proofs.Steps.{IsAside, calm_aside, recursions_stand, turning, IsStep, next, step_fits, seen_next}
+use Rattle.core_locks.proofs.Steps.{IsAside, aside_by, recursions_stand, turning, IsStep, next, step_fits, seen_next}
 use Rattle.core_locks.proofs.monitor.SwapLaws.{swap_valid}
 
 -- a thread that comes to be in the middle of an inflation counts besides on that object's mark and on the record's displaced word
@@ -182,13 +182,7 @@ module _ (w : World) (P : List PlainObject) (t : ℕ) (e : CallContext) (o mark 
   all_after forms = forms_marked o m v.forms (subst (IsMark w.shape) (sym (ap read_mark zero_now ∙ mark_zero)) tt)
   all_after biases = biases_by_marks (marks w) (marks x) (lock w) (lock w) _ _ _ _ (λ i b. (bias_back w o m t l new.unbiased i b).1) (λ i y g b. g) v.biases
   all_after inflating = one_law
-  all_after recursions = recursions_stand step (subst IsAside (sym may.calm) calm_aside) (record {
-    ahead = λ i. refl;
-    lowered = λ i. refl;
-    waits = λ i c. cc c;
-    resumes = λ i c. cc c;
-    takes_over = λ i c. cc c;
-  })
+  all_after recursions = recursions_stand step (subst IsAside (sym may.calm) (aside_by Settled refl)) (aside_by (Inflates o u p) refl)
       (recursions_by_marks (marks w) (marks x) names _ (lock w) (lock w) _ _ _ _ _ _ (λ i y g. g) (λ i a n. refl) v.recursions)
   all_after hashes = hashes_by_marks (marks w) (marks x) (lock w) (lock w) _ _ _ _ (bias_before w o m t l old.unbiased) (λ i u q r. r) v.hashes
   all_after classes = classes_by_marks w.biasing _ _ _ (marks w) (marks x) _ _ (bias_forth w o m t l new.unbiased) v.classes
