@@ -1,4 +1,5 @@
 -- Bias owners: a step that logs an entry and one that logs nothing keep that each has taken its bias.
+use Rattle.std.specs.List.{list_any}
 use Rattle.std.proofs.Common.{◌≡◌, ◌≢◌, ◌⊎◌, ℕ, ◌||◌, eq-eqb, Bool, true, false, List, [], ◌∷◌, ◌++◌, Option, Some, None, refl, sym, ap, ◌∙◌, subst, inl, inr}
 use Rattle.mark_word.specs.declared.mark.MarkForm.{MarkForm}
 use Rattle.mark_word.specs.declared.mark.MarkForm.TheVariants.{Inflating, Neutral, Anonymous, Biased, Locked, Inflated, Marked}
@@ -32,24 +33,27 @@ unbiased_unowned n h = by_form (read_mark n) h
     by_form (Some Marked) e = refl
 
 -- A LOG WITH ONE ENTRY MORE
-taken_push : (o : ℕ) (log : List Logged) (y : Logged) → has_taken o (log ++ y ∷ []) ≡ (has_taken o log || takes_bias o y.entry)
-taken_push o [] y = at (takes_bias o y.entry)
+-- a test of one of a log's entries
+pub any_logged : (p : Logged → Bool) (log : List Logged) (y : Logged) → list_any p (log ++ y ∷ []) ≡ (list_any p log || p y)
+any_logged p [] y = at (p y)
   where
     at : (b : Bool) → (b || false) ≡ (false || b)
     at true = refl
     at false = refl
-taken_push o (x ∷ log) y = at (takes_bias o x.entry) (taken_push o log y)
+any_logged p (x ∷ log) y = at (p x) (any_logged p log y)
   where
-    at : (b : Bool) → has_taken o (log ++ y ∷ []) ≡ (has_taken o log || takes_bias o y.entry)
-        → (b || has_taken o (log ++ y ∷ [])) ≡ ((b || has_taken o log) || takes_bias o y.entry)
+    at : (b : Bool) → list_any p (log ++ y ∷ []) ≡ (list_any p log || p y) → (b || list_any p (log ++ y ∷ [])) ≡ ((b || list_any p log) || p y)
     at true h = refl
     at false h = h
 
-or_left : (a b : Bool) → a ≡ true → (a || b) ≡ true
+taken_push : (o : ℕ) (log : List Logged) (y : Logged) → has_taken o (log ++ y ∷ []) ≡ (has_taken o log || takes_bias o y.entry)
+taken_push o = any_logged (λ z. takes_bias o z.entry)
+
+pub or_left : (a b : Bool) → a ≡ true → (a || b) ≡ true
 or_left true b e = refl
 or_left false b e = absurd (cc e)
 
-or_right : (a b : Bool) → b ≡ true → (a || b) ≡ true
+pub or_right : (a b : Bool) → b ≡ true → (a || b) ≡ true
 or_right true b e = refl
 or_right false b e = e
 

@@ -1,13 +1,13 @@
 -- A step of one thread, field by field: what its thread knows afterwards is what it knew, but for the fields that the step names.
 use Rattle.core_locks.proofs.Prelude.{◌≡◌, ◌≢◌, ◌⊎◌, ℕ, ◌+◌, ◌<◌, ◌≤◌, ◌==◌, eq-eqb, ne_eqb, Bool, true, false, cond, List, length, Option}
 use Rattle.core_locks.proofs.Prelude.{Some, None, refl, sym, ap, ◌∙◌, subst, arith, inl, inr, is_listed, PlainObject, Logged, WordId, Safepoint}
-use Rattle.core_locks.proofs.Prelude.{Stamp, Waiting, Length, Stage, Resumes, Waits, OwnerConverted, RecursionsRaised, RecursionsLowered, Notifies, Revokes, monitor_in}
+use Rattle.core_locks.proofs.Prelude.{Stamp, Waiting, Length, Stage, Resumes, Waits, OwnerConverted, Notifies, Revokes, monitor_in}
 use Rattle.core_locks.proofs.Prelude.{enters_on, is_halted, inflation_in, notification_in, revocation_in, ThreadView, World, with_known, logs}
 use Rattle.core_locks.proofs.Prelude.{marks, monitor_of, waits_at, notified_at, Fits, SeenFit, WaitsFit, ends, IsUnfinished, StoppedAreQuiet}
 use Rattle.core_locks.proofs.Prelude.{SafepointIsKnown, StampsFit, lets_go, LengthsFit, log_limit, first_known, Unfinished, by_equal}
 use Rattle.core_locks.proofs.Prelude.{each_with_known, with_known_else, stamp_goes_on, ShotsFit, Hold, hold_words_ahead, hold_count}
 use Rattle.core_locks.proofs.Prelude.{holds_by_monitor, HoldsFitLogs, recursions_ahead, recursions_lowered, Lock, OwnedBy, recursion_count}
-use Rattle.core_locks.proofs.Prelude.{RecursionsFit, Exits, is_thread, owner_at, ◌||◌, bears, LocksArePlain, IsQuiet}
+use Rattle.core_locks.proofs.Prelude.{RecursionsFit, RecursionsRaised, RecursionsLowered, Exits, is_thread, owner_at, ◌||◌, bears, LocksArePlain, IsQuiet}
 use Rattle.core_world.specs.declared.heap_call.Operation.TheVariants as op
 use Rattle.core_world.proofs.shot.ShotsStay.{shots_go_on}
 use Rattle.core_locks.proofs.Clauses.{Parts, parts_of, Clause, absent, safe, quiet, waits, stamps, shots, Holds, AllHold, clauses, fits}

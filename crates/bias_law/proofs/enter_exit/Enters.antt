@@ -22,6 +22,7 @@ use Rattle.plain_history.specs.EnterPaths.{EndsStay, first_path, ends_bias, need
 use Rattle.bias_law.specs.Moves.{LockFitsMark, BiasesKept, OthersStay, LogsEntry}
 use Rattle.core_world.proofs.KnowledgeParts.{by_equal}
 use Rattle.plain_history.proofs.EntriesOn.{any_push, stays_push, first_stays, first_new}
+use Rattle.bias_law.proofs.Owners.{any_logged, or_left, or_right}
 
 pub anonymous_is_biased : (n : ℕ) → is_anonymous n ≡ true → is_biased n ≡ true
 anonymous_is_biased n e = by_form (read_mark n) e
@@ -40,27 +41,9 @@ either : (a b : Bool) → (a || b) ≡ true → (a ≡ true) ⊎ (b ≡ true)
 either true b e = inl refl
 either false b e = inr e
 
-or_left : (a b : Bool) → a ≡ true → (a || b) ≡ true
-or_left true b e = refl
-or_left false b e = absurd (cc e)
-
-or_right : (a b : Bool) → b ≡ true → (a || b) ≡ true
-or_right true b e = refl
-or_right false b e = e
-
 -- a log with one more entry
 hash_push : (i : ℕ) (log : List Logged) (y : Logged) → has_hash i (log ++ y ∷ []) ≡ (has_hash i log || is_hash i y.entry)
-hash_push i [] y = at (is_hash i y.entry)
-  where
-    at : (b : Bool) → (b || false) ≡ (false || b)
-    at true = refl
-    at false = refl
-hash_push i (x ∷ log) y = at (is_hash i x.entry) (hash_push i log y)
-  where
-    at : (b : Bool) → has_hash i (log ++ y ∷ []) ≡ (has_hash i log || is_hash i y.entry)
-        → (b || has_hash i (log ++ y ∷ [])) ≡ ((b || has_hash i log) || is_hash i y.entry)
-    at true h = refl
-    at false h = h
+hash_push i = any_logged (λ z. is_hash i z.entry)
 
 -- the three kinds of paths
 kind_of : (path : Path) → (path ≡ BiasTaken) ⊎ ((path ≡ BiasOwn) ⊎ (is_by_bias path ≡ false))

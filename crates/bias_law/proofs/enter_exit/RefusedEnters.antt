@@ -32,10 +32,7 @@ use Rattle.core_locks.proofs.enter_exit.EnterFits as fits
 use Rattle.core_law.specs.BiasLaw.{BiasLawHolds, summed}
 use Rattle.core_law.specs.TakenBiases.{has_taken, times_taken}
 use Rattle.bias_law.proofs.Takings.{times_push}
-
-or_right : (a b : Bool) → b ≡ true → (a || b) ≡ true
-or_right true b e = refl
-or_right false b e = e
+use Rattle.bias_law.proofs.Owners.{or_right}
 
 -- after an entry that ended the bias no enter by a bias comes last
 ended_before : (es : List Entry) (e : Entry) → EndsStay (es ++ e ∷ []) → list_any ends_bias es ≡ true → needs_bias e ≡ true → ⊥
