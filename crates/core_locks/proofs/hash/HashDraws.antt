@@ -56,9 +56,19 @@ first_taken x t o v n none above small =
     let fits : (nat_le 1 v && nat_lt v (2 ^ 31)) ≡ true = grind (arith, nat_tests) in
     ap (λ a. with_hash x (hashed a v)) none ∙ ap (λ b. with_hash x (only_if b (Some v))) fits
 
-module _ (w : World) (P : List PlainObject) (t : ℕ) (e : CallContext) (draw : NextDraw)
-    (o old : ℕ) (at : WordId) (within : t < w.shape.threads) (may : MayHash w.shape (w.known t) o)
-    (its : IsItsNext w.start (w.known t) draw) (v : Fits w P) (hashless : hash_at P o ≡ 0) where
+-- the draw for o, which has no hash, by an exchange of this word, which is the header `old`
+pub record Drawing (w : World) (P : List PlainObject) (t : ℕ) (e : CallContext) (draw : NextDraw) (o old : ℕ) (at : WordId) : Type 0 where
+  pub within : t < w.shape.threads
+  pub may : MayHash w.shape (w.known t) o
+  pub its : IsItsNext w.start (w.known t) draw
+  pub fits : Fits w P
+  pub hashless : hash_at P o ≡ 0
+  pub hit : (w.words at == old) ≡ true
+
+module _ {w : World} {P : List PlainObject} {t : ℕ} {e : CallContext} {draw : NextDraw} {o old : ℕ} {at : WordId}
+    (drawing : Drawing w P t e draw o old at) where
+  open drawing use {within, may, its, fits as v, hashless, hit}
+
   -- the step, at the stage at which the thread stands
   abbrev pub plan : StepPlan
   plan = with_stage (w.known t).stage (draw_plan e draw at o old)
@@ -80,9 +90,8 @@ module _ (w : World) (P : List PlainObject) (t : ℕ) (e : CallContext) (draw : 
   value_small = let a = value_is in let b = hash_small (state_after (first_draw w.start t) ((w.known t).draws + 1)).w in omega (arith, a, b)
 
   -- where the exchange hits, the word spells the draw
-  pub spells : (w.words at == old) ≡ true
-      → read_mark (word_after (CompareExchange old (mark_of (Neutral draw.value 0))) (w.words at)) ≡ Some (Neutral draw.value 0)
-  spells hit =
+  pub spells : read_mark (word_after (CompareExchange old (mark_of (Neutral draw.value 0))) (w.words at)) ≡ Some (Neutral draw.value 0)
+  spells =
       let young : 0 < 16 = omega arith in
       ap (λ (b : Bool). read_mark (cond b (mark_of (Neutral draw.value 0)) (w.words at))) hit ∙ read_mark-mark_of (Neutral draw.value 0) (value_small, young)
 
@@ -128,10 +137,9 @@ module _ (w : World) (P : List PlainObject) (t : ℕ) (e : CallContext) (draw : 
   telling_it = record { free = free; logs = logs_it; owned = λ i b. absurd (cc b); stamp = refl; monitors = monitors_are }
 
   -- the step as it is written down, where it hits
-  pub exchanged : (w.words at == old) ≡ true
-      → Fits (with_word_and_known at (word_after (CompareExchange old (mark_of (Neutral draw.value 0))) (w.words at)) t l w) Q
+  pub exchanged : Fits (with_word_and_known at (word_after (CompareExchange old (mark_of (Neutral draw.value 0))) (w.words at)) t l w) Q
       → Logs w P t (draw_plan e draw at o old) (entry.Hash o draw.value (Some draw.number))
-  exchanged hit fits =
+  exchanged fits =
       let hits_so : known_hit w.shape w.start plan (w.words at) (w.known t) ≡ known_after w.shape w.start plan (w.words at) (w.known t) =
       ap (λ (b : Bool). cond b (known_hit w.shape w.start plan (w.words at) (w.known t))
       (known_miss w.shape w.start plan (w.words at) (w.known t))) (sym hit) in

@@ -1,15 +1,15 @@
 -- A thread exchanges the header without a hash that a monitor keeps for its object, for the same with its next draw.
 use Rattle.core_locks.proofs.Prelude.{◌≡◌, ◌≢◌, ℕ, ◌<◌, ◌==◌, eq-eqb, ne_eqb, Bool, true, false, cond, List, Option, Some, refl, sym, ap}
-use Rattle.core_locks.proofs.Prelude.{◌∙◌, inl, inr, same_Some, MarkForm, read_mark, mark_of, Neutral, Inflated, PlainObject, Logged, Header, StepPlan}
+use Rattle.core_locks.proofs.Prelude.{◌∙◌, inl, inr, same_Some, MarkForm, read_mark, mark_of, Neutral, Inflated, PlainObject, Header}
 use Rattle.core_locks.proofs.Prelude.{is_biased, is_neutral, hash_in, monitor_in, is_biased_form, monitor_form, hash_form, is_neutral_form}
 use Rattle.core_locks.proofs.Prelude.{Inflation, word_after, ThreadView, World, with_word_and_known, header, header_form, marks, displaced_words}
-use Rattle.core_locks.proofs.Prelude.{headers, inflations, owner_at, hash_at, Stays, IsKeptOrNamed, CallContext, with_stage, known_hit, Fits}
+use Rattle.core_locks.proofs.Prelude.{headers, inflations, owner_at, hash_at, Stays, IsKeptOrNamed, CallContext, Fits}
 use Rattle.core_locks.proofs.Prelude.{SeenFit, CompareExchange, NextDraw, fits_running, inflated_form, miss_valid, Logs, SawInflated, MayHash}
 use Rattle.core_locks.proofs.Prelude.{IsItsNext, draw_plan, eqb-true, KeepsValid, LogsValid, MayDrawInMonitor}
 use Rattle.plain_monitor.specs.declared.entry.Entry.TheVariants as entry
 use Rattle.core_locks.proofs.Clauses.{seen, biases, monitors, hashes, AllHold}
-use Rattle.core_locks.proofs.hash.HashDraws.{IsBlank, Q as objects, y as its_entry, spells, telling_it, exchanged}
-use Rattle.core_locks.proofs.hash.HashDraws.{slots_drawn, draws_law, biases_drawn, hashes_drawn}
+use Rattle.core_locks.proofs.hash.HashDraws.{Drawing, IsBlank, plan as its_plan, l as its_known, Q as objects, y as its_entry}
+use Rattle.core_locks.proofs.hash.HashDraws.{spells, telling_it, exchanged, slots_drawn, draws_law, biases_drawn, hashes_drawn}
 use Rattle.core_locks.proofs.hash.HashFinds.{mark_is, header_is}
 use Rattle.core_locks.proofs.telling.Tells.{IsTelling, told_parts, told_are, told_step}
 use Rattle.core_locks.proofs.MarkMeanings.{each_set}
@@ -42,26 +42,20 @@ module _ (w : World) (P : List PlainObject) (t : ℕ) (e : CallContext) (draw : 
   abbrev n : ℕ
   n = word_after (CompareExchange old (mark_of (Neutral draw.value 0))) (w.words (Header m))
 
-  abbrev plan : StepPlan
-  plan = with_stage (w.known t).stage (draw_plan e draw (Header m) o old)
+  drawing : Drawing w P t e draw o old (Header m)
+  drawing = record { within = within; may = may; its = its; fits = v; hashless = hashless; hit = hit }
 
   abbrev l : ThreadView
-  l = known_hit w.shape w.start plan (w.words (Header m)) (w.known t)
+  l = its_known drawing
 
   abbrev x : World
   x = with_word_and_known (Header m) n t l w
 
-  abbrev Q : List PlainObject
-  Q = objects w P t e draw o old (Header m) within may its v hashless
-
-  abbrev entry_told : Logged
-  entry_told = its_entry w P t e draw o old (Header m) within may its v hashless
-
-  tells : IsTelling w P Q t entry_told l
-  tells = telling_it w P t e draw o old (Header m) within may its v hashless
+  tells : IsTelling w P (objects drawing) t (its_entry drawing) l
+  tells = telling_it drawing
 
   spelled : read_mark n ≡ Some (Neutral draw.value 0)
-  spelled = spells w P t e draw o old (Header m) within may its v hashless hit
+  spelled = spells drawing
 
   step : IsStep w t l telling
   step = record { within = within; mine = refl; others = λ k. refl }
@@ -86,25 +80,22 @@ module _ (w : World) (P : List PlainObject) (t : ℕ) (e : CallContext) (draw : 
   uncounted u s d (inr a) is = a.2
 
   seen_law : SeenFit x P
-  seen_law = let by : IsKeptOrNamed w (w.known t) m = inr (o, named) in own_seen w P t plan (search (may.runs, by, uncounted)) v
+  seen_law = let by : IsKeptOrNamed w (w.known t) m = inr (o, named) in own_seen w P t (its_plan drawing) (search (may.runs, by, uncounted)) v
 
   all_after : AllHold (told_parts step tells x.words)
   all_after seen = seen_next step x.words P seen_law
-  all_after biases = biases_drawn w P t e draw o old (Header m) within may its v hashless
-      (marks w) (λ i b. (λ s. absurd (cc (ap (λ j. is_biased (marks w j)) (sym s) ∙ b, unbiased)), b))
+  all_after biases = biases_drawn drawing (marks w) (λ i b. (λ s. absurd (cc (ap (λ j. is_biased (marks w j)) (sym s) ∙ b, unbiased)), b))
   all_after monitors = record {
     own = v.monitors.own;
     neutral = λ i a s. each_set (λ b y. is_neutral (headers w b) ≡ true → is_neutral y ≡ true) m n
         (headers w) a (λ g. ap is_neutral_form spelled) (λ d g. g) (v.monitors.neutral i a s);
     alone = v.monitors.alone;
   }
-  all_after hashes = hashes_drawn w P t e draw o old (Header m) within may its v hashless (marks w) (header z) (λ i b. b) header_here header_else
-  all_after c = told_step step tells v (slots_drawn w P t e draw o old (Header m) within may its v hashless)
-      (draws_law w P t e draw o old (Header m) within may its v hashless) c
+  all_after hashes = hashes_drawn drawing (marks w) (header z) (λ i b. b) header_here header_else
+  all_after c = told_step step tells v (slots_drawn drawing) (draws_law drawing) c
 
   pub drawn_logs : Logs w P t (draw_plan e draw (Header m) o old) (entry.Hash o draw.value (Some draw.number))
-  drawn_logs = exchanged w P t e draw o old (Header m) within may its v hashless hit
-      (step_fits step x.words Q (told_parts step tells x.words) (told_are step tells x.words) all_after)
+  drawn_logs = exchanged drawing (step_fits step x.words (objects drawing) (told_parts step tells x.words) (told_are step tells x.words) all_after)
 
 -- THE LAW, where the exchange hits;
 pub draws_header : (e : CallContext) (draw : NextDraw) (o m header : ℕ)

@@ -1,15 +1,15 @@
 -- A thread exchanges a neutral mark without a hash for the same with its next draw.
 use Rattle.core_locks.proofs.Prelude.{◌≡◌, ◌≢◌, ℕ, ◌<◌, ◌==◌, eq-eqb, ne_eqb, Bool, true, cond, List, Some, refl, sym, ap, ◌∙◌, subst, inl}
-use Rattle.core_locks.proofs.Prelude.{eqb-true, same_Some, read_mark, mark_of, Neutral, PlainObject, Logged, Mark, StepPlan, is_neutral, hash_in}
+use Rattle.core_locks.proofs.Prelude.{eqb-true, same_Some, read_mark, mark_of, Neutral, PlainObject, Mark, is_neutral, hash_in}
 use Rattle.core_locks.proofs.Prelude.{monitor_in, hash_form, is_neutral_form, word_after, ThreadView, World, with_word_and_known, lock, lock_form}
 use Rattle.core_locks.proofs.Prelude.{header, header_form, marks, displaced_words, headers, owner_words, prototype_of, inflations, owner_at}
-use Rattle.core_locks.proofs.Prelude.{hash_at, waits_at, inflated_to, CallContext, with_stage, known_hit, seen_before, Fits, SeenFit}
+use Rattle.core_locks.proofs.Prelude.{hash_at, waits_at, inflated_to, CallContext, seen_before, Fits, SeenFit}
 use Rattle.core_locks.proofs.Prelude.{CompareExchange, IsMark, NextDraw, fits_running, seen_is_part, Spares, seen_moves, counts_more, miss_valid}
 use Rattle.core_locks.proofs.Prelude.{unwaited_fits, Logs, LogsValid, KeepsValid, MayHash, IsItsNext, MayDrawInMark, draw_plan}
 use Rattle.plain_monitor.specs.declared.entry.Entry.TheVariants as entry
 use Rattle.core_locks.proofs.Clauses.{Parts, parts_of, seen, forms, biases, inflating, recursions, hashes, classes, AllHold}
-use Rattle.core_locks.proofs.hash.HashDraws.{IsBlank, Q as objects, y as its_entry, spells, telling_it, exchanged}
-use Rattle.core_locks.proofs.hash.HashDraws.{slots_drawn, draws_law, biases_drawn, hashes_drawn}
+use Rattle.core_locks.proofs.hash.HashDraws.{Drawing, IsBlank, plan as its_plan, l as its_known, Q as objects, y as its_entry}
+use Rattle.core_locks.proofs.hash.HashDraws.{spells, telling_it, exchanged, slots_drawn, draws_law, biases_drawn, hashes_drawn}
 use Rattle.core_locks.proofs.telling.Tells.{IsTelling, told_parts, told_are, told_step}
 use Rattle.core_locks.proofs.MarkMeanings.{forms_marked, each_set, IsBare, neutral_bare, neutral_some, neutral_lock, neutral_header}
 use Rattle.core_locks.proofs.MarkChanges.{names_same, bias_back, bias_forth, bias_before, zero_back, zero_forth, mark_back}
@@ -37,26 +37,20 @@ module _ (w : World) (P : List PlainObject) (t : ℕ) (e : CallContext) (draw : 
   abbrev m : ℕ
   m = word_after (CompareExchange mark (mark_of (Neutral draw.value 0))) (w.words (Mark o))
 
-  abbrev plan : StepPlan
-  plan = with_stage (w.known t).stage (draw_plan e draw (Mark o) o mark)
+  drawing : Drawing w P t e draw o mark (Mark o)
+  drawing = record { within = within; may = may; its = its; fits = v; hashless = hashless; hit = hit }
 
   abbrev l : ThreadView
-  l = known_hit w.shape w.start plan (w.words (Mark o)) (w.known t)
+  l = its_known drawing
 
   abbrev x : World
   x = with_word_and_known (Mark o) m t l w
 
-  abbrev Q : List PlainObject
-  Q = objects w P t e draw o mark (Mark o) within may its v hashless
-
-  abbrev entry_told : Logged
-  entry_told = its_entry w P t e draw o mark (Mark o) within may its v hashless
-
-  tells : IsTelling w P Q t entry_told l
-  tells = telling_it w P t e draw o mark (Mark o) within may its v hashless
+  tells : IsTelling w P (objects drawing) t (its_entry drawing) l
+  tells = telling_it drawing
 
   spelled : read_mark m ≡ Some (Neutral draw.value 0)
-  spelled = spells w P t e draw o mark (Mark o) within may its v hashless hit
+  spelled = spells drawing
 
   now_neutral : is_neutral m ≡ true
   now_neutral = ap is_neutral_form spelled
@@ -102,7 +96,7 @@ module _ (w : World) (P : List PlainObject) (t : ℕ) (e : CallContext) (draw : 
 
   seen_law : SeenFit x P
   seen_law =
-      seen_moves plan (w.words (Mark o)) t l w (owner_at P) (owner_at P) (waits_at P) (waits_at P) (seen_before w.shape (w.known t)) refl
+      seen_moves (its_plan drawing) (w.words (Mark o)) t l w (owner_at P) (owner_at P) (waits_at P) (waits_at P) (seen_before w.shape (w.known t)) refl
       (counts_more (Mark o) m t l w (owner_at P) (owner_at P) (waits_at P) (waits_at P) (seen_before w.shape (w.known t)) (seen_is_part w.shape (w.known t))
       (mark_back w o m t l (w.known t) l (owner_at P) (owner_at P) t (λ i a n. names i ∙ n) refl refl refl (λ a. a) refl (λ i h. h) (λ i a n h. h))
       (λ a h. inl h) (λ a r h. absurd (cc h))
@@ -113,25 +107,23 @@ module _ (w : World) (P : List PlainObject) (t : ℕ) (e : CallContext) (draw : 
   abbrev drawn_parts : Parts
   drawn_parts = record (told_parts step tells x.words) { inflated = inflated_to w; lock = lock w }
 
-  parts : parts_of z Q ≡ drawn_parts
+  parts : parts_of z (objects drawing) ≡ drawn_parts
   parts = told_are step tells x.words
       ∙ (λ j. record (told_parts step tells x.words) { inflated = λ i. sym (names i) j; lock = λ i. lock_at i j })
 
   all_after : AllHold drawn_parts
   all_after seen = seen_next step x.words P seen_law
   all_after forms = forms_marked o m v.forms (subst (IsMark w.shape) (sym spelled) refl)
-  all_after biases = biases_drawn w P t e draw o mark (Mark o) within may its v hashless (marks x) (bias_back w o m t l new_bare.unbiased)
+  all_after biases = biases_drawn drawing (marks x) (bias_back w o m t l new_bare.unbiased)
   all_after inflating = inflating_by_marks (marks w) (marks x) _ _ (zero_back w o m t l (neutral_some m now_neutral))
       (zero_forth w o m t l (neutral_some (marks w o) was_neutral)) v.inflating
   all_after recursions = recursions_by_marks (marks w) (marks x) names _ (lock w) (lock w) _ _ _ _ _ _ (λ i u g. g) (λ i a n. refl) v.recursions
-  all_after hashes = hashes_drawn w P t e draw o mark (Mark o) within may its v hashless
-      (marks x) (header z) (bias_before w o m t l old_bare.unbiased) header_here header_else
+  all_after hashes = hashes_drawn drawing (marks x) (header z) (bias_before w o m t l old_bare.unbiased) header_here header_else
   all_after classes = classes_by_marks w.biasing _ _ _ (marks w) (marks x) _ _ (bias_forth w o m t l new_bare.unbiased) v.classes
-  all_after c = told_step step tells v
-      (slots_drawn w P t e draw o mark (Mark o) within may its v hashless) (draws_law w P t e draw o mark (Mark o) within may its v hashless) c
+  all_after c = told_step step tells v (slots_drawn drawing) (draws_law drawing) c
 
   pub drawn_logs : Logs w P t (draw_plan e draw (Mark o) o mark) (entry.Hash o draw.value (Some draw.number))
-  drawn_logs = exchanged w P t e draw o mark (Mark o) within may its v hashless hit (step_fits step x.words Q drawn_parts parts all_after)
+  drawn_logs = exchanged drawing (step_fits step x.words (objects drawing) drawn_parts parts all_after)
 
 -- THE LAW, where the exchange hits;
 pub draws_mark : (e : CallContext) (draw : NextDraw) (o mark : ℕ)
