@@ -12,7 +12,7 @@ use Rattle.core_locks.proofs.MarkChanges.{bias_before, zero_back, zero_forth, lo
 use Rattle.core_locks.proofs.MarkMeanings.{forms_marked, IsBare, bare_unnamed, neutral_is, neutral_bare, neutral_some, neutral_lock}
 use Rattle.core_locks.proofs.MarkMeanings.{neutral_header, locked_read, locked_bare, locked_some, locked_lock, locked_header}
 use Rattle.core_locks.proofs.enter_exit.ExitEntries.{objects_where, exit_parts, exit_are, own_displaced}
-use Rattle.core_locks.proofs.enter_exit.LastExit.{freed, MayExit, IsExit, inside, letting_go_taken as takes_exit}
+use Rattle.core_locks.proofs.enter_exit.LastExit.{freed, IsLastExit, inside, letting_go_taken as takes_exit}
 use Rattle.core_locks.proofs.enter_exit.LastExit.{owner_back, was_locked, recursions_law, last_step}
 use Rattle.core_locks.proofs.Clauses.{parts_of, seen, forms, biases, inflating, recursions, hashes, classes, AllHold}
 use Rattle.core_locks.proofs.OwnSeen.{either}
@@ -35,17 +35,14 @@ module _ (w : World) (P : List PlainObject) (t : ℕ) (e : CallContext) (o h s p
   step : IsStep w t l noting
   step = record { within = within; mine = refl; others = λ k. refl }
 
-  may_exit : MayExit w.shape (w.known t) o s
-  may_exit = search may
-
-  exit_it : IsExit (w.known t) l o p
-  exit_it = record { grows = refl; stage = refl; draws = refl }
+  last_exit : IsLastExit w P t l noting o p s
+  last_exit = record { step = step; may = search may; exits = record { grows = refl; stage = refl; draws = refl }; fits = v }
 
   letting_go_taken : take_entry P t (Exit o) ≡ Some Q
-  letting_go_taken = takes_exit step P o p s may_exit exit_it v
+  letting_go_taken = takes_exit last_exit
 
   owner_gone : (i u : ℕ) → owner_at Q i u ≡ true → (i ≢ o) × (owner_at P i u ≡ true)
-  owner_gone = owner_back step P o p s may_exit exit_it v
+  owner_gone = owner_back last_exit
 
   -- the marks: the old one names the thread's record, and the new one is the header that this record displaced
   old_form : read_mark (marks w o) ≡ Some (Locked t p)
@@ -123,19 +120,19 @@ module _ (w : World) (P : List PlainObject) (t : ℕ) (e : CallContext) (o h s p
       (λ i u f b. lock_else w o h t l inflation i (bias_back w o h t l new.unbiased i b).0 ∙ f) v.biases
   all_after inflating = inflating_by_marks (marks w) (marks x) (λ u. inflation_in (w.known u).stage)
       (inflations w) (zero_back w o h t l (neutral_some h neutral)) (zero_forth w o h t l old_some) v.inflating
-  all_after recursions = recursions_law step P o p s may_exit exit_it v holder_is (lock x) lock_now (marks x) (λ i a f. names i ∙ f)
+  all_after recursions = recursions_law last_exit holder_is (lock x) lock_now (marks x) (λ i a f. names i ∙ f)
       (λ a f. absurd (bare_unnamed (marks w o) a old (names o ∙ f)))
   all_after hashes = hashes_by_marks (marks w) (marks x) (lock w) (lock x) _ _ _ _ (bias_before w o h t l old.unbiased)
-      (λ i u q f. (was_locked step P o p s may_exit exit_it v holder_is (lock x) lock_now i (OnRecord u q) f (λ g. cc g)).1) v.hashes
+      (λ i u q f. (was_locked last_exit holder_is (lock x) lock_now i (OnRecord u q) f (λ g. cc g)).1) v.hashes
   all_after classes = classes_by_marks w.biasing (λ c. w.words (Prototype c)) (λ c. w.words (Revocations c)) (λ c. w.words (LastBulk c))
       (marks w) (marks x) (bulk_rebiases w.shape.threads (λ u. (w.known u).counts)) (bulk_revokes w.shape.threads (λ u. (w.known u).counts))
       (bias_forth w o h t l new.unbiased) v.classes
-  all_after c = last_step step P o p s may_exit exit_it v holder_is (lock x) lock_now c
+  all_after c = last_step last_exit holder_is (lock x) lock_now c
 
   letting_go_fits : Fits x Q
   letting_go_fits =
       step_fits step x.words Q (exit_parts w (stepped w t l x.words) P (lock x) (parts_of n Q))
-      (exit_are step x.words P o (freed P o) (inside step P o p s may_exit exit_it v) refl refl
+      (exit_are step x.words P o (freed P o) (inside last_exit) refl refl
       (lock x) (inflates_stay step (sym (ap inflation_in may.calm))) (λ j. λ i. sym (names i) j)
       (λ j. lock (sym (next_is step x.words) j)) ((λ j. header (sym (next_is step x.words) j)) ∙ sym header_is)) all_after
 

@@ -55,8 +55,15 @@ pub record IsExit (k l : ThreadView) (o p : ℕ) : Type 0 where
   pub stage : l.stage ≡ Exits o p
   pub draws : l.draws ≡ k.draws
 
-module _ {w : World} {t : ℕ} {l : ThreadView} {fields : Fields} (step : IsStep w t l fields) (P : List PlainObject)
-    (o p s : ℕ) (may : MayExit w.shape (w.known t) o s) (a : IsExit (w.known t) l o p) (v : Fits w P) where
+pub record IsLastExit (w : World) (P : List PlainObject) (t : ℕ) (l : ThreadView) (fields : Fields) (o p s : ℕ) : Type 0 where
+  pub step : IsStep w t l fields
+  pub may : MayExit w.shape (w.known t) o s
+  pub exits : IsExit (w.known t) l o p
+  pub fits : Fits w P
+
+module _ {w : World} {P : List PlainObject} {t : ℕ} {l : ThreadView} {fields : Fields} {o p s : ℕ} (last_exit : IsLastExit w P t l fields o p s) where
+  open last_exit use {step, may, exits as a, fits as v}
+
   abbrev y : Logged
   y = exit_entry (w.known t) o
 

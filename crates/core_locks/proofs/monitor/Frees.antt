@@ -7,7 +7,7 @@ use Rattle.core_locks.proofs.Prelude.{CallContext, known_hit, Fits, IsOwner, own
 use Rattle.core_locks.proofs.Clauses.{parts_of, seen, forms, biases, recursions, hashes, AllHold}
 use Rattle.core_locks.proofs.enter_exit.ExitEntries.{objects_where, exit_parts, exit_are}
 use Rattle.core_locks.proofs.enter_exit.HoldWays.{saw_inflated, saw_thread_owns}
-use Rattle.core_locks.proofs.enter_exit.LastExit.{freed, MayExit, IsExit, inside, owned as owned_before, letting_go_taken as takes_exit}
+use Rattle.core_locks.proofs.enter_exit.LastExit.{freed, IsLastExit, inside, owned as owned_before, letting_go_taken as takes_exit}
 use Rattle.core_locks.proofs.enter_exit.LastExit.{owner_back, was_locked, recursions_law, last_step}
 use Rattle.core_locks.proofs.MarkChanges.{biases_by_marks, hashes_by_marks}
 use Rattle.core_locks.proofs.LockTurns.{LockTurn}
@@ -34,17 +34,14 @@ module _ (w : World) (P : List PlainObject) (t : ℕ) (e : CallContext) (o c p s
   step : IsStep w t l noting
   step = record { within = within; mine = refl; others = λ k. refl }
 
-  may_exit : MayExit w.shape (w.known t) o s
-  may_exit = search may
-
-  exit_it : IsExit (w.known t) l o p
-  exit_it = record { grows = refl; stage = refl; draws = refl }
+  last_exit : IsLastExit w P t l noting o p s
+  last_exit = record { step = step; may = search may; exits = record { grows = refl; stage = refl; draws = refl }; fits = v }
 
   owned : (owner_at P o t ≡ true) × (hold_count o (w.known t).holds ≡ (monitor_of P o).count)
-  owned = owned_before step P o p s may_exit exit_it v
+  owned = owned_before last_exit
 
   letting_go_taken : take_entry P t (Exit o) ≡ Some Q
-  letting_go_taken = takes_exit step P o p s may_exit exit_it v
+  letting_go_taken = takes_exit last_exit
 
   -- THE LOCK was the thread's by the monitor, and is open
   mark_names : monitor_in (marks w o) ≡ Some c
@@ -76,7 +73,7 @@ module _ (w : World) (P : List PlainObject) (t : ℕ) (e : CallContext) (o c p s
       → (owner_at P i t || bears (w.known t).stage i) ≡ true = λ i h. ap (λ f. owner_at P i t || bears f i) may.calm ∙ h in
       let named : IsKeptOrNamed w (w.known t) c = inr (o, mark_names) in
       seen_as w P t plan (search (may.runs, inflates, held, named, uncounted_held w P t o c v mark_names holder_is (Owner c) refl)) (owner_at Q)
-      (λ i u h. (owner_back step P o p s may_exit exit_it v i u h).1) (waits_at P) (λ i h. h) v
+      (λ i u h. (owner_back last_exit i u h).1) (waits_at P) (λ i h. h) v
 
   abbrev n : World
   n = next w t l noting x.words
@@ -85,17 +82,17 @@ module _ (w : World) (P : List PlainObject) (t : ℕ) (e : CallContext) (o c p s
   all_after seen = holds_next step (λ y. SeenStays y (owner_at Q) (waits_at P)) x.words seen_law
   all_after forms = forms_owned c 0 v.forms (subst (IsOwner w.shape) (sym owner_zero) tt)
   all_after biases = biases_by_marks (marks w) (marks w) (lock w) locks _ _ _ _ (λ i b. b) (λ i u g b. forth i (BiasedTo u) g (λ c. cc c)) v.biases
-  all_after recursions = recursions_law step P o p s may_exit exit_it v holder_is locks now (marks w)
+  all_after recursions = recursions_law last_exit holder_is locks now (marks w)
       (λ i a h. h) (λ a h. ap (λ k. w.words (Recursions k)) (same_Some _ _ (sym h ∙ mark_names)) ∙ count_zero)
   all_after hashes = hashes_by_marks (marks w) (marks w) (lock w) locks _ _ _ _ (λ i b. b)
-      (λ i u q f. (was_locked step P o p s may_exit exit_it v holder_is locks now i (OnRecord u q) f (λ g. cc g)).1) v.hashes
-  all_after c = last_step step P o p s may_exit exit_it v holder_is locks now c
+      (λ i u q f. (was_locked last_exit holder_is locks now i (OnRecord u q) f (λ g. cc g)).1) v.hashes
+  all_after c = last_step last_exit holder_is locks now c
 
   freed_fits : Fits x Q
   freed_fits =
       let stay = inflates_stay step (sym (ap inflation_in may.calm)) in
       step_fits step x.words Q (exit_parts w (stepped w t l x.words) P locks (parts_of n Q))
-      (exit_are step x.words P o (freed P o) (inside step P o p s may_exit exit_it v) refl refl locks stay refl
+      (exit_are step x.words P o (freed P o) (inside last_exit) refl refl locks stay refl
       (locks_turn w t noting c 0 l stay) (heads_turn w t noting c 0 l stay)) all_after
 
 -- the law
