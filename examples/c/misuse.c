@@ -216,6 +216,20 @@ static void unfinished(biasrun_handle *a, biasrun_handle *b) {
     PENDING(biasrun_resume(a), BIASRUN_REQUESTED);
     PENDING(biasrun_enter(b, 0, 1), BIASRUN_OWNED);
     DONE(biasrun_resume(a));
+    DONE(biasrun_stop(b));
+    MISUSE(biasrun_leave(b), BIASRUN_UNFINISHED);
+    DONE(biasrun_resume(b));
+}
+
+/* a looks whether all stand still, for which b has to stop. It holds the object and could go on, so nobody is stuck. */
+static void looks(biasrun_handle *a, biasrun_handle *b) {
+    PENDING(biasrun_check_stuck(a), BIASRUN_STOPPING);
+    MISUSE(biasrun_exit(a, 0), BIASRUN_CHECK_UNFINISHED);
+    MISUSE(biasrun_print(a, number(1)), BIASRUN_CHECK_UNFINISHED);
+    MISUSE(biasrun_stop(a), BIASRUN_ASKING);
+    DONE(biasrun_stop(b));
+    want("check_stuck", biasrun_check_stuck(a), BIASRUN_DONE, 0);
+    DONE(biasrun_resume(b));
 }
 
 /* Enters stop while the page has room for the exits; those are never full. A page that is handed out makes room. */
@@ -357,6 +371,7 @@ int main(void) {
     operands(&a);
     values(&a);
     unfinished(&a, &b);
+    looks(&a, &b);
     room(&a);
     ends(&heap, &a, &b);
     closed(&heap);
