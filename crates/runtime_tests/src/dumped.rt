@@ -1,6 +1,7 @@
 //! Dumps of who has which object.
-use crate::calls::{DONE, begin, dump, enter, entered, resume, stop};
 use crate::compare::{holds, same};
+use crate::lab::Lab;
+use crate::lab::Thread::{First, Second};
 use core_world::{Progress, TooManyDumps};
 use heap_table::Cell;
 use plain_monitor::Path;
@@ -23,23 +24,23 @@ fn owns_alone(cells: &[Cell], object: usize, thread: u32, count: u32) -> bool {
 
 #[test]
 fn a_dump_shows_the_owner_by_a_bias(rt: HostRuntime) -> Result<(), Fail> {
-    let (heap, mut p0, mut p1) = begin(rt.alloc(), true)?;
-    same(&rt, resume(&heap, &mut p0), DONE);
-    same(&rt, enter(&heap, &mut p0, 3, 1), entered(Path::BiasTaken));
-    same(&rt, enter(&heap, &mut p0, 3, 1), entered(Path::BiasOwn));
-    holds(&rt, stop(&heap, &mut p0));
-    same(&rt, resume(&heap, &mut p1), DONE);
-    same(&rt, dump(&heap, &mut p1), Some(Ok(Progress::Done(1))));
-    let Some(shot) = p1.shots().first() else {
+    let mut lab = Lab::begin(rt.alloc(), true)?;
+    lab.resumes(&rt, First);
+    lab.enters(&rt, First, 3, 1, Path::BiasTaken);
+    lab.enters(&rt, First, 3, 1, Path::BiasOwn);
+    lab.stops(&rt, First);
+    lab.resumes(&rt, Second);
+    same(&rt, lab.dump(Second), Some(Ok(Progress::Done(1))));
+    let Some(shot) = lab.pass(Second).shots().first() else {
         panic!(rt; "it was taken")
     };
     same(&rt, shot.number, 1);
     holds(&rt, matches!(shot.cut.items(), [2, 0]));
     same(&rt, shot.cells.items().len(), 101);
     holds(&rt, owns_alone(shot.cells.items(), 3, 0, 2));
-    same(&rt, dump(&heap, &mut p1), Some(Ok(Progress::Done(2))));
-    same(&rt, dump(&heap, &mut p1), Some(Ok(Progress::Done(3))));
-    same(&rt, dump(&heap, &mut p1), Some(Ok(Progress::Done(4))));
-    same(&rt, dump(&heap, &mut p1), Some(Err(TooManyDumps)));
+    same(&rt, lab.dump(Second), Some(Ok(Progress::Done(2))));
+    same(&rt, lab.dump(Second), Some(Ok(Progress::Done(3))));
+    same(&rt, lab.dump(Second), Some(Ok(Progress::Done(4))));
+    same(&rt, lab.dump(Second), Some(Err(TooManyDumps)));
     Ok(())
 }

@@ -2,10 +2,19 @@
 ghost use Rattle.std.specs.Prelude.{◌≡◌, true, false};
 ghost use Rattle.heap_table.specs.Resting.{Rests};
 
+use crate::lab::Lab;
 use heap_table::{Closed, Heap, Pass, close};
-use plain_monitor::{List, Logged};
+use plain_monitor::List;
 use std::alloc::Global;
 use std::process::Abort;
+
+// Whether the pass is the one of this thread, which neither runs nor has a request.
+fn is_quiet(pass: &Pass, thread: u32) -> bool
+    ensures { result ≡ true → (pass.now.known.thread ≡ thread)
+        × ((pass.now.known.running ≡ false) × (pass.now.known.requesting ≡ false)) }
+{
+    pass.thread() == thread && !pass.running() && !pass.requesting()
+}
 
 // Whether the heap may be closed with these passes.
 fn may_close(heap: &Heap, first: &Pass, second: &Pass) -> bool
@@ -14,10 +23,7 @@ fn may_close(heap: &Heap, first: &Pass, second: &Pass) -> bool
         × ((first.now.known.running ≡ false) × (second.now.known.running ≡ false))
         × ((first.now.known.requesting ≡ false) × (second.now.known.requesting ≡ false)) }
 {
-    let running = first.running() || second.running();
-    let requesting = first.requesting() || second.requesting();
-    let threads = first.thread() == 0 && second.thread() == 1;
-    heap.shape().threads() == 2 && threads && !running && !requesting
+    heap.shape().threads() == 2 && is_quiet(first, 0) && is_quiet(second, 1)
 }
 
 // What is left of the heap. `None` where a thread runs or has a request, or memory is wanting.
@@ -35,11 +41,18 @@ fn try_close(alloc: Global, heap: Heap, first: Pass, second: Pass) -> Option<Clo
     None
 }
 
+// The same of what a test has, in a box again.
+fn close_lab(alloc: Global, lab: Lab) -> Option<Box<Closed>> {
+    let (heap, first, second) = lab.apart();
+    let heap = Box::into_inner(heap);
+    let first = Box::into_inner(first);
+    let second = Box::into_inner(second);
+    Box::new(alloc, try_close(alloc, heap, first, second)?).ok()
+}
+
 /// What is left of the heap. Fails the test where a thread runs or has a request, or memory is wanting.
-pub fn closed<R: Abort + AllocGlobal>(rt: &R, heap: Heap, first: Pass, second: Pass) -> Closed
-    requires { Rests heap first × Rests heap second }
-{
-    let Some(closed) = try_close(rt.alloc(), heap, first, second) else {
+pub fn closed<R: Abort + AllocGlobal>(rt: &R, lab: Lab) -> Box<Closed> {
+    let Some(closed) = close_lab(rt.alloc(), lab) else {
         panic!(rt; "both are stopped")
     };
     closed
@@ -141,17 +154,4 @@ pub fn ring(closed: &Closed, place: u32) -> Option<u64> {
     } else {
         None
     }
-}
-
-/// Whether the entries have these stamps, in order.
-pub fn has_stamps(log: &[Logged], stamps: &[u64]) -> bool {
-    if log.len() != stamps.len() {
-        return false;
-    }
-    for (logged, stamp) in log.iter().zip(stamps) {
-        if logged.stamp != *stamp {
-            return false;
-        }
-    }
-    true
 }

@@ -17,6 +17,8 @@ mod dumped;
 #[cfg(test)]
 mod hashed;
 #[cfg(test)]
+mod lab;
+#[cfg(test)]
 mod last;
 #[cfg(test)]
 mod made;

@@ -1,129 +1,106 @@
 //! Threads that wait, are notified, and are stuck.
-ghost use Rattle.heap_table.specs.Resting.{Rests};
-
-use crate::calls::{
-    DONE, LEFT, begin, check_stuck, enter, entered, exit, finish, notify, notify_all, pending,
-    print, resume, stop, wait,
-};
+use crate::calls::{LEFT, pending};
 use crate::compare::{holds, same};
-use crate::last::{closed, count, has_stamps, mark};
+use crate::lab::Thread::{First, Second};
+use crate::lab::{Lab, Thread};
+use crate::last::{closed, count, mark};
 use core_world::{IllegalMonitorState, PendingCause, Progress};
-use heap_table::{Heap, Pass};
 use plain_monitor::{Ending, Path, Value};
 use std::test::Fail;
 
 #[test]
 fn a_notified_thread_waits_for_the_monitor(rt: HostRuntime) -> Result<(), Fail> {
-    let (heap, mut p0, mut p1) = begin(rt.alloc(), false)?;
-    same(&rt, resume(&heap, &mut p0), DONE);
-    same(&rt, resume(&heap, &mut p1), DONE);
-    same(&rt, enter(&heap, &mut p0, 0, 1), entered(Path::StackFirst));
+    let mut lab = Lab::begin(rt.alloc(), false)?;
+    lab.resumes(&rt, First);
+    lab.resumes(&rt, Second);
+    lab.enters(&rt, First, 0, 1, Path::StackFirst);
     let unheard = Progress::Pending(PendingCause::NotNotified { word: 524290 });
-    same(&rt, wait(&heap, &mut p0, 0, 1), Some(Ok(unheard)));
+    same(&rt, lab.wait(First, 0, 1), Some(Ok(unheard)));
+    lab.enters(&rt, Second, 0, 1, Path::MonitorFirst);
+    lab.has_logged(&rt, Second, &[3]);
     same(
         &rt,
-        enter(&heap, &mut p1, 0, 1),
-        entered(Path::MonitorFirst),
-    );
-    holds(&rt, has_stamps(p1.log(), &[3]));
-    same(
-        &rt,
-        notify(&heap, &mut p1, 0, 1),
+        lab.notify(Second, 0, 1),
         Some(Ok(Progress::Done(Some(0)))),
     );
-    holds(&rt, has_stamps(p1.log(), &[3, 4]));
+    lab.has_logged(&rt, Second, &[3, 4]);
     let owned = Progress::Pending(PendingCause::Owned { word: 17 });
-    same(&rt, wait(&heap, &mut p0, 0, 1), Some(Ok(owned)));
-    same(&rt, exit(&heap, &mut p1, 0), LEFT);
-    holds(&rt, has_stamps(p1.log(), &[3, 4, 5]));
-    same(&rt, wait(&heap, &mut p0, 0, 1), LEFT);
-    holds(&rt, has_stamps(p0.log(), &[1, 2, 6]));
+    same(&rt, lab.wait(First, 0, 1), Some(Ok(owned)));
+    lab.leaves(&rt, Second, 0);
+    lab.has_logged(&rt, Second, &[3, 4, 5]);
+    same(&rt, lab.wait(First, 0, 1), LEFT);
+    lab.has_logged(&rt, First, &[1, 2, 6]);
+    same(&rt, lab.notify(First, 0, 1), Some(Ok(Progress::Done(None))));
     same(
         &rt,
-        notify(&heap, &mut p0, 0, 1),
-        Some(Ok(Progress::Done(None))),
-    );
-    same(
-        &rt,
-        notify_all(&heap, &mut p0, 0, 1),
+        lab.notify_all(First, 0, 1),
         Some(Ok(Progress::Done(0))),
     );
     Ok(())
 }
 
 // Prints until the log has room for so many entries. Whether it has.
-fn fill(heap: &Heap, pass: &mut Pass, room: u32) -> bool
-    requires { Rests heap.now pass.old }
-    ensures { Rests heap.now pass.new }
-{
-    for _ in 0..pass.room().saturating_sub(room) {
-        if !print(heap, pass, Value::Nil) {
+fn fill(lab: &mut Lab, thread: Thread, room: u32) -> bool {
+    for _ in 0..lab.pass(thread).room().saturating_sub(room) {
+        if !lab.print(thread, Value::Nil) {
             return false;
         }
     }
-    pass.room() == room
+    lab.pass(thread).room() == room
 }
 
 /// A wait logs two entries, in two calls here: the room that the first one needs does for both.
 #[test]
 fn a_wait_that_has_room_to_begin_has_room_to_end(rt: HostRuntime) -> Result<(), Fail> {
-    let (heap, mut p0, mut p1) = begin(rt.alloc(), false)?;
-    same(&rt, resume(&heap, &mut p0), DONE);
-    same(&rt, resume(&heap, &mut p1), DONE);
-    same(&rt, enter(&heap, &mut p0, 0, 1), entered(Path::StackFirst));
-    holds(&rt, fill(&heap, &mut p0, 2));
-    let waits = wait(&heap, &mut p0, 0, 1);
+    let mut lab = Lab::begin(rt.alloc(), false)?;
+    lab.resumes(&rt, First);
+    lab.resumes(&rt, Second);
+    lab.enters(&rt, First, 0, 1, Path::StackFirst);
+    holds(&rt, fill(&mut lab, First, 2));
+    let waits = lab.wait(First, 0, 1);
     let unheard = matches!(
         waits,
         Some(Ok(Progress::Pending(PendingCause::NotNotified { .. })))
     );
     holds(&rt, unheard);
-    same(&rt, p0.room(), 1);
+    same(&rt, lab.pass(First).room(), 1);
+    lab.enters(&rt, Second, 0, 1, Path::MonitorFirst);
     same(
         &rt,
-        enter(&heap, &mut p1, 0, 1),
-        entered(Path::MonitorFirst),
-    );
-    same(
-        &rt,
-        notify(&heap, &mut p1, 0, 1),
+        lab.notify(Second, 0, 1),
         Some(Ok(Progress::Done(Some(0)))),
     );
-    same(&rt, exit(&heap, &mut p1, 0), LEFT);
-    same(&rt, wait(&heap, &mut p0, 0, 1), LEFT);
-    same(&rt, p0.room(), 0);
+    lab.leaves(&rt, Second, 0);
+    same(&rt, lab.wait(First, 0, 1), LEFT);
+    same(&rt, lab.pass(First).room(), 0);
     Ok(())
 }
 
 /// A wait with room for one entry may not begin, and an exit may.
 #[test]
 fn a_call_begins_where_there_is_room_for_what_it_logs(rt: HostRuntime) -> Result<(), Fail> {
-    let (heap, mut p0, _) = begin(rt.alloc(), false)?;
-    same(&rt, resume(&heap, &mut p0), DONE);
-    same(&rt, enter(&heap, &mut p0, 0, 1), entered(Path::StackFirst));
-    holds(&rt, fill(&heap, &mut p0, 1));
-    same(&rt, wait(&heap, &mut p0, 0, 1), None);
-    same(&rt, exit(&heap, &mut p0, 0), LEFT);
-    holds(&rt, !print(&heap, &mut p0, Value::Nil));
+    let mut lab = Lab::begin(rt.alloc(), false)?;
+    lab.resumes(&rt, First);
+    lab.enters(&rt, First, 0, 1, Path::StackFirst);
+    holds(&rt, fill(&mut lab, First, 1));
+    same(&rt, lab.wait(First, 0, 1), None);
+    lab.leaves(&rt, First, 0);
+    holds(&rt, !lab.print(First, Value::Nil));
     Ok(())
 }
 
 #[test]
 fn a_notify_revokes_its_own_bias(rt: HostRuntime) -> Result<(), Fail> {
-    let (heap, mut p0, p1) = begin(rt.alloc(), true)?;
-    same(&rt, resume(&heap, &mut p0), DONE);
-    same(&rt, enter(&heap, &mut p0, 0, 1), entered(Path::BiasTaken));
-    same(
-        &rt,
-        notify(&heap, &mut p0, 0, 1),
-        Some(Ok(Progress::Done(None))),
-    );
-    holds(&rt, stop(&heap, &mut p0));
-    let Some(counts) = p0.counts().first() else {
+    let mut lab = Lab::begin(rt.alloc(), true)?;
+    lab.resumes(&rt, First);
+    lab.enters(&rt, First, 0, 1, Path::BiasTaken);
+    same(&rt, lab.notify(First, 0, 1), Some(Ok(Progress::Done(None))));
+    lab.stops(&rt, First);
+    let Some(counts) = lab.pass(First).counts().first() else {
         panic!(rt; "there is a class")
     };
     same(&rt, counts.single, 1);
-    let closed = closed(&rt, heap, p0, p1);
+    let closed = closed(&rt, lab);
     same(&rt, mark(&closed, 0), Some(4096));
     same(&rt, count(&closed, 0), Some(1));
     Ok(())
@@ -131,26 +108,18 @@ fn a_notify_revokes_its_own_bias(rt: HostRuntime) -> Result<(), Fail> {
 
 #[test]
 fn a_thread_without_a_hold_may_not_wait_or_notify(rt: HostRuntime) -> Result<(), Fail> {
-    let (heap, mut p0, p1) = begin(rt.alloc(), true)?;
-    same(&rt, resume(&heap, &mut p0), DONE);
+    let mut lab = Lab::begin(rt.alloc(), true)?;
+    lab.resumes(&rt, First);
+    same(&rt, lab.wait(First, 0, 1), Some(Err(IllegalMonitorState)));
+    same(&rt, lab.notify(First, 0, 1), Some(Err(IllegalMonitorState)));
     same(
         &rt,
-        wait(&heap, &mut p0, 0, 1),
+        lab.notify_all(First, 0, 1),
         Some(Err(IllegalMonitorState)),
     );
-    same(
-        &rt,
-        notify(&heap, &mut p0, 0, 1),
-        Some(Err(IllegalMonitorState)),
-    );
-    same(
-        &rt,
-        notify_all(&heap, &mut p0, 0, 1),
-        Some(Err(IllegalMonitorState)),
-    );
-    holds(&rt, p0.log().is_empty());
-    holds(&rt, stop(&heap, &mut p0));
-    let closed = closed(&rt, heap, p0, p1);
+    holds(&rt, lab.pass(First).log().is_empty());
+    lab.stops(&rt, First);
+    let closed = closed(&rt, lab);
     same(&rt, mark(&closed, 0), Some(5));
     same(&rt, count(&closed, 0), Some(0));
     Ok(())
@@ -158,22 +127,18 @@ fn a_thread_without_a_hold_may_not_wait_or_notify(rt: HostRuntime) -> Result<(),
 
 #[test]
 fn a_run_of_waiting_threads_alone_is_halted(rt: HostRuntime) -> Result<(), Fail> {
-    let (heap, mut p0, mut p1) = begin(rt.alloc(), false)?;
-    same(&rt, resume(&heap, &mut p0), DONE);
-    same(&rt, resume(&heap, &mut p1), DONE);
-    same(&rt, enter(&heap, &mut p0, 0, 1), entered(Path::StackFirst));
+    let mut lab = Lab::begin(rt.alloc(), false)?;
+    lab.resumes(&rt, First);
+    lab.resumes(&rt, Second);
+    lab.enters(&rt, First, 0, 1, Path::StackFirst);
     let unheard = Progress::Pending(PendingCause::NotNotified { word: 524290 });
-    same(&rt, wait(&heap, &mut p0, 0, 1), Some(Ok(unheard)));
-    holds(&rt, stop(&heap, &mut p1));
-    same(
-        &rt,
-        check_stuck(&heap, &mut p0),
-        Some(Progress::Done(false)),
-    );
-    same(&rt, resume(&heap, &mut p1), DONE);
-    holds(&rt, finish(&heap, &mut p1, Ending::Done));
-    holds(&rt, stop(&heap, &mut p1));
-    same(&rt, check_stuck(&heap, &mut p0), Some(Progress::Done(true)));
-    same(&rt, resume(&heap, &mut p1), pending(PendingCause::Halted));
+    same(&rt, lab.wait(First, 0, 1), Some(Ok(unheard)));
+    lab.stops(&rt, Second);
+    same(&rt, lab.check_stuck(First), Some(Progress::Done(false)));
+    lab.resumes(&rt, Second);
+    holds(&rt, lab.finish(Second, Ending::Done));
+    lab.stops(&rt, Second);
+    same(&rt, lab.check_stuck(First), Some(Progress::Done(true)));
+    same(&rt, lab.resume(Second), pending(PendingCause::Halted));
     Ok(())
 }

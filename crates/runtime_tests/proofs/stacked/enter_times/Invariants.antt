@@ -1,5 +1,0 @@
-use Rattle.heap_table.specs.Resting.{Rests}
-use Rattle.runtime_tests.proofs.stacked.enter_times.Given as goal
-
-abbrev pub invariant-loop : goal.invariant-loop
-invariant-loop l = Rests l.heap l.pass
