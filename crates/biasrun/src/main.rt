@@ -5,8 +5,6 @@
 //! with that of a failed write, where the last one fails.
 #![tactic(auto)]
 
-#[cfg(test)]
-mod arguments;
 mod flushed;
 
 use flushed::biasrun_flushed;

@@ -9,8 +9,6 @@ mod lends;
 mod loan;
 mod rule;
 mod slots;
-#[cfg(test)]
-mod tests;
 
 pub use lends::{Lending, MOST};
 pub use loan::Loan;

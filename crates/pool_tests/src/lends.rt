@@ -1,7 +1,7 @@
 //! Numbers that are lent. A table may answer that memory is wanting, whatever its body does, so a test fails where it does.
 ghost use Rattle.std.specs.Prelude.{◌≡◌, ◌≤◌};
 
-use crate::{LendRule, Lending, Loan};
+use lending::{LendRule, Lending, Loan};
 use std::alloc::AllocError;
 use std::marker::Model;
 use std::sync::Arc;
