@@ -1,4 +1,5 @@
 mod Biased
+mod Known
 mod Recorded
 mod Resuming
 mod Stopping

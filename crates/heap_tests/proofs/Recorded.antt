@@ -9,65 +9,26 @@ use Rattle.plain_monitor.specs.declared.entry.Path.TheVariants.{StackFirst}
 use Rattle.core_world.specs.declared.answer.Progress.{Progress}
 use Rattle.core_world.specs.declared.answer.Progress.TheVariants.{Done}
 use Rattle.core_world.specs.declared.answer.PendingCause.TheVariants as why
-use Rattle.core_world.specs.declared.word_id.WordId.TheVariants.{Safepoint}
-use Rattle.core_world.specs.declared.plan.LocalEffect.{LocalEffect}
-use Rattle.core_world.specs.declared.plan.LocalEffect.TheVariants.{Unchanged}
-use Rattle.core_world.specs.declared.plan.StepPlan.{StepPlan}
 use Rattle.core_world.specs.declared.stage.Stage.TheVariants.{Settled}
 use Rattle.core_world.specs.declared.heap_call.HeapCall.TheVariants as task
-use Rattle.core_world.specs.Due.{steps_due, IsNext, Runs}
-use Rattle.core_world.specs.Opening.{first_known}
+use Rattle.core_world.specs.Due.{Runs}
 use Rattle.core_world.specs.Steps.{known_after, is_idle}
 use Rattle.core_world.specs.Threads.ThreadView.{ThreadView, local_of, start_of}
 use Rattle.core_world.specs.Threads.Stages.{is_calm}
 use Rattle.core_world.specs.Trees.Calls.{steps_of, may_begin, end}
 use Rattle.core_world.specs.Trees.LockSteps.{displace_plan, seize_plan, hold_plan, log_enter_plan, hold_steps, stack_enter_steps}
 use Rattle.core_world.specs.Trees.Operations.{lone_context}
-use Rattle.core_world.specs.Trees.Plans.{CallContext, load, swap, done_with, pending_for}
+use Rattle.core_world.specs.Trees.Plans.{CallContext, done_with, pending_for}
 use Rattle.core_world.specs.Trees.StepTree.{◌>>=◌}
 use Rattle.core_world.specs.Words.Shape.{Shape}
 use Rattle.core_law.specs.Logic.{Heap}
-use Rattle.heap_table.specs.Drafts.{IsDrafted}
-use Rattle.heap_table.specs.Kept.{LogHasRoom}
 use Rattle.heap_table.specs.Parts.{IsDueOn, HasMadeSteps}
 use Rattle.heap_table.specs.Seen.{HeapSeen, PassSeen}
-use Rattle.heap_table.specs.Stepping.{CanStep, HasStepped}
-use Rattle.heap_tests.specs.Recorded.{two, resuming, looked, resumed, Knows, MayEnter}
+use Rattle.heap_tests.specs.Known.{two, resumed, Knows}
+use Rattle.heap_tests.specs.Recorded.{MayEnter}
+use Rattle.heap_tests.proofs.Known.{heap_is}
 
--- RESUMES
-pub look_next : (t : ℕ) → IsNext two 7 false (first_known t) (load resuming Safepoint)
-unfolding steps_due is_idle steps_of
-look_next t = refl
-
-pub first_next : IsNext two 7 false (looked 0 0) (swap resuming Safepoint 0 1)
-unfolding steps_due is_idle steps_of read_safe
-first_next = refl
-
-pub second_next : IsNext two 7 false (looked 1 1) (swap resuming Safepoint 1 3)
-unfolding steps_due is_idle steps_of read_safe
-second_next = refl
-
-pub goes : (h : HeapSeen) (k : ThreadView) (p q : PassSeen) (plan : StepPlan) (n m : ℕ) → Knows h k p
-    → HasStepped h p q plan n → plan.own ≡ Unchanged → n ≡ m → Knows h (known_after two 7 plan m k) q
-goes h k p q plan n m a s own e =
-    record {
-      is_of = s.heap;
-      heap = a.heap;
-      known = s.known ∙ λ i. known_after (a.heap i).shape (a.heap i).start plan (e i) (a.known i);
-      limit = s.limit ∙ a.limit;
-    }
-
-pub can : (h : HeapSeen) (k : ThreadView) (p : PassSeen) (plan : StepPlan) → Knows h k p
-    → IsNext two 7 false k plan → LogHasRoom plan.note k.log 86 → plan.own ≡ Unchanged → CanStep h p plan
-can h k p plan a next room own =
-    record {
-      heap = a.is_of;
-      next = subst (λ (x : Heap × ThreadView). IsNext x.0.shape x.0.start x.0.biasing x.1 plan) (λ i. (sym a.heap i, sym a.known i)) next;
-      room = subst (λ (x : ThreadView × ℕ). LogHasRoom plan.note x.0.log x.1) (λ i. (sym a.known i, sym a.limit i)) room;
-      drafted = subst (λ (o : LocalEffect). IsDrafted o h.heap.shape p.known p.cut p.cells) (sym own) tt;
-    }
-
--- ENTERS. What such a thread may begin is due.
+-- What such a thread may begin is due.
 abbrev pub entering : ℕ → CallContext
 entering mark = lone_context (task.StackEnter 0 mark)
 
@@ -99,16 +60,22 @@ second_may : May (resumed 1 1 3) 1
 unfolding is_idle steps_of read_safe read_mark read_hold
 second_may = (refl, refl, omega arith)
 
-may_enter : (h : HeapSeen) (k : ThreadView) (p : PassSeen) (mark : ℕ) → Knows h k p → May k mark → MayEnter h p mark
-may_enter h k p mark a may =
+may_enter : (h : HeapSeen) (k : ThreadView) (p : PassSeen) (mark : ℕ) → Knows h k p → h.heap.biasing ≡ false → May k mark → MayEnter h p mark
+may_enter h k p mark a plain may =
     let there = subst (λ (x : ThreadView). May x mark) (sym a.known) may in
-    record { is_of = a.is_of; heap = a.heap; over = there.0; may = there.1; room = subst (λ n. length p.known.log < n) (sym a.limit) there.2 }
+    record {
+      is_of = a.is_of;
+      heap = heap_is h k p false a plain;
+      over = there.0;
+      may = there.1;
+      room = subst (λ n. length p.known.log < n) (sym a.limit) there.2;
+    }
 
-pub first_enters : (h : HeapSeen) (p : PassSeen) → Knows h (resumed 0 0 1) p → MayEnter h p 1
-first_enters h p a = may_enter h (resumed 0 0 1) p 1 a first_may
+pub first_enters : (h : HeapSeen) (p : PassSeen) → Knows h (resumed 0 0 1) p → h.heap.biasing ≡ false → MayEnter h p 1
+first_enters h p a plain = may_enter h (resumed 0 0 1) p 1 a plain first_may
 
-pub second_enters : (h : HeapSeen) (p : PassSeen) → Knows h (resumed 1 1 3) p → MayEnter h p 1
-second_enters h p a = may_enter h (resumed 1 1 3) p 1 a second_may
+pub second_enters : (h : HeapSeen) (p : PassSeen) → Knows h (resumed 1 1 3) p → h.heap.biasing ≡ false → MayEnter h p 1
+second_enters h p a plain = may_enter h (resumed 1 1 3) p 1 a plain second_may
 
 -- and then the first thread may enter once more
 abbrev seized : ℕ → ℕ → ThreadView
@@ -136,11 +103,17 @@ first_ran l path (a, (b, rest)) = by (b == 1) refl rest
         (known_after two 7 (hold_plan (entering 1) 0 0 1 0 StackFirst) c (seized a (one i))) in
         subst (λ (x : ThreadView). May x 4096) (sym is) (again_may a c d)
 
-pub first_again : (h : HeapSeen) (p q : PassSeen) (r : Progress Path) → Knows h (resumed 0 0 1) p
+pub first_again : (h : HeapSeen) (p q : PassSeen) (r : Progress Path) → Knows h (resumed 0 0 1) p → h.heap.biasing ≡ false
     → HasMadeSteps h (stack_enter_steps (entering 1) (local_of p.known) 0 1) p q r
     → (path : Path) → r ≡ Done path → MayEnter h q 4096
-first_again h p q r a run path e =
-    let ran = subst (λ (x : Heap × ThreadView × Progress Path). Runs x.0.shape x.0.start
-    (stack_enter_steps (entering 1) (local_of x.1) 0 1) x.1 q.known x.2) (λ i. (a.heap i, a.known i, e i)) run.ran.by in
+first_again h p q r a plain run path e =
+    let ran = subst (λ (x : Shape × ℕ × ThreadView × Progress Path). Runs x.0 x.1 (stack_enter_steps (entering 1) (local_of x.2) 0 1) x.2 q.known x.3)
+    (λ i. (a.shape i, a.start i, a.known i, e i)) run.ran.by in
     let may = first_ran q.known path ran in
-    record { is_of = run.heap; heap = a.heap; over = may.0; may = may.1; room = subst (λ n. length q.known.log < n) (sym (run.limit ∙ a.limit)) may.2 }
+    record {
+      is_of = run.heap;
+      heap = heap_is h (resumed 0 0 1) p false a plain;
+      over = may.0;
+      may = may.1;
+      room = subst (λ n. length q.known.log < n) (sym (run.limit ∙ a.limit)) may.2;
+    }

@@ -1,38 +1,28 @@
 -- Each step of the walk is the next one.
-use Rattle.std.proofs.Common.{◌≡◌, ℕ, false, List, [], ◌∷◌, refl, sym, ap, None, ◌∙◌, subst}
+use Rattle.std.proofs.Common.{◌≡◌, ℕ, Bool, false, List, ◌∷◌, refl, sym, ap, None, subst}
 use Rattle.mark_word.specs.Safe.{read_safe}
 use Rattle.mark_word.specs.Mark.{read_mark}
 use Rattle.mark_word.specs.Hold.{read_hold}
 use Rattle.mark_word.specs.Wait.{read_wait}
 use Rattle.plain_monitor.specs.declared.entry.Path.TheVariants.{StackFirst}
-use Rattle.core_world.specs.declared.word_id.WordId.TheVariants.{Safepoint, Mark, Displaced}
+use Rattle.core_world.specs.declared.word_id.WordId.TheVariants.{Mark, Displaced}
 use Rattle.core_world.specs.declared.stage.Stage.TheVariants.{Settled}
 use Rattle.core_world.specs.Due.{steps_due, IsNext}
 use Rattle.core_world.specs.Steps.{is_idle}
 use Rattle.core_world.specs.Trees.Calls.{steps_of}
 use Rattle.core_world.specs.Trees.LockSteps.{displace_plan, seize_plan, hold_plan, log_enter_plan, raise_stamp_plan, let_go_plan, clear_plan}
 use Rattle.core_world.specs.Trees.SafepointSteps.{publish_log_plan, stop_plan}
-use Rattle.core_world.specs.Trees.Plans.{load, swap}
-use Rattle.core_world.specs.declared.plan.LocalEffect.{LocalEffect}
+use Rattle.core_world.specs.Trees.Plans.{load}
 use Rattle.core_world.specs.declared.plan.LocalEffect.TheVariants.{Unchanged}
 use Rattle.core_world.specs.declared.plan.StepPlan.{StepPlan}
-use Rattle.core_world.specs.Steps.{known_after}
 use Rattle.core_world.specs.Threads.ThreadView.{ThreadView}
-use Rattle.core_law.specs.Logic.{Heap}
-use Rattle.heap_table.specs.Drafts.{IsDrafted}
 use Rattle.heap_table.specs.Kept.{LogHasRoom}
 use Rattle.heap_table.specs.Seen.{HeapSeen, PassSeen}
 use Rattle.heap_table.specs.Stepping.{CanStep, HasStepped}
-use Rattle.heap_tests.specs.Walk.{two, after, resuming, resumed, entering, entered, leaving, read, left, stopping, stopped, IsAt}
+use Rattle.heap_tests.specs.Known.{two}
+use Rattle.heap_tests.specs.Walk.{after, resumed, entering, entered, leaving, read, left, stopping, stopped, IsAt}
+use Rattle.heap_tests.proofs.Known as known
 use Rattle.heap_table.specs.Fresh.{IsStoppedPass}
-
-pub resume_one : IsNext two 7 false (after []) (load resuming Safepoint)
-unfolding steps_due is_idle steps_of
-resume_one = refl
-
-pub resume_two : IsNext two 7 false (after ((load resuming Safepoint, 0) ∷ [])) (swap resuming Safepoint 0 1)
-unfolding steps_due is_idle steps_of read_safe
-resume_two = refl
 
 pub enter_one : IsNext two 7 false (after resumed) (displace_plan entering Settled 0 0 1)
 unfolding steps_due is_idle steps_of read_safe read_mark
@@ -84,30 +74,19 @@ pub is_still : (h : HeapSeen) (p : PassSeen) → IsAt h stopped p → IsStoppedP
 unfolding steps_due is_idle steps_of read_safe read_mark read_hold read_wait
 is_still h p a =
     record {
-      is_of = a.is_of;
-      thread = ap (λ (k : ThreadView). k.thread) a.known;
-      stopped = ap (λ (k : ThreadView). k.running) a.known;
-      quiet = ap (λ (k : ThreadView). k.requesting) a.known;
+      is_of = a.knows.is_of;
+      thread = ap (λ (k : ThreadView). k.thread) a.knows.known;
+      stopped = ap (λ (k : ThreadView). k.running) a.knows.known;
+      quiet = ap (λ (k : ThreadView). k.requesting) a.knows.known;
     }
 
 -- the pass after one step more
 pub goes : (h : HeapSeen) (p q : PassSeen) (steps : List (StepPlan × ℕ)) (plan : StepPlan) (n m : ℕ)
     → IsAt h steps p → HasStepped h p q plan n → n ≡ m → IsAt h ((plan, m) ∷ steps) q
-goes h p q steps plan n m a s e =
-    record {
-      is_of = s.heap;
-      heap = a.heap;
-      known = s.known ∙ λ i. known_after (a.heap i).shape (a.heap i).start plan (e i) (a.known i);
-      limit = s.limit ∙ a.limit;
-    }
+goes h p q steps plan n m a s e = record { knows = known.goes h (after steps) p q plan n m a.knows s e; plain = a.plain }
 
 -- it can make the step that is the next one, which takes no shot
 pub can : (h : HeapSeen) (p : PassSeen) (steps : List (StepPlan × ℕ)) (plan : StepPlan) → IsAt h steps p → IsNext two 7 false (after steps) plan
     → LogHasRoom plan.note (after steps).log 86 → plan.own ≡ Unchanged → CanStep h p plan
 can h p steps plan a next room own =
-    record {
-      heap = a.is_of;
-      next = subst (λ (x : Heap × ThreadView). IsNext x.0.shape x.0.start x.0.biasing x.1 plan) (λ i. (sym a.heap i, sym a.known i)) next;
-      room = subst (λ (x : ThreadView × ℕ). LogHasRoom plan.note x.0.log x.1) (λ i. (sym a.known i, sym a.limit i)) room;
-      drafted = subst (λ (o : LocalEffect). IsDrafted o h.heap.shape p.known p.cut p.cells) (sym own) tt;
-    }
+    known.can h (after steps) p plan a.knows (subst (λ (b : Bool). IsNext two 7 b (after steps) plan) (sym a.plain) next) room own

@@ -1,3 +1,4 @@
 pub mod Biased
+pub mod Known
 pub mod Recorded
 pub mod Walk

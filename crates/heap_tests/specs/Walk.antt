@@ -13,20 +13,13 @@ use Rattle.core_world.specs.Trees.SafepointSteps.{publish_log_plan, stop_plan}
 use Rattle.core_world.specs.declared.stage.Stage.TheVariants.{Settled}
 use Rattle.core_world.specs.Trees.Operations.{lone_context}
 use Rattle.core_world.specs.Trees.Plans.{CallContext, call_context, load, swap}
-use Rattle.core_world.specs.Words.Shape.{Shape}
-use Rattle.heap_table.specs.Layout.{shape_of}
-use Rattle.heap_table.specs.Seen.{HeapSeen, PassSeen, IsOf}
-
-abbrev pub two : Shape
-two = shape_of 2 (1 ∷ []) (0 ∷ 0 ∷ []) 2
+use Rattle.heap_table.specs.Seen.{HeapSeen, PassSeen}
+use Rattle.heap_tests.specs.Known.{two, resuming, Knows}
 
 -- after these steps, newest first, each with the word that it found
 abbrev pub after : List (StepPlan × ℕ) → ThreadView
 after [] = first_known 0
 after (x ∷ xs) = known_after two 7 x.0 x.1 (after xs)
-
-abbrev pub resuming : CallContext
-resuming = lone_context task.Resume
 
 abbrev pub entering : CallContext
 entering = lone_context (task.StackEnter 1 1)
@@ -56,7 +49,5 @@ stopped = (stop_plan stopping 0, 1) ∷ (publish_log_plan stopping 0 2, 0) ∷ l
 
 -- the first thread of such a heap, without biases, after these steps
 pub record IsAt (h : HeapSeen) (steps : List (StepPlan × ℕ)) (p : PassSeen) : Type 0 where
-  pub is_of : IsOf h p
-  pub heap : h.heap ≡ record { shape = two; start = 7; biasing = false }
-  pub known : p.known ≡ after steps
-  pub limit : p.limit ≡ 86
+  pub knows : Knows h (after steps) p
+  pub plain : h.heap.biasing ≡ false

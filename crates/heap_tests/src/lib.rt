@@ -9,6 +9,8 @@ mod biases;
 #[cfg(test)]
 mod compare;
 #[cfg(test)]
+mod last;
+#[cfg(test)]
 mod opening;
 #[cfg(test)]
 mod races;
@@ -16,5 +18,7 @@ mod races;
 mod records;
 #[cfg(test)]
 mod safepoints;
+#[cfg(test)]
+mod start;
 #[cfg(test)]
 mod walks;

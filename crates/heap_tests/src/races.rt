@@ -1,42 +1,18 @@
 //! Two threads that step on one heap.
 
-ghost use Rattle.std.specs.Prelude.{◌≡◌, ◌^◌, ◌<◌, [], ◌∷◌, IfOk, false, None};
+ghost use Rattle.std.specs.Prelude.{◌≡◌, ◌^◌, ◌<◌, IfOk};
 ghost use Rattle.heap_table.specs.Seen.{IsOf};
-ghost use Rattle.heap_table.specs.Layout.{shape_of};
 ghost use Rattle.heap_table.specs.Fresh.{IsFresh, IsStoppedPass};
+ghost use Rattle.heap_tests.specs.Known.{two};
 
 use crate::compare::{holds, same};
+use crate::last::{end, word};
+use crate::start::begin_two;
 use core_world::{HeapCall, Stage, WordId};
-use heap_table::{CallContext, Closed, Heap, HeapShape, Pass, close};
-use lawful_heap::new_heap;
-use plain_monitor::{List, NoMemory};
-use std::alloc::Global;
+use heap_table::{CallContext, Closed, Heap, Pass};
+use plain_monitor::NoMemory;
 use std::test::Fail;
 use std::thread::{Threads, join};
-
-// A heap of two threads and two objects of a class with one slot, without biases.
-fn begin(alloc: Global) -> Result<(Heap, Pass, Pass), NoMemory>
-    ensures { IfOk result (λ r. IsFresh r.0 0 r.1 × IsFresh r.0 1 r.2
-        × (r.0.heap.shape ≡ shape_of 2 (1 ∷ []) (0 ∷ 0 ∷ []) 2)) }
-{
-    let shape = HeapShape::of(alloc, 2, &[1], &[0, 0], 2)?;
-    let (heap, passes) = new_heap(alloc, shape, 10, 7, false)?;
-    let mut passes = passes.into_vec();
-    let Some(second) = passes.pop() else {
-        return Err(NoMemory);
-    };
-    let Some(first) = passes.pop() else {
-        return Err(NoMemory);
-    };
-    Ok((heap, first, second))
-}
-
-// The places of the second object's mark and slot.
-fn places(heap: &Heap) -> (usize, usize)
-    requires { heap.now.heap.shape ≡ shape_of 2 (1 ∷ []) (0 ∷ 0 ∷ []) 2 }
-{
-    (heap.shape().mark_at(1), heap.shape().slot_at(1, 0))
-}
 
 // Loads the safepoint word, in a call of a resume.
 fn look(heap: &Heap, pass: &mut Pass) -> u64
@@ -76,23 +52,28 @@ fn try_first(heap: &Heap, pass: &mut Pass)
     }
 }
 
-fn race<R: Threads>(rt: &R, heap: &Heap, first: Pass, second: Pass) -> (Pass, Pass)
-    requires { IsFresh heap.now 0 first × IsFresh heap.now 1 second }
-    ensures { IsOf heap.now result.0 × IsOf heap.now result.1 }
+fn race<R: Threads>(
+    rt: &R,
+    heap: &Heap,
+    first: Box<Pass>,
+    second: Box<Pass>,
+) -> (Box<Pass>, Box<Pass>)
+    requires { IsFresh heap.now 0 first.value × IsFresh heap.now 1 second.value }
+    ensures { IsOf heap.now result.0.value × IsOf heap.now result.1.value }
 {
     join(
         rt,
-        move || -> Pass
-            requires { IsFresh heap.now 0 first }
-            ensures { IsOf heap.entry.now result }
+        move || -> Box<Pass>
+            requires { IsFresh heap.now 0 first.value }
+            ensures { IsOf heap.entry.now result.value }
         {
             let mut pass = first;
             try_first(heap, &mut pass);
             pass
         },
-        move || -> Pass
-            requires { IsFresh heap.now 1 second }
-            ensures { IsOf heap.entry.now result }
+        move || -> Box<Pass>
+            requires { IsFresh heap.now 1 second.value }
+            ensures { IsOf heap.entry.now result.value }
         {
             let mut pass = second;
             try_first(heap, &mut pass);
@@ -101,48 +82,40 @@ fn race<R: Threads>(rt: &R, heap: &Heap, first: Pass, second: Pass) -> (Pass, Pa
     )
 }
 
-fn look_both<R: Threads>(rt: &R, heap: &Heap, first: Pass, second: Pass) -> (Pass, Pass)
-    requires { IsFresh heap.now 0 first × IsFresh heap.now 1 second }
-    ensures { IsStoppedPass heap.now 0 result.0 × IsStoppedPass heap.now 1 result.1 }
+fn look_both<R: Threads>(
+    rt: &R,
+    heap: &Heap,
+    first: Box<Pass>,
+    second: Box<Pass>,
+) -> (Box<Pass>, Box<Pass>)
+    requires { IsFresh heap.now 0 first.value × IsFresh heap.now 1 second.value }
+    ensures { IsStoppedPass heap.now 0 result.0.value × IsStoppedPass heap.now 1 result.1.value }
 {
     join(
         rt,
-        move || -> Pass
-            requires { IsFresh heap.now 0 first }
-            ensures { IsStoppedPass heap.entry.now 0 result }
+        move || -> Box<Pass>
+            requires { IsFresh heap.now 0 first.value }
+            ensures { IsStoppedPass heap.entry.now 0 result.value }
         {
             let mut pass = first;
             look(heap, &mut pass);
             pass
         },
-        move || -> Pass
-            requires { IsFresh heap.now 1 second }
-            ensures { IsStoppedPass heap.entry.now 1 result }
+        move || -> Box<Pass>
+            requires { IsFresh heap.now 1 second.value }
+            ensures { IsStoppedPass heap.entry.now 1 result.value }
         {
             let mut pass = second;
             look(heap, &mut pass);
             pass
         },
     )
-}
-
-// The end of a heap of two threads that are stopped.
-fn end(alloc: Global, heap: Heap, first: Pass, second: Pass) -> Result<Closed, NoMemory>
-    requires passes { IsStoppedPass heap 0 first × IsStoppedPass heap 1 second }
-    requires shape { heap.heap.shape ≡ shape_of 2 (1 ∷ []) (0 ∷ 0 ∷ []) 2 }
-{
-    let Ok(mut passes) = Vec::with_capacity(alloc, 2) else {
-        return Err(NoMemory);
-    };
-    passes.push_reserved(first);
-    passes.push_reserved(second);
-    Ok(close(heap, List::of(passes)))
 }
 
 #[test]
 fn one_of_two_resumes_hits(rt: HostRuntime) -> Result<(), Fail> {
     for _ in 0..100u32 {
-        let (heap, first, second) = begin(rt.alloc())?;
+        let (heap, first, second) = begin_two(rt.alloc(), false)?;
         let (first, second) = race(&rt, &heap, first, second);
         holds(&rt, first.running() != second.running());
         same(&rt, first.log().len(), 0);
@@ -151,17 +124,26 @@ fn one_of_two_resumes_hits(rt: HostRuntime) -> Result<(), Fail> {
     Ok(())
 }
 
+// The end of a heap without biases at whose safepoint word both threads have looked.
+fn looked_at<R: AllocGlobal + Threads>(rt: &R) -> Result<Box<Closed>, NoMemory>
+    ensures { IfOk result (λ closed. closed.value.heap.shape ≡ two) }
+{
+    let (heap, first, second) = begin_two(rt.alloc(), false)?;
+    let (first, second) = look_both(rt, &heap, first, second);
+    end(rt.alloc(), heap, first, second)
+}
+
 #[test]
 fn a_heap_that_was_looked_at_ends_as_it_began(rt: HostRuntime) -> Result<(), Fail> {
-    let (heap, first, second) = begin(rt.alloc())?;
-    let (mark, slot) = places(&heap);
-    let (first, second) = look_both(&rt, &heap, first, second);
-    let closed = end(rt.alloc(), heap, first, second)?;
+    let ended = looked_at(&rt)?;
+    let closed: &Closed = &ended;
+    let shape = closed.shape();
     same(&rt, closed.logs().items().len(), 2);
     same(&rt, closed.counts().items().len(), 2);
     holds(&rt, !closed.halted());
-    for (at, word) in [(mark, 1), (slot, (1 << 63) + 1), (0, 0)] {
-        same(&rt, closed.words().items().get(at), Some(&word));
-    }
+    // The second object's mark and slot, and the safepoint word.
+    same(&rt, word(closed, shape.mark_at(1)), Some(1));
+    same(&rt, word(closed, shape.slot_at(1, 0)), Some((1 << 63) + 1));
+    same(&rt, word(closed, 0), Some(0));
     Ok(())
 }

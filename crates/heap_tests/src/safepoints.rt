@@ -1,36 +1,22 @@
 //! Two threads of one heap: one asks for a safepoint, and the other stops for it.
 ghost use Rattle.std.specs.Prelude.{◌≡◌, ◌&&◌, IfOk, false, is_none, not, None};
-ghost use Rattle.heap_table.specs.Fresh.{IsFresh};
 ghost use Rattle.heap_table.specs.Resting.{Rests};
 
 use crate::compare::{holds, same};
+use crate::start;
 use core_world::{HeapCall, PendingCause, Progress};
 use heap_table::{CallContext, Heap, HeapShape, Pass};
-use lawful_heap::new_heap;
 use plain_monitor::NoMemory;
 use std::alloc::Global;
+use std::process::Abort;
 use std::test::Fail;
 
-// A heap of two threads and one object, without biases.
-fn fresh(alloc: Global) -> Result<(Heap, Pass, Pass), NoMemory>
-    ensures { IfOk result (λ r. IsFresh r.0 0 r.1 × IsFresh r.0 1 r.2) }
+// A heap of two threads and one object, without biases, and the passes.
+fn begin(alloc: Global) -> Result<(Box<Heap>, Box<Pass>, Box<Pass>), NoMemory>
+    ensures { IfOk result (λ r. Rests r.0.value r.1.value × Rests r.0.value r.2.value) }
 {
     let shape = HeapShape::of(alloc, 2, &[1], &[0], 1)?;
-    let (heap, passes) = new_heap(alloc, shape, 10, 7, false)?;
-    let mut passes = passes.into_vec();
-    let Some(second) = passes.pop() else {
-        return Err(NoMemory);
-    };
-    let Some(first) = passes.pop() else {
-        return Err(NoMemory);
-    };
-    Ok((heap, first, second))
-}
-
-fn begin(alloc: Global) -> Result<(Heap, Pass, Pass), NoMemory>
-    ensures { IfOk result (λ r. Rests r.0 r.1 × Rests r.0 r.2) }
-{
-    fresh(alloc)
+    start::begin(alloc, shape, false)
 }
 
 // The context of a call that leaves as they are the unfinished operation and the check, and of one that leaves nothing
@@ -139,49 +125,77 @@ fn requested(word: u64) -> Option<Progress<()>> {
     Some(Progress::Pending(PendingCause::Requested { word }))
 }
 
-#[test]
-fn a_thread_stops_for_another(rt: HostRuntime) -> Result<(), Fail> {
-    let (heap, mut first, mut second) = begin(rt.alloc())?;
-    same(&rt, resume(&heap, &mut first), DONE);
-    same(&rt, resume(&heap, &mut second), DONE);
-    same(&rt, poll(&heap, &mut first), DONE);
-    same(&rt, request(&heap, &mut second), DONE);
-    holds(&rt, !second.running() && second.requesting());
+// The first thread runs, and the second asks for a safepoint.
+fn second_asks(rt: &impl Abort, heap: &Heap, first: &mut Pass, second: &mut Pass)
+    requires { Rests heap.now first.old × Rests heap.now second.old }
+    ensures { Rests heap.now first.new × Rests heap.now second.new }
+{
+    same(rt, resume(heap, first), DONE);
+    same(rt, resume(heap, second), DONE);
+    same(rt, poll(heap, first), DONE);
+    same(rt, request(heap, second), DONE);
+    holds(rt, !second.running() && second.requesting());
+}
 
+// The second thread waits until the first has stopped, which is told that it should.
+fn first_stops(rt: &impl Abort, heap: &Heap, first: &mut Pass, second: &mut Pass)
+    requires { Rests heap.now first.old × Rests heap.now second.old }
+    ensures { Rests heap.now first.new × Rests heap.now second.new }
+{
     // The first thread runs still: bit 0, and the requester 1, as 2 in the field.
     let word = 8589934593;
     let stopping = Some(Progress::Pending(PendingCause::Stopping { word }));
-    same(&rt, reached(&heap, &mut second), stopping);
-    holds(&rt, !second.reached());
-    holds(&rt, release(&heap, &mut second).is_none());
-    same(&rt, poll(&heap, &mut first), requested(word));
-    same(&rt, request(&heap, &mut first), requested(word));
-    holds(&rt, first.running());
-    holds(&rt, stop(&heap, &mut first).is_some());
+    same(rt, reached(heap, second), stopping);
+    holds(rt, !second.reached());
+    holds(rt, release(heap, second).is_none());
+    same(rt, poll(heap, first), requested(word));
+    same(rt, request(heap, first), requested(word));
+    holds(rt, first.running());
+    holds(rt, stop(heap, first).is_some());
+    holds(rt, !first.running());
+}
 
-    holds(&rt, !first.running());
-    same(&rt, reached(&heap, &mut second), DONE);
-    holds(&rt, second.reached());
-    same(&rt, resume(&heap, &mut first), requested(8589934592));
-    holds(&rt, !first.running());
+// The second thread has its safepoint, and lets the first run again.
+fn second_lets_go(rt: &impl Abort, heap: &Heap, first: &mut Pass, second: &mut Pass)
+    requires { Rests heap.now first.old × Rests heap.now second.old }
+    ensures { Rests heap.now first.new × Rests heap.now second.new }
+{
+    same(rt, reached(heap, second), DONE);
+    holds(rt, second.reached());
+    same(rt, resume(heap, first), requested(8589934592));
+    holds(rt, !first.running());
+    holds(rt, release(heap, second).is_some());
+    holds(rt, second.running() && !second.requesting());
+    same(rt, resume(heap, first), DONE);
+    holds(rt, first.running());
+    same(rt, poll(heap, second), DONE);
+}
 
-    holds(&rt, release(&heap, &mut second).is_some());
-    holds(&rt, second.running() && !second.requesting());
-    same(&rt, resume(&heap, &mut first), DONE);
-    holds(&rt, first.running());
-    same(&rt, poll(&heap, &mut second), DONE);
+#[test]
+fn a_thread_stops_for_another(rt: HostRuntime) -> Result<(), Fail> {
+    let (heap, mut first, mut second) = begin(rt.alloc())?;
+    second_asks(&rt, &heap, &mut first, &mut second);
+    first_stops(&rt, &heap, &mut first, &mut second);
+    second_lets_go(&rt, &heap, &mut first, &mut second);
     Ok(())
+}
+
+// The second thread stays where it is until the first, which runs alone, has had its safepoint.
+fn first_is_alone(rt: &impl Abort, heap: &Heap, first: &mut Pass, second: &mut Pass)
+    requires { Rests heap.now first.old × Rests heap.now second.old }
+{
+    holds(rt, poll(heap, first).is_none());
+    same(rt, resume(heap, first), DONE);
+    same(rt, request(heap, first), DONE);
+    same(rt, resume(heap, second), requested(4294967296));
+    same(rt, reached(heap, first), DONE);
+    holds(rt, release(heap, first).is_some());
+    same(rt, resume(heap, second), DONE);
 }
 
 #[test]
 fn a_lone_thread_has_its_safepoint_at_once(rt: HostRuntime) -> Result<(), Fail> {
     let (heap, mut first, mut second) = begin(rt.alloc())?;
-    holds(&rt, poll(&heap, &mut first).is_none());
-    same(&rt, resume(&heap, &mut first), DONE);
-    same(&rt, request(&heap, &mut first), DONE);
-    same(&rt, resume(&heap, &mut second), requested(4294967296));
-    same(&rt, reached(&heap, &mut first), DONE);
-    holds(&rt, release(&heap, &mut first).is_some());
-    same(&rt, resume(&heap, &mut second), DONE);
+    first_is_alone(&rt, &heap, &mut first, &mut second);
     Ok(())
 }

@@ -1,14 +1,16 @@
 //! A thread that resumes, takes an object and leaves it, and stops, on real words.
-ghost use Rattle.std.specs.Prelude.{◌≡◌, [], true, IfOk};
+ghost use Rattle.std.specs.Prelude.{◌≡◌, [], true};
 ghost use Rattle.heap_table.specs.Fresh.{IsStoppedPass};
-ghost use Rattle.heap_tests.specs.Walk.{IsAt, entered, left, resumed, stopped, two};
+ghost use Rattle.heap_tests.specs.Known.{two};
+ghost use Rattle.heap_tests.specs.Walk.{IsAt, entered, left, resumed, stopped};
 
 use crate::compare::{holds, same};
+use crate::last::{end, word};
+use crate::start::{self, begin_two};
 use core_world::{HeapCall, Operation, Stage, Unfinished, WordId};
-use heap_table::{CallContext, Closed, Heap, HeapShape, Pass, close};
-use lawful_heap::new_heap;
-use plain_monitor::{Entry, List, Logged, NoMemory, Path};
-use std::alloc::Global;
+use heap_table::{CallContext, Closed, Heap, Pass};
+use plain_monitor::{Entry, Logged, Path};
+use std::process::Abort;
 use std::test::Fail;
 
 // The thread resumes.
@@ -16,20 +18,7 @@ fn resume(heap: &Heap, pass: &mut Pass) -> bool
     requires { IsAt heap.now [] pass.old }
     ensures { result ≡ true → IsAt heap.now resumed pass.new }
 {
-    let call = CallContext {
-        task: HeapCall::Resume,
-        unfinished: None,
-        check: false,
-    };
-    let found = heap.look(pass, &call).0;
-    if found != 0 {
-        return false;
-    }
-    let left = heap.exchange(pass, &call, Stage::Settled, WordId::Safepoint, 0, 1);
-    if left != 0 {
-        return false;
-    }
-    true
+    start::resume(heap, pass, 0, 0, 1)
 }
 
 // It takes the second object.
@@ -183,94 +172,68 @@ fn walk(heap: &Heap, pass: &mut Pass) -> bool
     stop(heap, pass)
 }
 
-// A heap of two threads and two objects of a class with one slot, without biases, and the passes.
-fn begin(alloc: Global) -> Result<(Heap, Pass, Pass), NoMemory>
-    ensures { IfOk result (λ r. IsAt r.0 [] r.1 × IsStoppedPass r.0 1 r.2 × (r.0.heap.shape ≡ two)) }
-{
-    let shape = HeapShape::of(alloc, 2, &[1], &[0, 0], 2)?;
-    let (heap, passes) = new_heap(alloc, shape, 10, 7, false)?;
-    let mut passes = passes.into_vec();
-    let Some(second) = passes.pop() else {
-        return Err(NoMemory);
-    };
-    let Some(first) = passes.pop() else {
-        return Err(NoMemory);
-    };
-    Ok((heap, first, second))
-}
-
-// The end of such a heap.
-fn end(alloc: Global, heap: Heap, first: Pass, second: Pass) -> Result<Closed, NoMemory>
-    requires passes { IsStoppedPass heap 0 first × IsStoppedPass heap 1 second }
-    requires shape { heap.heap.shape ≡ two }
-    ensures { IfOk result (λ c. c.heap.shape ≡ two) }
-{
-    let Ok(mut passes) = Vec::with_capacity(alloc, 2) else {
-        return Err(NoMemory);
-    };
-    passes.push_reserved(first);
-    passes.push_reserved(second);
-    Ok(close(heap, List::of(passes)))
-}
-
-// The words of the second object and of the first thread at the end, and those of the heap: the mark, the stamp, the hold word, the displaced
-// header, the length, the waiting word and the safepoint word.
-fn places(closed: &Closed) -> [usize; 7]
+// The end of a walk leaves these words of the second object, of the first thread and of the heap.
+fn has_last_words(rt: &impl Abort, closed: &Closed)
     requires { closed.now.heap.shape ≡ two }
 {
     let shape = closed.shape();
-    [
-        shape.mark_at(1),
-        shape.stamp_at(1),
-        shape.hold_at(0, 0),
-        shape.displaced_at(0, 0),
-        shape.length_at(0),
-        shape.wait_at(0),
-        shape.safe_at(),
-    ]
+    same(rt, word(closed, shape.mark_at(1)), Some(1));
+    same(rt, word(closed, shape.stamp_at(1)), Some(2));
+    same(rt, word(closed, shape.hold_at(0, 0)), Some(0));
+    same(rt, word(closed, shape.displaced_at(0, 0)), Some(1));
+    same(rt, word(closed, shape.length_at(0)), Some(2));
+    same(rt, word(closed, shape.wait_at(0)), Some(0));
+    same(rt, word(closed, shape.safe_at()), Some(0));
 }
+
+// The stamp of this entry of the first thread's log. `None` where there are not so many.
+fn stamp(closed: &Closed, entry: usize) -> Option<u64> {
+    match closed.logs().items().first()?.items().get(entry) {
+        Some(logged) => Some(logged.stamp),
+        None => None,
+    }
+}
+
+// It has logged that it entered and left the object.
+fn has_last_stamps(rt: &impl Abort, closed: &Closed) {
+    same(rt, stamp(closed, 0), Some(1));
+    same(rt, stamp(closed, 1), Some(2));
+    same(rt, stamp(closed, 2), None);
+}
+
+/// What the first thread has logged where it has the second object.
+const ENTERED: &[Logged] = &[Logged {
+    stamp: 1,
+    entry: Entry::Enter {
+        object: 1,
+        path: Path::StackFirst,
+    },
+}];
 
 #[test]
 fn an_object_is_taken_by_a_lock_record(rt: HostRuntime) -> Result<(), Fail> {
-    let (heap, mut pass, _second) = begin(rt.alloc())?;
+    let (heap, mut pass, _second) = begin_two(rt.alloc(), false)?;
     let resumed = resume(&heap, &mut pass);
-    // What the next call needs is known after an assertion here.
-    assert!(rt; resumed);
+    holds(&rt, resumed);
     holds(&rt, pass.running());
     let entered = enter(&heap, &mut pass);
     holds(&rt, entered);
     same(&rt, pass.hold_words()[0], 257);
     same(&rt, pass.held(1), 1);
     same(&rt, pass.holds(), 1);
-    let entry = Entry::Enter {
-        object: 1,
-        path: Path::StackFirst,
-    };
-    same(&rt, pass.log(), [Logged { stamp: 1, entry }].as_slice());
+    same(&rt, pass.log(), ENTERED);
     same(&rt, pass.room(), 85);
     Ok(())
 }
 
 #[test]
 fn a_walk_leaves_its_words(rt: HostRuntime) -> Result<(), Fail> {
-    let (heap, mut first, second) = begin(rt.alloc())?;
+    let (heap, mut first, second) = begin_two(rt.alloc(), false)?;
     let walked = walk(&heap, &mut first);
-    // What the end needs is known after an assertion here.
-    assert!(rt; walked);
+    holds(&rt, walked);
     holds(&rt, !first.running());
     let closed = end(rt.alloc(), heap, first, second)?;
-    let at = places(&closed);
-    let words = [1, 2, 0, 1, 2, 0, 0];
-    for i in 0..7 {
-        same(&rt, closed.words().items().get(at[i]), Some(&words[i]));
-    }
-    let stamps = [1, 2];
-    let Some(log) = closed.logs().items().first() else {
-        panic!(rt; "no log")
-    };
-    same(&rt, log.items().len(), 2);
-    for i in 0..2 {
-        same(&rt, log.items().get(i).map(|l| l.stamp), Some(stamps[i]));
-    }
+    has_last_words(&rt, &closed);
+    has_last_stamps(&rt, &closed);
     Ok(())
 }
