@@ -4,6 +4,7 @@ ghost use Rattle.std.specs.Prelude.{◌≡◌, [], ◌∷◌, length, true, IfOk
 ghost use Rattle.std.specs.List.{AllByRecursion};
 ghost use Rattle.plain_monitor.specs.History.{RisesAbove};
 ghost use Rattle.lock_journal.specs.Merging.{AreOfSixteen};
+ghost use Rattle.lock_journal.specs.LinesLeft.{IsShown};
 ghost use Rattle.object_program.specs.Name.{is_name};
 ghost use Rattle.object_program.specs.declared.program.Code.TheVariants.{End};
 
@@ -12,6 +13,7 @@ use object_program::{ClassDef, Code, Name, ObjectDef, Program, ThreadDef};
 use plain_machine::Machine;
 use plain_monitor::{Entry, Fault, List, Logged, NoMemory, Path, Value};
 use std::alloc::{AllocError, Global};
+use std::process::Abort;
 use std::test::Fail;
 
 /// What thread `t1` logged, which is no history of the program: the lines are those of any record. Object 0 is `a`, and object 2 is `pool[1]`.
@@ -109,6 +111,14 @@ const PRINTS: [Logged; 2] = [
     },
 ];
 
+/// What it prints, and how both threads end.
+const PRINTED: &[&str] = &[
+    "t1: -2305843009213693952\n",
+    "t1: 0\n",
+    "thread t1 done\n",
+    "thread t2 done\n",
+];
+
 /// The owners at the dump of `t1`.
 const CELLS: [Cell; 4] = [
     Cell {
@@ -146,7 +156,8 @@ const CLASS_LINES: [ClassLine; 2] = [
     },
 ];
 
-const LINES: [&str; 20] = [
+/// The text of the run, with the statistics and the journal.
+const LINES: &[&str] = &[
     "dump t1 1\n",
     "a held by t1 1\n",
     "pool[1] held by t2 2\n",
@@ -241,18 +252,33 @@ fn prints(alloc: Global) -> Result<List<List<Logged>>, AllocError>
     Ok(List::of(logs))
 }
 
-/// One dump of the first thread, and none of the second.
-fn one_dump(alloc: Global) -> Result<List<List<Shot>>, AllocError> {
-    let mut shots = Vec::new(alloc);
-    shots.push(Shot {
+/// A dump at the third entry of the first thread and the first of the second.
+fn dump(alloc: Global) -> Result<Shot, AllocError> {
+    Ok(Shot {
         number: 1,
         cut: List::of(Vec::from_slice(alloc, &[3, 1])?),
         cells: List::of(Vec::from_slice(alloc, &CELLS)?),
-    })?;
+    })
+}
+
+/// That dump alone.
+fn dumps(alloc: Global) -> Result<List<Shot>, AllocError> {
+    let mut shots = Vec::new(alloc);
+    shots.push(dump(alloc)?)?;
+    Ok(List::of(shots))
+}
+
+/// One dump of the first thread, and none of the second.
+fn one_dump(alloc: Global) -> Result<List<List<Shot>>, AllocError> {
     let mut threads = Vec::new(alloc);
-    threads.push(List::of(shots))?;
+    threads.push(dumps(alloc)?)?;
     threads.push(List::of(Vec::new(alloc)))?;
     Ok(List::of(threads))
+}
+
+/// What happened to the biases of each class.
+fn class_lines(alloc: Global) -> Result<List<ClassLine>, AllocError> {
+    Ok(List::of(Vec::from_slice(alloc, &CLASS_LINES)?))
 }
 
 /// The record of a run with these logs.
@@ -262,14 +288,16 @@ pub fn run_of(alloc: Global, logs: List<List<Logged>>) -> Result<RunRecord, Allo
     ensures rising { IfOk result (λ run. AllByRecursion (RisesAbove 0) run.logs) }
     ensures few { IfOk result (λ run. AreOfSixteen run.logs) }
 {
+    let classes = class_lines(alloc)?;
+    let shots = one_dump(alloc)?;
     Ok(RunRecord {
         program: two_threads(alloc)?,
         fuel: 100,
         start: 1,
         bias: true,
         logs,
-        shots: one_dump(alloc)?,
-        classes: List::of(Vec::from_slice(alloc, &CLASS_LINES)?),
+        shots,
+        classes,
         halted: false,
     })
 }
@@ -286,34 +314,89 @@ fn ended(alloc: Global, program: &Program) -> Result<Machine, NoMemory>
     Ok(machine)
 }
 
+/// Expects this line next, in place of what `line` holds.
+fn expect_line(
+    rt: &impl Abort,
+    run: &RunRecord,
+    machine: &Machine,
+    lines: &mut Lines,
+    line: &mut Line,
+    expected: &str,
+)
+    requires { IsShown run.now machine.now }
+{
+    assert!(rt; lines.next(run, machine, line), "before {expected}");
+    assert_eq!(rt; line.bytes(), expected.as_bytes());
+}
+
+/// Expects these lines next.
+fn expect_lines(
+    rt: &impl Abort,
+    run: &RunRecord,
+    machine: &Machine,
+    lines: &mut Lines,
+    expected: &[&str],
+)
+    requires { IsShown run.now machine.now }
+{
+    let mut line = Line::new();
+    for text in expected {
+        expect_line(rt, run, machine, lines, &mut line, text);
+    }
+}
+
+/// Expects no line, twice, and that nothing is left of a line that was written before.
+fn expect_end(rt: &impl Abort, run: &RunRecord, machine: &Machine, lines: &mut Lines)
+    requires { IsShown run.now machine.now }
+{
+    let mut line = Line::new();
+    line.push(b"before");
+    assert!(rt; !lines.next(run, machine, &mut line));
+    assert!(rt; !lines.next(run, machine, &mut line));
+    assert_eq!(rt; line.bytes(), b"".as_slice());
+}
+
+/// Expects these lines and no more, with the statistics and the journal where they are asked for.
+fn expect_text(rt: &impl Abort, run: &RunRecord, machine: &Machine, all: bool, expected: &[&str])
+    requires { IsShown run.now machine.now }
+{
+    let mut lines = Lines::new(all, all);
+    expect_lines(rt, run, machine, &mut lines, expected);
+    expect_end(rt, run, machine, &mut lines);
+}
+
+/// The same, where each thread of the run came to its end.
+fn expect_ended<R: Abort + AllocGlobal>(
+    rt: &R,
+    run: &RunRecord,
+    all: bool,
+    expected: &[&str],
+) -> Result<(), Fail>
+    requires rising { AllByRecursion (RisesAbove 0) run.now.logs }
+    requires few { AreOfSixteen run.now.logs }
+{
+    let machine = ended(rt.alloc(), &run.program)?;
+    expect_text(rt, run, &machine, all, expected);
+    Ok(())
+}
+
 #[test]
 fn lines_come_in_order(rt: HostRuntime) -> Result<(), Fail> {
     let run = run_of(rt.alloc(), two_logs(rt.alloc())?)?;
-    let machine = ended(rt.alloc(), &run.program)?;
-    let mut lines = Lines::new(true, true);
-    let mut line = Line::new();
-    for expected in LINES {
-        assert!(rt; lines.next(&run, &machine, &mut line), "before {expected}");
-        assert_eq!(rt; line.bytes(), expected.as_bytes());
-    }
-    assert!(rt; !lines.next(&run, &machine, &mut line));
-    assert!(rt; !lines.next(&run, &machine, &mut line));
-    assert_eq!(rt; line.bytes(), b"".as_slice());
-    Ok(())
+    expect_ended(&rt, &run, true, LINES)
 }
 
 #[test]
 fn numbers_are_written_in_digits(rt: HostRuntime) -> Result<(), Fail> {
     let run = run_of(rt.alloc(), prints(rt.alloc())?)?;
-    let machine = ended(rt.alloc(), &run.program)?;
-    let mut lines = Lines::new(false, false);
-    let mut line = Line::new();
-    for expected in ["t1: -2305843009213693952\n", "t1: 0\n"] {
-        assert!(rt; lines.next(&run, &machine, &mut line), "before {expected}");
-        assert_eq!(rt; line.bytes(), expected.as_bytes());
-    }
+    expect_ended(&rt, &run, false, PRINTED)?;
+    expect_greatest(&rt);
+    Ok(())
+}
+
+/// Expects the digits of the greatest number.
+fn expect_greatest(rt: &impl Abort) {
     let mut line = Line::new();
     line.push_number(18446744073709551615);
     assert_eq!(rt; line.bytes(), b"18446744073709551615".as_slice());
-    Ok(())
 }

@@ -6,7 +6,7 @@ ghost use Rattle.plain_monitor.specs.History.{RisesAbove};
 ghost use Rattle.lock_journal.specs.Merging.{AreOfSixteen};
 
 use crate::lines::run_of;
-use lock_journal::Merge;
+use lock_journal::{Merge, RunRecord};
 use plain_monitor::{Entry, List, Logged};
 use std::alloc::{AllocError, Global};
 use std::process::Abort;
@@ -60,20 +60,31 @@ fn entries_come_by_stamp_and_thread(rt: HostRuntime) -> Result<(), Fail> {
     expect_merged(&rt, twenty_logs(rt.alloc())?)
 }
 
+/// The thread and the stamp of each entry, in the order in which they come.
+const MERGED: &[(u32, u64)] = &[(0, 1), (1, 2), (0, 4), (1, 4)];
+
 /// Merges the logs, which have four entries.
 fn expect_merged<R: Abort + AllocGlobal>(rt: &R, logs: List<List<Logged>>) -> Result<(), Fail>
     requires rising { AllByRecursion (RisesAbove 0) logs }
     requires few { AreOfSixteen logs }
 {
     let run = run_of(rt.alloc(), logs)?;
-    let mut merge = Merge::new(&run);
-    for expected in [(0, 1), (1, 2), (0, 4), (1, 4)] {
-        let given = merge
-            .next(&run)
-            .map(|(thread, logged)| (thread, logged.stamp));
-        assert_eq!(rt; given, Some(expected));
-    }
-    assert!(rt; merge.next(&run).is_none());
-    assert!(rt; merge.next(&run).is_none());
+    expect_entries(rt, &run);
     Ok(())
+}
+
+/// Expects those entries from the logs of the run, and no more.
+fn expect_entries(rt: &impl Abort, run: &RunRecord)
+    requires rising { AllByRecursion (RisesAbove 0) run.now.logs }
+    requires few { AreOfSixteen run.now.logs }
+{
+    let mut merge = Merge::new(run);
+    for expected in MERGED {
+        let given = merge
+            .next(run)
+            .map(|(thread, logged)| (thread, logged.stamp));
+        assert_eq!(rt; given, Some(*expected));
+    }
+    assert!(rt; merge.next(run).is_none());
+    assert!(rt; merge.next(run).is_none());
 }
