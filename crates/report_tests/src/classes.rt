@@ -2,6 +2,7 @@
 
 use plain_machine::Machine;
 use program_syntax::read_program;
+use std::process::Abort;
 use std::test::Fail;
 
 const TEXT: &[u8] = b"\
@@ -13,12 +14,20 @@ thread t
 end
 ";
 
+/// An object, and the class that it has.
+const ROWS: &[(u32, Option<u32>)] = &[(0, Some(1)), (1, Some(0)), (2, Some(0)), (3, None)];
+
+/// Expects the class of each row.
+fn expect_classes(rt: &impl Abort, machine: &Machine) {
+    for (o, class) in ROWS {
+        assert_eq!(rt; machine.class_of(*o), *class, "of {o}");
+    }
+}
+
 #[test]
 fn declared_objects_have_the_class_of_their_line(rt: HostRuntime) -> Result<(), Fail> {
     let program = read_program(rt.alloc(), TEXT)?;
     let machine = Machine::new(rt.alloc(), &program, 10)?;
-    for (o, class) in [(0, Some(1)), (1, Some(0)), (2, Some(0)), (3, None)] {
-        assert_eq!(rt; machine.class_of(o), class, "of {o}");
-    }
+    expect_classes(&rt, &machine);
     Ok(())
 }

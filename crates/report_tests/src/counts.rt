@@ -9,8 +9,9 @@ use lock_journal::RunRecord;
 use object_program::{ClassDef, Code, Name, ObjectDef, Program, ThreadDef};
 use plain_monitor::{Entry, List, Logged, Path};
 use std::alloc::{AllocError, Global};
+use std::process::Abort;
 use std::test::Fail;
-use wait_report::count_objects;
+use wait_report::{ObjectCount, count_objects};
 
 /// Thread `t1` enters object 0, waits on it, and leaves it once it was notified.
 const CODE_OF_T1: [Code; 5] = [
@@ -183,17 +184,29 @@ fn record_of_run(alloc: Global) -> Result<RunRecord, AllocError>
     })
 }
 
+/// An object, how often it is entered by each path, and how often it goes from one thread to another.
+const COUNTED: &[(u32, &[u64], u64)] = &[(0, &[0, 1, 1, 1, 0, 0], 2), (2, &[0, 0, 0, 0, 1, 0], 0)];
+
+/// Asserts that these are the counts of an object.
+fn expect_count(rt: &impl Abort, count: &ObjectCount, expected: &(u32, &[u64], u64)) {
+    let (object, paths, handovers) = expected;
+    assert_eq!(rt; (count.object, count.handovers), (*object, *handovers));
+    assert_eq!(rt; count.paths.items(), *paths);
+}
+
+/// Asserts that these are the counts of the objects.
+fn expect_counts(rt: &impl Abort, counts: &[ObjectCount], expected: &[(u32, &[u64], u64)]) {
+    assert_eq!(rt; counts.len(), expected.len());
+    for (count, of_object) in counts.iter().zip(expected.iter()) {
+        expect_count(rt, count, of_object);
+    }
+}
+
 /// Object 0 goes from `t1` to `t2` and back. Object 1 isn't entered, and object 2 has one thread.
 #[test]
 fn objects_are_counted(rt: HostRuntime) -> Result<(), Fail> {
     let run = record_of_run(rt.alloc())?;
     let counts = count_objects(rt.alloc(), &run)?;
-    let expected = [(0, [0, 1, 1, 1, 0, 0], 2), (2, [0, 0, 0, 0, 1, 0], 0)];
-    assert_eq!(rt; counts.items().len(), expected.len());
-    for (count, (object, paths, handovers)) in counts.items().iter().zip(expected.iter()) {
-        assert_eq!(rt; count.object, *object);
-        assert_eq!(rt; count.paths.items(), paths.as_slice());
-        assert_eq!(rt; count.handovers, *handovers);
-    }
+    expect_counts(&rt, counts.items(), COUNTED);
     Ok(())
 }
