@@ -1,7 +1,9 @@
 //! Programs that are written: each has one text, which is read as the same program.
 
+use crate::texts::read;
 use example_programs::EXAMPLES;
-use program_syntax::{read_program, write_program};
+use object_program::Program;
+use program_syntax::write_program;
 use std::process::Abort;
 use std::test::Fail;
 
@@ -56,16 +58,31 @@ local z
 new\tz  E # one more
 end";
 
-/// Compares what is written of the text's program, after what `out` has already, with this.
-fn expect<R: Abort + AllocGlobal>(rt: &R, text: &str, written: &str) -> Result<(), Fail> {
-    let Ok(program) = read_program(rt.alloc(), text.as_bytes()) else {
-        panic!(rt; "refused")
-    };
-    let mut expected = Vec::from_slice(rt.alloc(), b"# ")?;
-    expected.extend_from_slice(written.as_bytes())?;
+/// Adds what is written of the program.
+fn append(rt: &impl Abort, program: &Program, out: &mut Vec<u8>) {
+    assert!(rt; write_program(program, out).is_ok());
+}
+
+/// What is written of the text's program after the two bytes that `out` has already.
+fn appended<R: Abort + AllocGlobal>(rt: &R, text: &str) -> Result<Vec<u8>, Fail> {
     let mut out = Vec::from_slice(rt.alloc(), b"# ")?;
-    assert!(rt; write_program(&program, &mut out).is_ok());
-    assert!(rt; out.as_slice() == expected.as_slice());
+    let program = read(rt, text.as_bytes());
+    append(rt, &program, &mut out);
+    Ok(out)
+}
+
+/// Compares what is written of the text's program with this.
+fn expect<R: Abort + AllocGlobal>(rt: &R, text: &str, due: &str) -> Result<(), Fail> {
+    let out = appended(rt, text)?;
+    assert!(rt; out.as_slice().strip_prefix(b"# ") == Some(due.as_bytes()));
+    Ok(())
+}
+
+/// Compares each of the programs with what is written of it.
+fn expect_each<R: Abort + AllocGlobal>(rt: &R, programs: &[(&str, &str)]) -> Result<(), Fail> {
+    for (_, text) in programs {
+        expect(rt, text, text)?;
+    }
     Ok(())
 }
 
@@ -73,8 +90,5 @@ fn expect<R: Abort + AllocGlobal>(rt: &R, text: &str, written: &str) -> Result<(
 fn each_program_has_one_text(rt: HostRuntime) -> Result<(), Fail> {
     expect(&rt, CANONICAL, CANONICAL)?;
     expect(&rt, LOOSE, CANONICAL)?;
-    for (_, text) in EXAMPLES {
-        expect(&rt, text, text)?;
-    }
-    Ok(())
+    expect_each(&rt, &EXAMPLES)
 }
