@@ -43,6 +43,28 @@ fn a_revoked_bias_stands_in_records(rt: HostRuntime) -> Result<(), Fail> {
     Ok(())
 }
 
+// The first thread has 63 holds of object 0, and then one of object 1 at the last place, 63. Its record has the word 4096 + 63 * 8.
+fn revoke_the_last_place(rt: &impl Abort, lab: &mut Lab) {
+    lab.resumes(rt, First);
+    lab.resumes(rt, Second);
+    holds(rt, lab.enter_times(First, 0, 63));
+    lab.enters(rt, First, 1, 1, Path::BiasTaken);
+    lab.stops(rt, First);
+    let owned = PendingCause::Owned { word: 4600 };
+    lab.is_kept_out(rt, Second, 1, 1, owned);
+    lab.stops(rt, Second);
+}
+
+#[test]
+fn a_revocation_visits_the_last_place(rt: HostRuntime) -> Result<(), Fail> {
+    let mut lab = Lab::begin(rt.alloc(), true)?;
+    revoke_the_last_place(&rt, &mut lab);
+    let closed = closed(&rt, lab);
+    same(&rt, mark(&closed, 1), Some(10));
+    same(&rt, monitor(&closed, 0), Some([1, 4600, 0, 1]));
+    Ok(())
+}
+
 #[test]
 fn a_revoked_lock_goes_to_the_next_by_the_monitor(rt: HostRuntime) -> Result<(), Fail> {
     let mut lab = Lab::begin(rt.alloc(), true)?;

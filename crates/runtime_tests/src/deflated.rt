@@ -56,6 +56,32 @@ fn the_next_inflation_has_the_next_monitor(rt: HostRuntime) -> Result<(), Fail> 
     Ok(())
 }
 
+// The second thread has the object by its monitor, while the first one dumps.
+fn own_and_dump(rt: &impl Abort, lab: &mut Lab) {
+    lab.resumes(rt, First);
+    lab.resumes(rt, Second);
+    lab.enters(rt, First, 0, 1, Path::StackFirst);
+    let owned = PendingCause::Owned { word: 4096 };
+    lab.is_kept_out(rt, Second, 0, 1, owned);
+    lab.leaves(rt, First, 0);
+    lab.enters(rt, Second, 0, 1, Path::MonitorFirst);
+    lab.stops(rt, Second);
+    same(rt, lab.dump(First), Some(Ok(Progress::Done(1))));
+    lab.stops(rt, First);
+}
+
+// The mark 10 names monitor 0, and the owner 17 is the second thread.
+#[test]
+fn an_object_with_an_owner_keeps_its_monitor(rt: HostRuntime) -> Result<(), Fail> {
+    let mut lab = Lab::begin(rt.alloc(), false)?;
+    own_and_dump(&rt, &mut lab);
+    let closed = closed(&rt, lab);
+    same(&rt, mark(&closed, 0), Some(10));
+    same(&rt, monitor(&closed, 0), Some([1, 17, 0, 0]));
+    same(&rt, end(&closed), Some(103));
+    Ok(())
+}
+
 // The waiting word has the stamp 2 of the Wait and object 0.
 #[test]
 fn an_object_with_a_waiter_keeps_its_monitor(rt: HostRuntime) -> Result<(), Fail> {

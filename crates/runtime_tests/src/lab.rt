@@ -266,6 +266,16 @@ impl Lab {
         same(rt, self.enter(thread, object, now), not_entered(why));
     }
 
+    /// Whether the thread entered the object so often.
+    pub fn enter_times(&mut self, thread: Thread, object: u32, times: u32) -> bool {
+        for _ in 0..times {
+            let Some(Ok(Progress::Done(_))) = self.enter(thread, object, 1) else {
+                return false;
+            };
+        }
+        true
+    }
+
     /// The thread leaves the object.
     pub fn leaves(&mut self, rt: &impl Abort, thread: Thread, object: u32) {
         same(rt, self.exit(thread, object), LEFT);

@@ -2,8 +2,8 @@
 use crate::compare::{holds, same};
 use crate::lab::Thread::{First, Second};
 use crate::lab::{Lab, Thread};
-use crate::last::{class, closed, mark};
-use core_world::{Progress, TooMany, Unguarded};
+use crate::last::{class, closed, displaced, mark, monitor};
+use core_world::{PendingCause, Progress, TooMany, Unguarded};
 use plain_monitor::{Entry, Logged, Path, Value};
 use std::process::Abort;
 use std::test::Fail;
@@ -110,6 +110,29 @@ fn hash_inside(rt: &impl Abort, lab: &mut Lab, path: Path) {
     same(rt, lab.get(Second, 1, 0), Some(Ok(Value::Int(0))));
     same(rt, lab.hash(Second, 1, 1), Some(Progress::Done(273331126)));
     lab.leaves(rt, Second, 1);
+}
+
+// The first thread has the made object by its bias, and stops; the second is kept out of it.
+fn revoke_a_made_object(rt: &impl Abort, lab: &mut Lab) {
+    hand_over(rt, lab, Path::BiasTaken);
+    lab.resumes(rt, First);
+    lab.enters(rt, First, 1, 1, Path::BiasTaken);
+    lab.stops(rt, First);
+    take_over(rt, lab);
+    let owned = PendingCause::Owned { word: 4096 };
+    lab.is_kept_out(rt, Second, 1, 1, owned);
+    lab.stops(rt, Second);
+}
+
+#[test]
+fn a_held_made_object_stands_in_a_record_after_its_bias(rt: HostRuntime) -> Result<(), Fail> {
+    let mut lab = Lab::begin_to_make(rt.alloc(), true)?;
+    revoke_a_made_object(&rt, &mut lab);
+    let closed = closed(&rt, lab);
+    same(&rt, mark(&closed, 1), Some(10));
+    same(&rt, monitor(&closed, 0), Some([1, 4096, 0, 1]));
+    same(&rt, displaced(&closed, 0, 0), Some(1));
+    Ok(())
 }
 
 #[test]

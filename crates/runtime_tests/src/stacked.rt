@@ -1,7 +1,7 @@
 //! Heaps without biases: locks by records and by monitors.
 use crate::compare::{holds, same};
+use crate::lab::Lab;
 use crate::lab::Thread::{First, Second};
-use crate::lab::{Lab, Thread};
 use crate::last::{closed, displaced, mark, monitor, stamp, waiting};
 use core_world::{IllegalMonitorState, PendingCause, Progress, TooDeep, Unguarded};
 use plain_monitor::{Entry, Path, Value};
@@ -73,16 +73,6 @@ fn a_contended_lock_has_its_header_in_the_monitor(rt: HostRuntime) -> Result<(),
     Ok(())
 }
 
-// Whether the thread entered the object so often.
-fn enter_times(lab: &mut Lab, thread: Thread, object: u32, times: u32) -> bool {
-    for _ in 0..times {
-        let Some(Ok(Progress::Done(_))) = lab.enter(thread, object, 1) else {
-            return false;
-        };
-    }
-    true
-}
-
 #[test]
 fn a_print_has_the_next_stamp_of_its_thread(rt: HostRuntime) -> Result<(), Fail> {
     let mut lab = Lab::begin(rt.alloc(), false)?;
@@ -107,7 +97,7 @@ fn a_thread_has_64_holds_at_most(rt: HostRuntime) -> Result<(), Fail> {
     for biasing in [false, true] {
         let mut lab = Lab::begin(rt.alloc(), biasing)?;
         lab.resumes(&rt, First);
-        holds(&rt, enter_times(&mut lab, First, 0, 64));
+        holds(&rt, lab.enter_times(First, 0, 64));
         same(&rt, lab.pass(First).log().len(), 64);
         same(&rt, lab.pass(First).holds(), 64);
         same(&rt, lab.enter(First, 1, 1), Some(Err(TooDeep)));

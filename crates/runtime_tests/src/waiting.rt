@@ -6,6 +6,7 @@ use crate::lab::{Lab, Thread};
 use crate::last::{closed, count, mark};
 use core_world::{IllegalMonitorState, PendingCause, Progress};
 use plain_monitor::{Ending, Path, Value};
+use std::process::Abort;
 use std::test::Fail;
 
 #[test]
@@ -36,6 +37,43 @@ fn a_notified_thread_waits_for_the_monitor(rt: HostRuntime) -> Result<(), Fail> 
         lab.notify_all(First, 0, 1),
         Some(Ok(Progress::Done(0))),
     );
+    Ok(())
+}
+
+// Both threads run, and the first one enters object 0 three times and waits there: its waiting word has the stamp 4 of the Wait and
+// object 0.
+fn wait_with_three_holds(rt: &impl Abort, lab: &mut Lab) {
+    lab.resumes(rt, First);
+    lab.resumes(rt, Second);
+    holds(rt, lab.enter_times(First, 0, 3));
+    let unheard = Progress::Pending(PendingCause::NotNotified { word: 1048578 });
+    same(rt, lab.wait(First, 0, 1), Some(Ok(unheard)));
+}
+
+// The second thread notifies the first one, and leaves it the monitor.
+fn resume_by_a_notify(rt: &impl Abort, lab: &mut Lab) {
+    lab.enters(rt, Second, 0, 1, Path::MonitorFirst);
+    same(
+        rt,
+        lab.notify(Second, 0, 1),
+        Some(Ok(Progress::Done(Some(0)))),
+    );
+    lab.leaves(rt, Second, 0);
+    same(rt, lab.wait(First, 0, 1), LEFT);
+}
+
+/// Who has waited has as many holds as before, so that the first exit doesn't let go.
+#[test]
+fn a_wait_gives_all_holds_back(rt: HostRuntime) -> Result<(), Fail> {
+    let mut lab = Lab::begin(rt.alloc(), false)?;
+    wait_with_three_holds(&rt, &mut lab);
+    resume_by_a_notify(&rt, &mut lab);
+    lab.leaves(&rt, First, 0);
+    let owned = PendingCause::Owned { word: 9 };
+    lab.is_kept_out(&rt, Second, 0, 1, owned);
+    lab.leaves(&rt, First, 0);
+    lab.leaves(&rt, First, 0);
+    lab.enters(&rt, Second, 0, 1, Path::MonitorFirst);
     Ok(())
 }
 
