@@ -4,6 +4,7 @@
 ghost use Rattle.std.specs.Prelude.{◌<◌, length};
 
 use crate::counting::counting_program;
+use object_program::Program;
 use plain_machine::{Machine, Offer};
 use plain_monitor::{Entry, Path, Value};
 use std::process::Abort;
@@ -11,7 +12,7 @@ use std::test::Fail;
 use sync_source::compile;
 
 /// Each pass prints under the monitor.
-const PASSES: [Entry; 6] = [
+const PASSES: &[Entry] = &[
     Entry::Enter {
         object: 0,
         path: Path::StackFirst,
@@ -30,21 +31,40 @@ const PASSES: [Entry; 6] = [
     Entry::Exit { object: 0 },
 ];
 
-/// Asserts that the thread makes these entries, then this one, and then no more.
+/// Asserts that the counting program makes these entries with this fuel, then this one, and then no more.
 fn expect<R: Abort + AllocGlobal>(rt: &R, fuel: u32, last: Entry) -> Result<(), Fail> {
     let source = counting_program(rt.alloc())?;
     let program = compile(rt.alloc(), &source)?;
-    let mut machine = Machine::new(rt.alloc(), &program, fuel)?;
-    for entry in PASSES {
-        take(rt, &mut machine, entry);
-    }
+    expect_log(rt, &program, fuel, PASSES, last)
+}
+
+/// Asserts that the first thread of the program makes these entries with this fuel, then the last one, and then no more.
+pub fn expect_log<R: Abort + AllocGlobal>(
+    rt: &R,
+    program: &Program,
+    fuel: u32,
+    passes: &[Entry],
+    last: Entry,
+) -> Result<(), Fail> {
+    let mut machine = Machine::new(rt.alloc(), program, fuel)?;
+    take_all(rt, &mut machine, passes);
     take(rt, &mut machine, last);
     assert!(rt; machine.offer(0) == Offer::Ended);
     Ok(())
 }
 
+/// Asserts that the first thread makes these entries next.
+fn take_all(rt: &impl Abort, machine: &mut Machine, entries: &[Entry])
+    requires { 0 < length machine.old.threads }
+    ensures { 0 < length machine.new.threads }
+{
+    for entry in entries {
+        take(rt, machine, *entry);
+    }
+}
+
 /// Asserts that the first thread makes this entry next.
-pub fn take(rt: &impl Abort, machine: &mut Machine, entry: Entry)
+fn take(rt: &impl Abort, machine: &mut Machine, entry: Entry)
     requires { 0 < length machine.old.threads }
     ensures { 0 < length machine.new.threads }
 {

@@ -2,17 +2,17 @@
 //! just enough fuel and with one less, both worked out by hand, and its refusals. Four statements, two passes of nine units (a test, an enter, a
 //! `new`, a put, an enter, two exits, an addition, and the way back), the test that is missed, the way out, and the `end`: 25 in all.
 
-ghost use Rattle.std.specs.Prelude.{◌<◌, length};
-
-use crate::fuel::take;
-use crate::texts::is_refused;
-use plain_machine::{Machine, Offer};
+use crate::code::expect_code;
+use crate::fuel::expect_log;
+use crate::texts::expect_refusal;
+use crate::writing::expect_written;
+use object_program::Program;
 use plain_monitor::{Entry, Path, Value};
-use program_syntax::{RefusalCause, write_program};
+use program_syntax::RefusalCause;
 use std::process::Abort;
 use std::test::Fail;
 use sync_source::compile;
-use sync_syntax::{SyncRefusalCause, read_sync, write_sync};
+use sync_syntax::{SyncRefusalCause, read_sync};
 
 /// Thirteen lines, after which the others of the thread follow.
 const FRONT: &str = "\
@@ -63,7 +63,7 @@ end
 ";
 
 /// The one declared object has the number 0, and so those that the first thread makes have the numbers from 1 on.
-const PASSES: [Entry; 12] = [
+const PASSES: &[Entry] = &[
     Entry::Enter {
         object: 0,
         path: Path::StackFirst,
@@ -112,39 +112,31 @@ fn after_lines<R: AllocGlobal>(rt: &R, lines: &str) -> Result<Vec<u8>, Fail> {
     Ok(text)
 }
 
+/// The program of the loop's code.
+fn loop_program<R: AllocGlobal>(rt: &R) -> Result<Program, Fail> {
+    let text = after_lines(rt, LOOP)?;
+    let source = read_sync(rt.alloc(), text.as_slice())?;
+    Ok(compile(rt.alloc(), &source)?)
+}
+
 #[test]
 fn a_new_is_an_instruction_of_the_code(rt: HostRuntime) -> Result<(), Fail> {
-    let text = after_lines(&rt, LOOP)?;
-    let source = read_sync(rt.alloc(), text.as_slice())?;
-    let program = compile(rt.alloc(), &source)?;
-    let mut out = Vec::new(rt.alloc());
-    write_program(&program, &mut out)?;
+    let program = loop_program(&rt)?;
     let code = after_lines(&rt, CODE)?;
-    assert!(rt; out.as_slice() == code.as_slice());
-    Ok(())
+    expect_code(&rt, &program, code.as_slice())
 }
 
 #[test]
 fn a_new_is_written_as_it_was_read(rt: HostRuntime) -> Result<(), Fail> {
     let text = after_lines(&rt, LOOP)?;
     let source = read_sync(rt.alloc(), text.as_slice())?;
-    let out = write_sync(rt.alloc(), &source)?;
-    assert!(rt; out.as_slice() == text.as_slice());
-    Ok(())
+    expect_written(&rt, &source, text.as_slice())
 }
 
 /// Asserts that the thread makes these entries, then this one, and then no more.
 fn expect<R: Abort + AllocGlobal>(rt: &R, fuel: u32, last: Entry) -> Result<(), Fail> {
-    let text = after_lines(rt, LOOP)?;
-    let source = read_sync(rt.alloc(), text.as_slice())?;
-    let program = compile(rt.alloc(), &source)?;
-    let mut machine = Machine::new(rt.alloc(), &program, fuel)?;
-    for entry in PASSES {
-        take(rt, &mut machine, entry);
-    }
-    take(rt, &mut machine, last);
-    assert!(rt; machine.offer(0) == Offer::Ended);
-    Ok(())
+    let program = loop_program(rt)?;
+    expect_log(rt, &program, fuel, PASSES, last)
 }
 
 #[test]
@@ -157,35 +149,55 @@ fn twenty_four_units_are_spent(rt: HostRuntime) -> Result<(), Fail> {
     expect(&rt, 24, Entry::Spent)
 }
 
+/// Lines with a wrong `new`. A class that a later line declares isn't declared yet.
+const WRONG: &[(&str, u32, SyncRefusalCause)] = &[
+    (
+        "while i < n\nnew p E\ndone\nend\n",
+        15,
+        SyncRefusalCause::Plain(RefusalCause::Undeclared),
+    ),
+    (
+        "new p a\nend\n",
+        14,
+        SyncRefusalCause::Plain(RefusalCause::Undeclared),
+    ),
+    (
+        "sync o\nnew q D\ndone\nend\n",
+        15,
+        SyncRefusalCause::Plain(RefusalCause::Undeclared),
+    ),
+    (
+        "new p E\nend\nclass E 0\n",
+        14,
+        SyncRefusalCause::Plain(RefusalCause::Undeclared),
+    ),
+    (
+        "new p\nend\n",
+        14,
+        SyncRefusalCause::Plain(RefusalCause::Operands),
+    ),
+    (
+        "new p D D\nend\n",
+        14,
+        SyncRefusalCause::Plain(RefusalCause::Operands),
+    ),
+    (
+        "new 1 D\nend\n",
+        14,
+        SyncRefusalCause::Plain(RefusalCause::BadName),
+    ),
+    (
+        "sync o\nnew o D\ndone\nend\n",
+        15,
+        SyncRefusalCause::Assigned,
+    ),
+];
+
 #[test]
 fn wrong_lines_of_a_new_are_refused(rt: HostRuntime) -> Result<(), Fail> {
-    let undeclared = SyncRefusalCause::Plain(RefusalCause::Undeclared);
-    let operands = SyncRefusalCause::Plain(RefusalCause::Operands);
-    let rows: [(&str, u32, SyncRefusalCause); 8] = [
-        ("while i < n\nnew p E\ndone\nend\n", 15, undeclared),
-        ("new p a\nend\n", 14, undeclared),
-        ("sync o\nnew q D\ndone\nend\n", 15, undeclared),
-        // A class that a later line declares isn't declared yet.
-        ("new p E\nend\nclass E 0\n", 14, undeclared),
-        ("new p\nend\n", 14, operands),
-        ("new p D D\nend\n", 14, operands),
-        (
-            "new 1 D\nend\n",
-            14,
-            SyncRefusalCause::Plain(RefusalCause::BadName),
-        ),
-        (
-            "sync o\nnew o D\ndone\nend\n",
-            15,
-            SyncRefusalCause::Assigned,
-        ),
-    ];
-    for (lines, line, why) in rows {
+    for (lines, line, why) in WRONG {
         let text = after_lines(&rt, lines)?;
-        assert!(rt;
-            is_refused(rt.alloc(), text.as_slice(), line, why),
-            "{line} {why:?}"
-        );
+        expect_refusal(&rt, text.as_slice(), *line, *why);
     }
     Ok(())
 }

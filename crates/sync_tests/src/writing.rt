@@ -3,6 +3,7 @@
 use crate::counting::counting_program;
 use std::process::Abort;
 use std::test::Fail;
+use sync_source::SyncProgram;
 use sync_syntax::{read_sync, write_sync};
 
 /// The text of two threads with an array, a negative number, blocks one in another, an `else`, and blocks without
@@ -99,28 +100,32 @@ done
 end
 ";
 
+/// Compares what is written of the program with this.
+pub fn expect_written<R: Abort + AllocGlobal>(
+    rt: &R,
+    program: &SyncProgram,
+    written: &[u8],
+) -> Result<(), Fail> {
+    let out = write_sync(rt.alloc(), program)?;
+    assert!(rt; out.as_slice() == written);
+    Ok(())
+}
+
 /// Compares what is written of the text's program with this.
 fn expect<R: Abort + AllocGlobal>(rt: &R, text: &str, written: &str) -> Result<(), Fail> {
-    let Ok(program) = read_sync(rt.alloc(), text.as_bytes()) else {
-        panic!(rt; "refused")
-    };
-    let out = write_sync(rt.alloc(), &program)?;
-    assert!(rt; out.as_slice() == written.as_bytes());
-    Ok(())
+    let program = read_sync(rt.alloc(), text.as_bytes())?;
+    expect_written(rt, &program, written.as_bytes())
 }
 
 #[test]
 fn each_program_with_blocks_has_one_text(rt: HostRuntime) -> Result<(), Fail> {
     expect(&rt, CANONICAL, CANONICAL)?;
     expect(&rt, LOOSE, CANONICAL)?;
-    expect(&rt, COUNTING, COUNTING)?;
-    Ok(())
+    expect(&rt, COUNTING, COUNTING)
 }
 
 #[test]
 fn a_program_that_is_made_is_written(rt: HostRuntime) -> Result<(), Fail> {
     let program = counting_program(rt.alloc())?;
-    let out = write_sync(rt.alloc(), &program)?;
-    assert!(rt; out.as_slice() == COUNTING.as_bytes());
-    Ok(())
+    expect_written(&rt, &program, COUNTING.as_bytes())
 }
