@@ -77,16 +77,18 @@ thread t2 done
 class Item single 19 rebias 1 revoke 0 count 20 prototype 261 enters 1 23 19 0 0 0
 class Flag single ";
 
+/// Words and programs, and how what they write begins.
+const TWENTY_ITEMS: &[(&'static [&'static str], &'static str, &'static str)] = &[
+    (&["run", "--report"], BULK_REBIAS, REBIAS_REPORT),
+    (&["run", "--stats"], BULK_REBIAS, REBIAS_STATS),
+    (&["run", "--report"], STALE_EPOCH, STALE_REPORT),
+    (&["run", "--stats"], STALE_EPOCH, STALE_STATS),
+];
+
 #[test]
 fn biases_of_twenty_items(rt: HostRuntime) -> Result<(), Fail> {
-    let rows: [(&'static [&'static str], &str, &str); 4] = [
-        (&["run", "--report"], BULK_REBIAS, REBIAS_REPORT),
-        (&["run", "--stats"], BULK_REBIAS, REBIAS_STATS),
-        (&["run", "--report"], STALE_EPOCH, STALE_REPORT),
-        (&["run", "--stats"], STALE_EPOCH, STALE_STATS),
-    ];
-    for (words, text, front) in rows {
-        expect_around(&rt, calling(words, text), 0, front, &["\n"])?;
+    for (words, text, front) in TWENTY_ITEMS {
+        expect_around(&rt, &calling(words, text), 0, front, &["\n"])?;
     }
     Ok(())
 }

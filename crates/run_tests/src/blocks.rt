@@ -1,7 +1,7 @@
 //! Programs with blocks, run and compiled.
 
 use crate::calls::{Call, calling};
-use crate::due::expect;
+use crate::due::{After, Fault, Program, Row, expect, expect_after, expect_faults, expect_rows};
 use example_programs::{
     BOUNDED_BUFFER_SYNC, COUNTING, COUNTING_SYNC, CROSSED_BLOCKS_SYNC, PHILOSOPHERS_SYNC,
     READERS_AND_WRITERS_SYNC,
@@ -15,28 +15,48 @@ const SYNC: &[&str] = &["sync"];
 
 const COMPILE: &[&str] = &["compile"];
 
+const BOTH: &[&[&str]] = &[SYNC, COMPILE];
+
 /// What `COUNTING_SYNC` writes.
 const COUNTED: &str = "t1: 0\nt1: 1\nthread t1 done\n";
 
 /// Options of a run, of one worker and four, with biases and without, and turns of one instruction each.
-pub fn settings() -> [&'static [&'static str]; 4] {
-    [
-        &["sync"],
-        &["sync", "--workers", "1", "--bias", "off"],
-        &["sync", "--workers", "4", "--quantum", "1"],
-        &["sync", "--quantum", "1", "--bias", "off"],
-    ]
+const SETTINGS: &[&[&str]] = &[
+    &["sync"],
+    &["sync", "--workers", "1", "--bias", "off"],
+    &["sync", "--workers", "4", "--quantum", "1"],
+    &["sync", "--quantum", "1", "--bias", "off"],
+];
+
+/// Runs each of these programs under each of the settings, and compares what became of it.
+pub fn expect_blocks<R: Threads + Wait + Abort + AllocGlobal + Sync>(
+    rt: &R,
+    rows: &[Program],
+) -> Result<(), Fail> {
+    for row in rows {
+        expect_under_each(rt, row)?;
+    }
+    Ok(())
 }
 
-/// Programs whose output no order of steps changes, under each of the settings.
-#[test]
-fn blocks_are_run(rt: HostRuntime) -> Result<(), Fail> {
-    let rows: [(&str, u8, &str); 5] = [
-        (COUNTING_SYNC, 0, COUNTED),
-        (
-            BOUNDED_BUFFER_SYNC,
-            0,
-            "\
+fn expect_under_each<R: Threads + Wait + Abort + AllocGlobal + Sync>(
+    rt: &R,
+    row: &Program,
+) -> Result<(), Fail> {
+    let (text, status, held) = row;
+    for words in SETTINGS {
+        expect(rt, &calling(words, text), *status, true, held)?;
+    }
+    Ok(())
+}
+
+/// Programs whose output no order of steps changes, and what becomes of them.
+const BLOCKS: &[Program] = &[
+    (COUNTING_SYNC, 0, COUNTED),
+    (
+        BOUNDED_BUFFER_SYNC,
+        0,
+        "\
 consumer: 1
 consumer: 2
 consumer: 3
@@ -46,11 +66,11 @@ consumer: 6
 thread producer done
 thread consumer done
 ",
-        ),
-        (
-            READERS_AND_WRITERS_SYNC,
-            0,
-            "\
+    ),
+    (
+        READERS_AND_WRITERS_SYNC,
+        0,
+        "\
 judge: 10
 judge: 0
 thread reader_1 done
@@ -59,11 +79,11 @@ thread writer_1 done
 thread writer_2 done
 thread judge done
 ",
-        ),
-        (
-            PHILOSOPHERS_SYNC,
-            0,
-            "\
+    ),
+    (
+        PHILOSOPHERS_SYNC,
+        0,
+        "\
 host: 8
 host: 8
 host: 8
@@ -72,19 +92,18 @@ thread zeno done
 thread thales done
 thread host done
 ",
-        ),
-        (
-            CROSSED_BLOCKS_SYNC,
-            4,
-            "thread t1 blocked on b\nthread t2 blocked on a\n",
-        ),
-    ];
-    for (text, status, held) in rows {
-        for words in settings() {
-            expect(&rt, calling(words, text), status, true, held)?;
-        }
-    }
-    Ok(())
+    ),
+    (
+        CROSSED_BLOCKS_SYNC,
+        4,
+        "thread t1 blocked on b\nthread t2 blocked on a\n",
+    ),
+];
+
+/// Programs whose output no order of steps changes, under each of the settings.
+#[test]
+fn blocks_are_run(rt: HostRuntime) -> Result<(), Fail> {
+    expect_blocks(&rt, BLOCKS)
 }
 
 /// What is written of `COUNTING_SYNC` with its journal. The second enter finds the bias that the first one made.
@@ -101,46 +120,48 @@ thread t1 done
 @7 t1 done
 ";
 
+/// Words, and what is written of `COUNTING_SYNC`.
+const BY_WORDS: &[Row] = &[
+    (&["sync", "--journal"], COUNTING_SYNC, 0, JOURNAL),
+    (
+        &["sync", "--stats"],
+        COUNTING_SYNC,
+        0,
+        "t1: 0\nt1: 1\nthread t1 done\nclass C single 0 rebias 0 revoke 0 count 0 prototype 5 enters 1 1 0 0 0 0\n",
+    ),
+    (
+        &["sync", "--report", "--bias=off"],
+        COUNTING_SYNC,
+        0,
+        "t1: 0\nt1: 1\nthread t1 done\nobject a 0 0 2 0 0 0 handovers 0\n",
+    ),
+    (&["sync", "--fuel", "19"], COUNTING_SYNC, 0, COUNTED),
+    (
+        &["sync", "--fuel", "18"],
+        COUNTING_SYNC,
+        1,
+        "t1: 0\nt1: 1\nthread t1 spent\n",
+    ),
+];
+
 /// The options of a run do what they do there. A loop of two passes takes 19 units of fuel: four lines before it, six for each pass, its
 /// last test with the jump past it, and the end.
 #[test]
 fn words_choose_what_is_written(rt: HostRuntime) -> Result<(), Fail> {
-    let rows: [(&'static [&'static str], u8, &str); 5] = [
-        (&["sync", "--journal"], 0, JOURNAL),
-        (
-            &["sync", "--stats"],
-            0,
-            "t1: 0\nt1: 1\nthread t1 done\nclass C single 0 rebias 0 revoke 0 count 0 prototype 5 enters 1 1 0 0 0 0\n",
-        ),
-        (
-            &["sync", "--report", "--bias=off"],
-            0,
-            "t1: 0\nt1: 1\nthread t1 done\nobject a 0 0 2 0 0 0 handovers 0\n",
-        ),
-        (&["sync", "--fuel", "19"], 0, COUNTED),
-        (
-            &["sync", "--fuel", "18"],
-            1,
-            "t1: 0\nt1: 1\nthread t1 spent\n",
-        ),
-    ];
-    for (words, status, held) in rows {
-        expect(&rt, calling(words, COUNTING_SYNC), status, true, held)?;
-    }
-    Ok(())
+    expect_rows(&rt, true, BY_WORDS)
 }
 
 /// The code is a program that `run` runs, and writes of it what `sync` writes of the blocks.
 #[test]
 fn blocks_are_compiled(rt: HostRuntime) -> Result<(), Fail> {
     let all_goes_well = calling(COMPILE, COUNTING_SYNC);
-    expect(&rt, all_goes_well, 0, false, COUNTING)?;
+    expect(&rt, &all_goes_well, 0, false, COUNTING)?;
     let piece_by_piece = Call {
         cut: 1,
         ..all_goes_well
     };
-    expect(&rt, piece_by_piece, 0, false, COUNTING)?;
-    expect(&rt, calling(&["run"], COUNTING), 0, true, COUNTED)
+    expect(&rt, &piece_by_piece, 0, false, COUNTING)?;
+    expect(&rt, &calling(&["run"], COUNTING), 0, true, COUNTED)
 }
 
 /// The first lines of a text, up to its `sync`.
@@ -160,39 +181,24 @@ while i < n
 sync o
 ";
 
-/// Both commands refuse the text of these lines after `FRONT`, so.
-fn expect_refused<R: Threads + Wait + Abort + AllocGlobal + Sync>(
-    rt: &R,
-    after: &[u8],
-    held: &str,
-) -> Result<(), Fail> {
-    for words in [SYNC, COMPILE] {
-        let call = Call {
-            after,
-            ..calling(words, FRONT)
-        };
-        expect(rt, call, 3, false, held)?;
-    }
-    Ok(())
-}
+/// Lines after `FRONT` with which it has no blocks.
+const NO_BLOCKS: &[After] = &[
+    (b"print i\ndone\nadd i i one\nend\n", 3, "line 12: Open\n"),
+    (
+        b"ref o a\ndone\nadd i i one\ndone\nend\n",
+        3,
+        "line 14: Assigned\n",
+    ),
+    (b"done\ndone\ndone\nend\n", 3, "line 16: Stray\n"),
+    (b"done\ndone\nenter o\nend\n", 3, "line 16: UnknownWord\n"),
+    (b"done\ndone\n", 3, "line 3: NoEnd\n"),
+];
 
 #[test]
 fn what_has_no_blocks_is_refused(rt: HostRuntime) -> Result<(), Fail> {
-    let rows: [(&[u8], &str); 5] = [
-        (b"print i\ndone\nadd i i one\nend\n", "line 12: Open\n"),
-        (
-            b"ref o a\ndone\nadd i i one\ndone\nend\n",
-            "line 14: Assigned\n",
-        ),
-        (b"done\ndone\ndone\nend\n", "line 16: Stray\n"),
-        (b"done\ndone\nenter o\nend\n", "line 16: UnknownWord\n"),
-        (b"done\ndone\n", "line 3: NoEnd\n"),
-    ];
-    for (after, held) in rows {
-        expect_refused(&rt, after, held)?;
-    }
-    for words in [SYNC, COMPILE] {
-        expect(&rt, calling(words, ""), 3, false, "program: NoThread\n")?;
+    for words in BOTH {
+        expect_after(&rt, &calling(words, FRONT), NO_BLOCKS)?;
+        expect(&rt, &calling(words, ""), 3, false, "program: NoThread\n")?;
     }
     Ok(())
 }
@@ -203,69 +209,69 @@ fn faults_name_the_code(rt: HostRuntime) -> Result<(), Fail> {
     let text = "thread t\nlocal o\nset o 1\nsync o\nprint o\ndone\nend\n";
     expect(
         &rt,
-        calling(SYNC, text),
+        &calling(SYNC, text),
         1,
         true,
         "thread t fault NotRef at 2\n",
     )
 }
 
-/// A text of so many empty lines, in reads of 100,000 bytes: it may have 1,048,576 bytes.
+/// A text of so many empty lines, in reads of 100,000 bytes, is refused so.
+fn expect_empty<R: Threads + Wait + Abort + AllocGlobal + Sync>(
+    rt: &R,
+    words: &'static [&'static str],
+    empty_lines: u32,
+    held: &str,
+) -> Result<(), Fail> {
+    let call = Call {
+        empty_lines,
+        cut: 100_000,
+        ..calling(words, "")
+    };
+    expect(rt, &call, 3, false, held)
+}
+
+/// How many empty lines a text has, and what is written of it.
+const LONGEST: &[(u32, &str)] = &[
+    (1_048_576, "program: NoThread\n"),
+    (1_048_577, "program: Limit\n"),
+];
+
+/// A text may have 1,048,576 bytes.
 #[test]
 fn too_long_a_text_is_refused(rt: HostRuntime) -> Result<(), Fail> {
-    let rows = [
-        (1_048_576, "program: NoThread\n"),
-        (1_048_577, "program: Limit\n"),
-    ];
-    for (empty_lines, held) in rows {
-        for words in [SYNC, COMPILE] {
-            let call = Call {
-                empty_lines,
-                cut: 100_000,
-                ..calling(words, "")
-            };
-            expect(&rt, call, 3, false, held)?;
-        }
+    for (empty_lines, held) in LONGEST {
+        expect_empty(&rt, SYNC, *empty_lines, held)?;
+        expect_empty(&rt, COMPILE, *empty_lines, held)?;
     }
     Ok(())
 }
 
+/// Words that are none of a command.
+const OTHER_WORDS: &[Row] = &[
+    (&["compile", "x"], COUNTING_SYNC, 2, "words refused\n"),
+    (&["compile", "--stats"], COUNTING_SYNC, 2, "words refused\n"),
+    (&["sync", "--items"], COUNTING_SYNC, 2, "words refused\n"),
+];
+
 #[test]
 fn other_words_are_refused(rt: HostRuntime) -> Result<(), Fail> {
-    let rows: [&'static [&'static str]; 3] = [
-        &["compile", "x"],
-        &["compile", "--stats"],
-        &["sync", "--items"],
-    ];
-    for words in rows {
-        expect(
-            &rt,
-            calling(words, COUNTING_SYNC),
-            2,
-            false,
-            "words refused\n",
-        )?;
-    }
-    Ok(())
+    expect_rows(&rt, false, OTHER_WORDS)
 }
+
+/// Faults of a run, which writes twice and more.
+const FAULTS_OF_SYNC: &[Fault] = &[(1, 0, 5, false, "read fault\n"), (0, 2, 6, true, "t1: 0\n")];
+
+/// Faults where the code is written.
+const FAULTS_OF_COMPILE: &[Fault] = &[
+    (1, 0, 5, false, "read fault\n"),
+    (0, 1, 6, false, ""),
+    (1, 1, 6, false, ""),
+];
 
 /// A read that fails leaves nothing but its line to be written, and a write that fails ends the writing.
 #[test]
 fn faults_end_a_call(rt: HostRuntime) -> Result<(), Fail> {
-    let rows: [(&'static [&'static str], u32, u32, u8, bool, &str); 5] = [
-        (SYNC, 1, 0, 5, false, "read fault\n"),
-        (SYNC, 0, 2, 6, true, "t1: 0\n"),
-        (COMPILE, 1, 0, 5, false, "read fault\n"),
-        (COMPILE, 0, 1, 6, false, ""),
-        (COMPILE, 1, 1, 6, false, ""),
-    ];
-    for (words, read_fails, write_fails, status, has_record, held) in rows {
-        let call = Call {
-            read_fails,
-            write_fails,
-            ..calling(words, COUNTING_SYNC)
-        };
-        expect(&rt, call, status, has_record, held)?;
-    }
-    Ok(())
+    expect_faults(&rt, &calling(SYNC, COUNTING_SYNC), FAULTS_OF_SYNC)?;
+    expect_faults(&rt, &calling(COMPILE, COUNTING_SYNC), FAULTS_OF_COMPILE)
 }

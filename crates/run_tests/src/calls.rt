@@ -1,6 +1,6 @@
 //! Calls from words and a text in memory to what a sink in memory holds.
 
-use bias_cli::{Closed, replay};
+use bias_cli::{Closed, Finish, replay};
 use run_io::{FreeGate, Gate, MemorySink, MemorySource, StepClock};
 use std::alloc::{AllocError, Global};
 use std::process::Abort;
@@ -23,17 +23,38 @@ pub struct Call<'a> {
     pub clock: (u64, u64),
 }
 
+/// What is the same in most calls: no read and no write fails.
+const CALL: Call = Call {
+    words: &[],
+    text: "",
+    after: b"",
+    empty_lines: 0,
+    read_fails: 0,
+    write_fails: 0,
+    cut: 1000,
+    clock: (1, 1),
+};
+
 /// A run of the text with these words, in which no read and no write fails.
 pub fn calling<'a>(words: &'a [&'a str], text: &'a str) -> Call<'a> {
     Call {
         words,
         text,
-        after: b"",
-        empty_lines: 0,
-        read_fails: 0,
-        write_fails: 0,
-        cut: 1000,
-        clock: (1, 1),
+        ..CALL
+    }
+}
+
+/// The call with this after its text.
+pub fn followed_by<'a>(call: &Call<'a>, after: &'a [u8]) -> Call<'a> {
+    Call { after, ..*call }
+}
+
+/// The call in which this read and this write fail.
+pub fn failing<'a>(call: &Call<'a>, read_fails: u32, write_fails: u32) -> Call<'a> {
+    Call {
+        read_fails,
+        write_fails,
+        ..*call
     }
 }
 
@@ -51,8 +72,8 @@ pub struct Made {
 /// Makes the call, by a gate that is always open.
 pub fn make<R: Threads + Wait + Abort + AllocGlobal + Sync>(
     rt: &R,
-    call: Call,
-) -> Result<Made, Fail> {
+    call: &Call,
+) -> Result<Box<Made>, Fail> {
     make_by(rt, call, &FreeGate)
 }
 
@@ -94,12 +115,12 @@ fn sink_of(alloc: Global, call: &Call) -> Result<MemorySink, AllocError> {
 /// Makes the call by this gate.
 pub fn make_by<R: Threads + Wait + Abort + AllocGlobal + Sync, G: Gate + Sync>(
     rt: &R,
-    call: Call,
+    call: &Call,
     gate: &G,
-) -> Result<Made, Fail> {
+) -> Result<Box<Made>, Fail> {
     let words = words_of(rt.alloc(), call.words)?;
-    let mut source = source_of(rt.alloc(), &call)?;
-    let mut sink = sink_of(rt.alloc(), &call)?;
+    let mut source = source_of(rt.alloc(), call)?;
+    let mut sink = sink_of(rt.alloc(), call)?;
     let finish = bias_cli::biasrun(
         rt,
         rt.alloc(),
@@ -114,11 +135,26 @@ pub fn make_by<R: Threads + Wait + Abort + AllocGlobal + Sync, G: Gate + Sync>(
         Some(run) => replay(rt.alloc(), run)?.is_stuck(),
         None => false,
     };
-    Ok(Made {
+    let held = Vec::from_slice(rt.alloc(), sink.held())?;
+    Ok(made_of(rt.alloc(), finish, is_stuck, held)?)
+}
+
+/// What became of a call, in a box: a test that holds what is in it by value is dear to prove.
+fn made_of(
+    alloc: Global,
+    finish: Finish,
+    is_stuck: bool,
+    held: Vec<u8>,
+) -> Result<Box<Made>, AllocError> {
+    let made = Made {
         status: finish.status,
         has_record: finish.run.is_some(),
         closed: finish.closed,
         is_stuck,
-        held: Vec::from_slice(rt.alloc(), sink.held())?,
-    })
+        held,
+    };
+    match Box::new(alloc, made) {
+        Ok(made) => Ok(made),
+        Err(_) => Err(AllocError),
+    }
 }

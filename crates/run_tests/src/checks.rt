@@ -1,7 +1,7 @@
 //! Journals that are checked, and what is written of them.
 
-use crate::calls::{Call, calling, make};
-use crate::due::expect;
+use crate::calls::{Call, calling, followed_by, make};
+use crate::due::{After, Fault, expect, expect_after, expect_faults};
 use example_programs::{ANSWER, EXAMPLES, HASH, WAIT_FOREVER};
 use std::process::Abort;
 use std::sync::Wait;
@@ -12,147 +12,161 @@ const CHECK: &[&str] = &["check"];
 
 /// A check of this text, after which this stands.
 fn checking<'a>(text: &'a str, after: &'a [u8]) -> Call<'a> {
-    Call {
-        after,
-        ..calling(CHECK, text)
-    }
+    followed_by(&calling(CHECK, text), after)
 }
+
+/// Words, a text and what stands after it, and what a check of it comes to: its status and what is written.
+type Checked = (
+    &'static [&'static str],
+    &'static str,
+    &'static [u8],
+    u8,
+    &'static str,
+);
+
+/// Makes the check of each row, and compares what became of it.
+fn expect_checks<R: Threads + Wait + Abort + AllocGlobal + Sync>(
+    rt: &R,
+    rows: &[Checked],
+) -> Result<(), Fail> {
+    for (words, text, after, status, held) in rows {
+        let call = followed_by(&calling(words, text), after);
+        expect(rt, &call, *status, false, held)?;
+    }
+    Ok(())
+}
+
+/// Journals of `ANSWER`, and what stands in their place.
+const JOURNALS: &[After] = &[
+    (
+        b"%journal\n@1 t1 enter a stack-first\n@2 t1 print 42\n@3 t1 exit a\n@4 t1 done\n",
+        0,
+        "legal 4 ended\n",
+    ),
+    (
+        b"%journal\n@1 t1 enter a stack-first\n@2 t1 print 42\n@3 t1 wait a\n@4 t1 done\n",
+        1,
+        "journal 3: no step\n",
+    ),
+    (b"%journal\n", 0, "legal 0 open\n"),
+    (
+        b"%journal\n@1 t1 enter z stack-first\n@2 t1 print 42\n@3 t1 exit a\n@4 t1 done\n",
+        3,
+        "journal 1: unreadable\n",
+    ),
+    (
+        b"%journal\n@1 t1 enter a stack-first\n@2 t1 print 42\n@3 t1 exit a\n@4 t1 done",
+        3,
+        "journal 4: unreadable\n",
+    ),
+    (
+        b"%journal\n@1 t1 enter a stack-first\n@1 t1 print 42\n",
+        1,
+        "journal 2: no step\n",
+    ),
+    (
+        b"%journal\n@1 t1 enter a bias-taken\n@2 t1 print 42\n",
+        0,
+        "legal 2 open\n",
+    ),
+    (b"%journal\n%journal\n", 3, "journal 1: unreadable\n"),
+    (b"", 3, "program: NoJournal\n"),
+    (b"%journal", 3, "program: NoJournal\n"),
+    (b" %journal\n%journal\r\n", 3, "program: NoJournal\n"),
+];
 
 #[test]
 fn journals_of_one_program_are_answered(rt: HostRuntime) -> Result<(), Fail> {
-    let rows: [(&[u8], u8, &str); 11] = [
-        (
-            b"%journal\n@1 t1 enter a stack-first\n@2 t1 print 42\n@3 t1 exit a\n@4 t1 done\n",
-            0,
-            "legal 4 ended\n",
-        ),
-        (
-            b"%journal\n@1 t1 enter a stack-first\n@2 t1 print 42\n@3 t1 wait a\n@4 t1 done\n",
-            1,
-            "journal 3: no step\n",
-        ),
-        (b"%journal\n", 0, "legal 0 open\n"),
-        (
-            b"%journal\n@1 t1 enter z stack-first\n@2 t1 print 42\n@3 t1 exit a\n@4 t1 done\n",
-            3,
-            "journal 1: unreadable\n",
-        ),
-        (
-            b"%journal\n@1 t1 enter a stack-first\n@2 t1 print 42\n@3 t1 exit a\n@4 t1 done",
-            3,
-            "journal 4: unreadable\n",
-        ),
-        (
-            b"%journal\n@1 t1 enter a stack-first\n@1 t1 print 42\n",
-            1,
-            "journal 2: no step\n",
-        ),
-        (
-            b"%journal\n@1 t1 enter a bias-taken\n@2 t1 print 42\n",
-            0,
-            "legal 2 open\n",
-        ),
-        (b"%journal\n%journal\n", 3, "journal 1: unreadable\n"),
-        (b"", 3, "program: NoJournal\n"),
-        (b"%journal", 3, "program: NoJournal\n"),
-        (b" %journal\n%journal\r\n", 3, "program: NoJournal\n"),
-    ];
-    for (after, status, held) in rows {
-        expect(&rt, checking(ANSWER, after), status, false, held)?;
-    }
-    Ok(())
+    expect_after(&rt, &calling(CHECK, ANSWER), JOURNALS)
 }
+
+/// Programs with journals.
+const OTHER_PROGRAMS: &[Checked] = &[
+    (
+        CHECK,
+        HASH,
+        b"%journal\n@1 t1 hash a 273329069 draw 1\n@2 t1 print 273329069\n@3 t1 done\n",
+        0,
+        "legal 3 ended\n",
+    ),
+    (
+        CHECK,
+        HASH,
+        b"%journal\n@1 t1 hash a 77\n@2 t1 print 77\n@3 t1 done\n",
+        1,
+        "hash a\n",
+    ),
+    (
+        CHECK,
+        WAIT_FOREVER,
+        b"%journal\n@1 t1 enter a monitor-first\n@2 t1 wait a\n",
+        0,
+        "legal 2 stuck\n",
+    ),
+    (
+        CHECK,
+        "class C 17\n",
+        b"%journal\n@1\n",
+        3,
+        "line 1: BadNumber\n",
+    ),
+    (CHECK, "", b"%journal\n", 3, "program: NoThread\n"),
+];
 
 #[test]
 fn journals_of_other_programs_are_answered(rt: HostRuntime) -> Result<(), Fail> {
-    let rows: [(&str, &[u8], u8, &str); 5] = [
-        (
-            HASH,
-            b"%journal\n@1 t1 hash a 273329069 draw 1\n@2 t1 print 273329069\n@3 t1 done\n",
-            0,
-            "legal 3 ended\n",
-        ),
-        (
-            HASH,
-            b"%journal\n@1 t1 hash a 77\n@2 t1 print 77\n@3 t1 done\n",
-            1,
-            "hash a\n",
-        ),
-        (
-            WAIT_FOREVER,
-            b"%journal\n@1 t1 enter a monitor-first\n@2 t1 wait a\n",
-            0,
-            "legal 2 stuck\n",
-        ),
-        ("class C 17\n", b"%journal\n@1\n", 3, "line 1: BadNumber\n"),
-        ("", b"%journal\n", 3, "program: NoThread\n"),
-    ];
-    for (text, after, status, held) in rows {
-        expect(&rt, checking(text, after), status, false, held)?;
-    }
-    Ok(())
+    expect_checks(&rt, OTHER_PROGRAMS)
 }
+
+/// Words, programs and journals.
+const BY_WORDS: &[Checked] = &[
+    (
+        &["check", "--fuel", "1"],
+        ANSWER,
+        b"%journal\n@1 t1 spent\n",
+        0,
+        "legal 1 ended\n",
+    ),
+    (
+        &["check", "--hash-start=2"],
+        HASH,
+        b"%journal\n@1 t1 hash a 273331126 draw 1\n",
+        0,
+        "legal 1 open\n",
+    ),
+    (
+        CHECK,
+        HASH,
+        b"%journal\n@1 t1 hash a 273331126 draw 1\n",
+        1,
+        "hash a\n",
+    ),
+    (
+        &["check", "--stats"],
+        ANSWER,
+        b"%journal\n",
+        2,
+        "words refused\n",
+    ),
+];
 
 #[test]
 fn words_choose_fuel_and_generators(rt: HostRuntime) -> Result<(), Fail> {
-    let rows: [(&[&str], &str, &[u8], u8, &str); 4] = [
-        (
-            &["check", "--fuel", "1"],
-            ANSWER,
-            b"%journal\n@1 t1 spent\n",
-            0,
-            "legal 1 ended\n",
-        ),
-        (
-            &["check", "--hash-start=2"],
-            HASH,
-            b"%journal\n@1 t1 hash a 273331126 draw 1\n",
-            0,
-            "legal 1 open\n",
-        ),
-        (
-            CHECK,
-            HASH,
-            b"%journal\n@1 t1 hash a 273331126 draw 1\n",
-            1,
-            "hash a\n",
-        ),
-        (
-            &["check", "--stats"],
-            ANSWER,
-            b"%journal\n",
-            2,
-            "words refused\n",
-        ),
-    ];
-    for (words, text, after, status, held) in rows {
-        let call = Call {
-            words,
-            ..checking(text, after)
-        };
-        expect(&rt, call, status, false, held)?;
-    }
-    Ok(())
+    expect_checks(&rt, BY_WORDS)
 }
+
+/// Faults of a check, which writes once.
+const FAULTS: &[Fault] = &[(1, 0, 5, false, "read fault\n"), (0, 1, 6, false, "")];
 
 #[test]
 fn faults_end_a_check(rt: HostRuntime) -> Result<(), Fail> {
-    let read_fails = Call {
-        read_fails: 1,
-        ..checking(ANSWER, b"%journal\n")
-    };
-    expect(&rt, read_fails, 5, false, "read fault\n")?;
-    let write_fails = Call {
-        write_fails: 1,
-        ..checking(ANSWER, b"%journal\n")
-    };
-    expect(&rt, write_fails, 6, false, "")
+    expect_faults(&rt, &checking(ANSWER, b"%journal\n"), FAULTS)
 }
 
 /// What a run writes of its journal, after its program and the marker, is legal.
 #[test]
 fn journals_of_runs_are_legal(rt: HostRuntime) -> Result<(), Fail> {
-    for (_, text) in EXAMPLES {
+    for (_, text) in &EXAMPLES {
         expect_legal(&rt, text)?;
     }
     Ok(())
@@ -163,7 +177,7 @@ fn expect_legal<R: Threads + Wait + Abort + AllocGlobal + Sync>(
     rt: &R,
     text: &str,
 ) -> Result<(), Fail> {
-    let run = make(rt, calling(&["run", "--journal"], text))?;
+    let run = make(rt, &calling(&["run", "--journal"], text))?;
     let mut after = Vec::from_slice(rt.alloc(), b"%journal\n")?;
     let mut entries = 0u32;
     let mut is_journal = false;
@@ -179,5 +193,5 @@ fn expect_legal<R: Threads + Wait + Abort + AllocGlobal + Sync>(
     let state = if run.status == 4 { "stuck" } else { "ended" };
     let held = format!(in rt.alloc(); "legal {entries} {state}\n")?;
     let check = checking(text, after.as_slice());
-    expect(rt, check, 0, false, held.as_str())
+    expect(rt, &check, 0, false, held.as_str())
 }

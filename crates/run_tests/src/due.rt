@@ -2,7 +2,7 @@
 //!
 //! Each comparison stands in a function, so that a test is proved as one straight line, where a macro would fork with all that is known at it.
 
-use crate::calls::{Call, Made, make};
+use crate::calls::{Call, Made, calling, failing, followed_by, make};
 use example_programs::{BLOCKS, EXAMPLES};
 use std::alloc::{AllocError, Global};
 use std::fmt::Debug;
@@ -55,7 +55,7 @@ fn ends_with_one_of(held: &[u8], texts: &[&str]) -> bool {
     ends
 }
 
-fn is_written(held: &[u8], due: Held) -> bool {
+fn is_written(held: &[u8], due: &Held) -> bool {
     match due {
         Held::Text(text) => held == text.as_bytes(),
         Held::OneOf(texts) => is_one_of(held, texts),
@@ -71,7 +71,7 @@ fn is_as_due(made: &Made, due: &Due) -> bool {
         && made.has_record == due.has_record
         && made.closed.is_some() == due.has_record
         && made.is_stuck == is_to_be_stuck(due)
-        && is_written(made.held.as_slice(), due.held)
+        && is_written(made.held.as_slice(), &due.held)
 }
 
 /// The name of the text in a list of programs.
@@ -113,7 +113,7 @@ fn told(alloc: Global, call: &Call) -> Result<String, AllocError> {
 }
 
 /// What has to be written, for whom a test fails.
-fn shown(alloc: Global, due: Held) -> Result<String, AllocError> {
+fn shown(alloc: Global, due: &Held) -> Result<String, AllocError> {
     match due {
         Held::Text(text) => String::from_str(alloc, text),
         Held::OneOf(texts) => format!(in alloc; "one of {texts:?}\n"),
@@ -128,17 +128,17 @@ pub fn compare<R: Abort + AllocGlobal>(
     rt: &R,
     call: &Call,
     made: &Made,
-    due: Due,
+    due: &Due,
 ) -> Result<(), Fail> {
-    if !is_as_due(made, &due) {
+    if !is_as_due(made, due) {
         let line = told(rt.alloc(), call)?;
-        let wanted = shown(rt.alloc(), due.held)?;
+        let wanted = shown(rt.alloc(), &due.held)?;
         let found = String::from_utf8_lossy(rt.alloc(), made.held.as_slice())?;
         panic!(rt;
             "{line}\nexpected: status {}, record and heap {}, stuck {}\n{wanted}\ngot: status {}, record {}, heap {}, stuck {}\n{found}",
             due.status,
             due.has_record,
-            is_to_be_stuck(&due),
+            is_to_be_stuck(due),
             made.status,
             made.has_record,
             made.closed.is_some(),
@@ -163,40 +163,116 @@ pub fn same<T: Drop + PartialEq + Debug, R: Abort + AllocGlobal>(
 /// Makes the call, and compares what became of it.
 pub fn expect<R: Threads + Wait + Abort + AllocGlobal + Sync>(
     rt: &R,
-    call: Call,
+    call: &Call,
     status: u8,
     has_record: bool,
     held: &str,
 ) -> Result<(), Fail> {
-    let made = make(rt, call)?;
     let due = Due {
         status,
         has_record,
         held: Held::Text(held),
     };
-    compare(rt, &call, &made, due)
+    expect_due(rt, call, &due)
+}
+
+/// Makes the call, and compares what became of it with all that is due.
+pub fn expect_due<R: Threads + Wait + Abort + AllocGlobal + Sync>(
+    rt: &R,
+    call: &Call,
+    due: &Due,
+) -> Result<(), Fail> {
+    let made = make(rt, call)?;
+    compare(rt, call, &made, due)
+}
+
+/// Words, a text, and what the call has to come to: its status and what is written.
+pub type Row = (&'static [&'static str], &'static str, u8, &'static str);
+
+/// Makes the call of each row. Each has a record, or none has.
+pub fn expect_rows<R: Threads + Wait + Abort + AllocGlobal + Sync>(
+    rt: &R,
+    has_record: bool,
+    rows: &[Row],
+) -> Result<(), Fail> {
+    for (words, text, status, held) in rows {
+        expect(rt, &calling(words, text), *status, has_record, held)?;
+    }
+    Ok(())
+}
+
+/// A text, and what calls with it have to come to: their status and what is written.
+pub type Program = (&'static str, u8, &'static str);
+
+/// Makes the call by these words of the text in each row. Each has a record, or none has.
+pub fn expect_programs<R: Threads + Wait + Abort + AllocGlobal + Sync>(
+    rt: &R,
+    words: &'static [&'static str],
+    has_record: bool,
+    rows: &[Program],
+) -> Result<(), Fail> {
+    for (text, status, held) in rows {
+        expect(rt, &calling(words, text), *status, has_record, held)?;
+    }
+    Ok(())
+}
+
+/// What stands after the text of a call, and what the call has to come to: its status and what is written.
+pub type After = (&'static [u8], u8, &'static str);
+
+/// Makes the call, which has no record, with what stands after its text in each row.
+pub fn expect_after<R: Threads + Wait + Abort + AllocGlobal + Sync>(
+    rt: &R,
+    call: &Call,
+    rows: &[After],
+) -> Result<(), Fail> {
+    for (after, status, held) in rows {
+        expect(rt, &followed_by(call, after), *status, false, held)?;
+    }
+    Ok(())
+}
+
+/// The read and the write of a call that fail, as it has them, and what the call has to come to: its status, whether it has a record, and
+/// what is written.
+pub type Fault = (u32, u32, u8, bool, &'static str);
+
+/// Makes the call with the faults of each row.
+pub fn expect_faults<R: Threads + Wait + Abort + AllocGlobal + Sync>(
+    rt: &R,
+    call: &Call,
+    rows: &[Fault],
+) -> Result<(), Fail> {
+    for (read, write, status, has_record, held) in rows {
+        expect(
+            rt,
+            &failing(call, *read, *write),
+            *status,
+            *has_record,
+            held,
+        )?;
+    }
+    Ok(())
 }
 
 /// Makes the call of a run, and compares what became of it where the order of the threads' steps decides.
 pub fn expect_by_order<R: Threads + Wait + Abort + AllocGlobal + Sync>(
     rt: &R,
-    call: Call,
+    call: &Call,
     status: u8,
     held: Held,
 ) -> Result<(), Fail> {
-    let made = make(rt, call)?;
     let due = Due {
         status,
         has_record: true,
         held,
     };
-    compare(rt, &call, &made, due)
+    expect_due(rt, call, &due)
 }
 
 /// Makes the call of a run, and compares its status, and how what was written begins and how it ends.
 pub fn expect_around<R: Threads + Wait + Abort + AllocGlobal + Sync>(
     rt: &R,
-    call: Call,
+    call: &Call,
     status: u8,
     front: &str,
     backs: &[&str],

@@ -101,6 +101,8 @@ fn all_others_go_on_while_a_thread_is_held(rt: HostRuntime) -> Result<(), Fail> 
     run_held(&rt, THREE)
 }
 
+const TWO_WORKERS: &[&str] = &["run", "--workers", "2", "--quantum", "1"];
+
 /// A run of this program by two workers, in turns of one instruction, in which thread 0 sees that thread 1 has begun a thousand turns before
 /// its own first one goes on.
 fn run_held<R: Threads + Wait + Abort + AllocGlobal + Sync>(
@@ -112,9 +114,8 @@ fn run_held<R: Threads + Wait + Abort + AllocGlobal + Sync>(
         came: AtomicBool::new(false),
         saw: AtomicBool::new(false),
     };
-    let words: &[&str] = &["run", "--workers", "2", "--quantum", "1"];
-    let call = calling(words, text);
-    let made = make_by(rt, call, &gate)?;
+    let call = calling(TWO_WORKERS, text);
+    let made = make_by(rt, &call, &gate)?;
     same(rt, &call, made.status, 0)?;
     same(rt, &call, gate.saw.load(Ordering::SeqCst), true)
 }
@@ -154,6 +155,8 @@ impl Gate for Crowd {
     }
 }
 
+const FIVE_WORKERS: &[&str] = &["run", "--workers", "5"];
+
 /// By five workers five threads are in their turns at once: nobody waits in vain, and so the first five that come are five threads. One that
 /// is set running while another one is may have to come again, but not before.
 #[test]
@@ -162,9 +165,8 @@ fn five_workers_run_five_threads_at_once(rt: HostRuntime) -> Result<(), Fail> {
         came: AtomicU32::new(0),
         saw: AtomicU32::new(0),
     };
-    let words: &[&str] = &["run", "--workers", "5"];
-    let call = calling(words, FIVE);
-    let made = make_by(&rt, call, &gate)?;
+    let call = calling(FIVE_WORKERS, FIVE);
+    let made = make_by(&rt, &call, &gate)?;
     same(&rt, &call, made.status, 0)?;
     let came = gate.came.load(Ordering::SeqCst);
     same(&rt, &call, came >= 5, true)?;

@@ -1,13 +1,10 @@
 //! Programs whose threads make objects.
 
-use crate::blocks::settings;
-use crate::calls::{Call, calling};
-use crate::due::expect;
+use crate::blocks::expect_blocks;
+use crate::calls::calling;
+use crate::due::{After, Program, Row, expect_after, expect_rows};
 use example_programs::{MADE, MADE_BY_EACH_SYNC, MADE_QUEUE_SYNC, TOO_MANY};
-use std::process::Abort;
-use std::sync::Wait;
 use std::test::Fail;
-use std::thread::Threads;
 
 /// What is written of `MADE` with its journal.
 const JOURNAL: &str = "\
@@ -91,60 +88,57 @@ thread t1 done
 thread t2 done
 ";
 
-/// Runs of one thread: what is written with some words.
-#[test]
-fn a_thread_makes_objects(rt: HostRuntime) -> Result<(), Fail> {
-    let rows: [(&'static [&'static str], &'static str, u8, &str); 7] = [
-        (&["run", "--journal"], MADE, 0, JOURNAL),
-        (
-            &["run", "--stats"],
-            OF_TWO_CLASSES,
-            0,
-            "\
+/// Words and programs of one thread, and what they write.
+const OF_ONE_THREAD: &[Row] = &[
+    (&["run", "--journal"], MADE, 0, JOURNAL),
+    (
+        &["run", "--stats"],
+        OF_TWO_CLASSES,
+        0,
+        "\
 thread t1 done
 class A single 0 rebias 0 revoke 0 count 0 prototype 5 enters 0 0 0 0 0 0
 class B single 0 rebias 0 revoke 0 count 0 prototype 5 enters 0 1 0 0 0 0
 ",
-        ),
-        (
-            &["run", "--stats"],
-            MADE,
-            0,
-            "t1: t1.0\nthread t1 done\nclass C single 0 rebias 0 revoke 0 count 0 prototype 5 enters 0 1 0 0 0 0\n",
-        ),
-        (
-            &["run", "--report"],
-            MADE,
-            0,
-            "t1: t1.0\nthread t1 done\nobject t1.0 0 1 0 0 0 0 handovers 0\n",
-        ),
-        (
-            &["run", "--report", "--bias=off"],
-            MADE,
-            0,
-            "t1: t1.0\nthread t1 done\nobject t1.0 0 0 1 0 0 0 handovers 0\n",
-        ),
-        (&["run"], TOO_MANY, 1, "thread t1 fault TooMany at 4\n"),
-        (
-            &["run", "--fuel", "4"],
-            MADE,
-            1,
-            "t1: t1.0\nthread t1 spent\n",
-        ),
-    ];
-    for (words, text, status, held) in rows {
-        expect(&rt, calling(words, text), status, true, held)?;
-    }
-    Ok(())
+    ),
+    (
+        &["run", "--stats"],
+        MADE,
+        0,
+        "t1: t1.0\nthread t1 done\nclass C single 0 rebias 0 revoke 0 count 0 prototype 5 enters 0 1 0 0 0 0\n",
+    ),
+    (
+        &["run", "--report"],
+        MADE,
+        0,
+        "t1: t1.0\nthread t1 done\nobject t1.0 0 1 0 0 0 0 handovers 0\n",
+    ),
+    (
+        &["run", "--report", "--bias=off"],
+        MADE,
+        0,
+        "t1: t1.0\nthread t1 done\nobject t1.0 0 0 1 0 0 0 handovers 0\n",
+    ),
+    (&["run"], TOO_MANY, 1, "thread t1 fault TooMany at 4\n"),
+    (
+        &["run", "--fuel", "4"],
+        MADE,
+        1,
+        "t1: t1.0\nthread t1 spent\n",
+    ),
+];
+
+#[test]
+fn a_thread_makes_objects(rt: HostRuntime) -> Result<(), Fail> {
+    expect_rows(&rt, true, OF_ONE_THREAD)
 }
 
-/// Programs of several threads whose output no order of steps changes, under each of the settings.
-#[test]
-fn made_objects_go_from_thread_to_thread(rt: HostRuntime) -> Result<(), Fail> {
-    let rows: [(&str, &str); 2] = [
-        (
-            MADE_QUEUE_SYNC,
-            "\
+/// Programs of several threads whose output no order of steps changes, and what becomes of them.
+const OF_SEVERAL_THREADS: &[Program] = &[
+    (
+        MADE_QUEUE_SYNC,
+        0,
+        "\
 consumer: 1
 consumer: 2
 consumer: 3
@@ -154,10 +148,11 @@ consumer: 6
 thread producer done
 thread consumer done
 ",
-        ),
-        (
-            MADE_BY_EACH_SYNC,
-            "\
+    ),
+    (
+        MADE_BY_EACH_SYNC,
+        0,
+        "\
 host: plato.0
 host: 3
 host: zeno.0
@@ -169,58 +164,60 @@ thread zeno done
 thread thales done
 thread host done
 ",
-        ),
-    ];
-    for (text, held) in rows {
-        for words in settings() {
-            expect(&rt, calling(words, text), 0, true, held)?;
-        }
-    }
-    Ok(())
+    ),
+];
+
+/// They write the same under each of the settings.
+#[test]
+fn made_objects_go_from_thread_to_thread(rt: HostRuntime) -> Result<(), Fail> {
+    expect_blocks(&rt, OF_SEVERAL_THREADS)
 }
+
+/// Words of runs with a dump.
+const DUMPS: &[Row] = &[
+    (&["run"], HANDED_OVER, 0, HANDED_OVER_OUT),
+    (
+        &["run", "--workers", "1", "--bias", "off"],
+        HANDED_OVER,
+        0,
+        HANDED_OVER_OUT,
+    ),
+    (
+        &["run", "--workers", "2", "--quantum", "1"],
+        HANDED_OVER,
+        0,
+        HANDED_OVER_OUT,
+    ),
+];
 
 /// A made object in a slot, and in a dump.
 #[test]
 fn dumps_have_made_objects(rt: HostRuntime) -> Result<(), Fail> {
-    let rows: [&'static [&'static str]; 3] = [
-        &["run"],
-        &["run", "--workers", "1", "--bias", "off"],
-        &["run", "--workers", "2", "--quantum", "1"],
-    ];
-    for words in rows {
-        expect(&rt, calling(words, HANDED_OVER), 0, true, HANDED_OVER_OUT)?;
-    }
-    Ok(())
+    expect_rows(&rt, true, DUMPS)
 }
 
 /// Journals of `MADE`, and what a check answers.
+const JOURNALS: &[After] = &[
+    (
+        b"%journal\n@1 t1 new t1.0 C\n@2 t1 enter t1.0 bias-taken\n@3 t1 print t1.0\n@4 t1 exit t1.0\n@5 t1 done\n",
+        0,
+        "legal 5 ended\n",
+    ),
+    (b"%journal\n@1 t1 new t1.0 C\n", 0, "legal 1 open\n"),
+    (b"%journal\n@1 t1 new t1.1 C\n", 1, "journal 1: no step\n"),
+    (
+        b"%journal\n@1 t1 enter t1.0 bias-taken\n",
+        1,
+        "journal 1: no step\n",
+    ),
+    (
+        b"%journal\n@1 t1 new t1.0 D\n",
+        3,
+        "journal 1: unreadable\n",
+    ),
+];
+
 #[test]
 fn journals_of_made_objects_are_checked(rt: HostRuntime) -> Result<(), Fail> {
-    let rows: [(&[u8], u8, &str); 5] = [
-        (
-            b"%journal\n@1 t1 new t1.0 C\n@2 t1 enter t1.0 bias-taken\n@3 t1 print t1.0\n@4 t1 exit t1.0\n@5 t1 done\n",
-            0,
-            "legal 5 ended\n",
-        ),
-        (b"%journal\n@1 t1 new t1.0 C\n", 0, "legal 1 open\n"),
-        (b"%journal\n@1 t1 new t1.1 C\n", 1, "journal 1: no step\n"),
-        (
-            b"%journal\n@1 t1 enter t1.0 bias-taken\n",
-            1,
-            "journal 1: no step\n",
-        ),
-        (
-            b"%journal\n@1 t1 new t1.0 D\n",
-            3,
-            "journal 1: unreadable\n",
-        ),
-    ];
-    for (after, status, held) in rows {
-        let call = Call {
-            after,
-            ..calling(&["check"], MADE)
-        };
-        expect(&rt, call, status, false, held)?;
-    }
-    Ok(())
+    expect_after(&rt, &calling(&["check"], MADE), JOURNALS)
 }

@@ -1,7 +1,7 @@
 //! Programs that are made, and what becomes of them.
 
 use crate::calls::{Call, calling, make};
-use crate::due::{expect, expect_around, same};
+use crate::due::{Row, expect, expect_around, expect_faults, expect_rows, same};
 use example_programs::HANDOVER_40;
 use std::test::Fail;
 
@@ -10,48 +10,39 @@ const MAKE_40: &[&str] = &["make", "40"];
 #[test]
 fn the_program_for_40_items_is_written(rt: HostRuntime) -> Result<(), Fail> {
     let all_goes_well = calling(MAKE_40, "");
-    expect(&rt, all_goes_well, 0, false, HANDOVER_40)?;
+    expect(&rt, &all_goes_well, 0, false, HANDOVER_40)?;
     // Writes of one byte each change nothing.
     let piece_by_piece = Call {
         cut: 1,
         ..all_goes_well
     };
-    expect(&rt, piece_by_piece, 0, false, HANDOVER_40)?;
+    expect(&rt, &piece_by_piece, 0, false, HANDOVER_40)?;
     // Nothing is read: the first read would fail.
-    let no_read = Call {
-        read_fails: 1,
-        ..all_goes_well
-    };
-    expect(&rt, no_read, 0, false, HANDOVER_40)
+    expect_faults(&rt, &all_goes_well, &[(1, 0, 0, false, HANDOVER_40)])
 }
+
+/// Words that make no program.
+const OTHER_WORDS: &[Row] = &[
+    (&["make", "0"], "", 2, "words refused\n"),
+    (&["make", "1501"], "", 2, "words refused\n"),
+    (&["make"], "", 2, "words refused\n"),
+    (&["make", "40", "--stats"], "", 2, "words refused\n"),
+];
 
 #[test]
 fn other_words_are_refused(rt: HostRuntime) -> Result<(), Fail> {
-    let rows: [&'static [&'static str]; 4] = [
-        &["make", "0"],
-        &["make", "1501"],
-        &["make"],
-        &["make", "40", "--stats"],
-    ];
-    for words in rows {
-        expect(&rt, calling(words, ""), 2, false, "words refused\n")?;
-    }
-    Ok(())
+    expect_rows(&rt, false, OTHER_WORDS)
 }
 
 #[test]
 fn faults_end_the_writing(rt: HostRuntime) -> Result<(), Fail> {
-    let first_write_fails = Call {
-        write_fails: 1,
-        ..calling(MAKE_40, "")
-    };
-    expect(&rt, first_write_fails, 6, false, "")?;
-    let second_write_fails = Call {
-        write_fails: 2,
+    let all_at_once = calling(MAKE_40, "");
+    expect_faults(&rt, &all_at_once, &[(0, 1, 6, false, "")])?;
+    let by_twelve = Call {
         cut: 12,
-        ..calling(MAKE_40, "")
+        ..all_at_once
     };
-    expect(&rt, second_write_fails, 6, false, "class Item 0")
+    expect_faults(&rt, &by_twelve, &[(0, 2, 6, false, "class Item 0")])
 }
 
 /// The program for the most items runs to its end within the fuel that is there without words. Its items are biased as those of the
@@ -59,7 +50,7 @@ fn faults_end_the_writing(rt: HostRuntime) -> Result<(), Fail> {
 #[test]
 fn the_program_for_1500_items_runs_to_its_end(rt: HostRuntime) -> Result<(), Fail> {
     let making = calling(&["make", "1500"], "");
-    let made = make(&rt, making)?;
+    let made = make(&rt, &making)?;
     same(&rt, &making, made.status, 0)?;
     let run = Call {
         after: made.held.as_slice(),
@@ -71,7 +62,7 @@ thread t1 done
 thread t2 done
 class Item single 38 rebias 1 revoke 1 count 40 prototype 1 enters 0 2981 1500 0 0 0
 class Flag single ";
-    expect_around(&rt, run, 0, front, &["\n"])
+    expect_around(&rt, &run, 0, front, &["\n"])
 }
 
 /// What is written of the 40 items where no time goes on.
@@ -87,7 +78,7 @@ class Flag single ";
 #[test]
 fn biases_of_40_items_are_renewed_and_then_revoked_in_bulk(rt: HostRuntime) -> Result<(), Fail> {
     let run = calling(&["run", "--stats"], HANDOVER_40);
-    expect_around(&rt, run, 0, FORTY_ITEMS, &["\n"])
+    expect_around(&rt, &run, 0, FORTY_ITEMS, &["\n"])
 }
 
 /// The same by a clock that stands at its greatest count, with the longest tick: every moment is the same one.
@@ -97,7 +88,7 @@ fn biases_of_40_items_end_the_same_where_the_clock_stands(rt: HostRuntime) -> Re
         clock: (u64::MAX, 0),
         ..calling(&["run", "--stats", "--tick", "4294967295"], HANDOVER_40)
     };
-    expect_around(&rt, run, 0, FORTY_ITEMS, &["\n"])
+    expect_around(&rt, &run, 0, FORTY_ITEMS, &["\n"])
 }
 
 /// Where time goes on by 25 seconds with each look at the clock, the count of a class decays after a bulk rebias: the first thread takes
@@ -112,7 +103,7 @@ class Item single 38 rebias 2 revoke 0 count 20 prototype 517 enters 0 63 38 0 0
 class Flag single ";
     expect_around(
         &rt,
-        calling(&["run", "--stats", "--tick", "25000"], HANDOVER_40),
+        &calling(&["run", "--stats", "--tick", "25000"], HANDOVER_40),
         0,
         front,
         &["\n"],

@@ -64,45 +64,59 @@ impl Gate for Meeting {
     }
 }
 
+const TWO_WORKERS: &[&[&str]] = &[
+    &["run", "--workers", "2"],
+    &["run", "--workers", "2", "--bias", "off"],
+];
+
 /// With two workers a thread's turn may begin while another's is not over.
 #[test]
 fn two_threads_run_at_once(rt: HostRuntime) -> Result<(), Fail> {
-    meet(&rt, &["run", "--workers", "2"])?;
-    meet(&rt, &["run", "--workers", "2", "--bias", "off"])
+    for words in TWO_WORKERS {
+        meet(&rt, words)?;
+    }
+    Ok(())
 }
+
+const ONE_WORKER: &[&[&str]] = &[
+    &["run", "--workers", "1"],
+    &["run", "--workers", "1", "--quantum", "1"],
+];
 
 /// With one worker no turn begins before the one under way is over: the thread that comes first looks for the other one in vain, and that
 /// one finds it there. The worker goes from the least thread up.
 #[test]
 fn one_worker_runs_one_thread_at_a_time(rt: HostRuntime) -> Result<(), Fail> {
-    miss(&rt, &["run", "--workers", "1"])?;
-    miss(&rt, &["run", "--workers", "1", "--quantum", "1"])
+    for words in ONE_WORKER {
+        miss(&rt, words)?;
+    }
+    Ok(())
 }
 
 /// A run with these words in which each of two threads sees the other one's flag.
 fn meet<R: Threads + Wait + Abort + AllocGlobal + Sync>(
     rt: &R,
-    words: &[&str],
+    words: &'static [&'static str],
 ) -> Result<(), Fail> {
     let call = calling(words, CONTENTION);
-    let saw = seen(rt, call, LOOKS)?;
+    let saw = seen(rt, &call, LOOKS)?;
     same(rt, &call, saw, (true, true))
 }
 
 /// A run with these words in which the second thread alone sees the other one's flag.
 fn miss<R: Threads + Wait + Abort + AllocGlobal + Sync>(
     rt: &R,
-    words: &[&str],
+    words: &'static [&'static str],
 ) -> Result<(), Fail> {
     let call = calling(words, CONTENTION);
-    let saw = seen(rt, call, FEWER_LOOKS)?;
+    let saw = seen(rt, &call, FEWER_LOOKS)?;
     same(rt, &call, saw, (false, true))
 }
 
 /// Whether in the run the first of two threads sees the flag of the second, and the second that of the first.
 fn seen<R: Threads + Wait + Abort + AllocGlobal + Sync>(
     rt: &R,
-    call: Call,
+    call: &Call,
     looks: u32,
 ) -> Result<(bool, bool), Fail> {
     let gate = Meeting {
@@ -111,7 +125,7 @@ fn seen<R: Threads + Wait + Abort + AllocGlobal + Sync>(
         looks,
     };
     let made = make_by(rt, call, &gate)?;
-    same(rt, &call, made.status, 0)?;
+    same(rt, call, made.status, 0)?;
     Ok((
         gate.first.saw.load(Ordering::SeqCst),
         gate.second.saw.load(Ordering::SeqCst),

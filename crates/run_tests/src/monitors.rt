@@ -202,32 +202,33 @@ fn ring(made: &Made) -> Option<(u64, u64)> {
     Some((*words.get(shape.claim_at())?, *words.get(shape.end_at())?))
 }
 
+const CROWDED: &[&str] = &[
+    "run",
+    "--workers",
+    "1",
+    "--quantum",
+    "13",
+    "--bias",
+    "off",
+    "--fuel",
+    "110000",
+];
+
 /// There are 4,112 monitors, and 8,192 inflations: the second thread finds the first one on each object in both rounds, which has it by a
 /// record. The 4,096 monitors of the first round are given back: at the dump of the first thread all but that of the last object, for
 /// which the others ask still, and this one at the dump of the last thread. Those of the second round stay, so that 16 are left in the
 /// ring.
 #[test]
 fn monitors_given_back_serve_later_inflations(rt: HostRuntime) -> Result<(), Fail> {
-    let words: &[&str] = &[
-        "run",
-        "--workers",
-        "1",
-        "--quantum",
-        "13",
-        "--bias",
-        "off",
-        "--fuel",
-        "110000",
-    ];
     let text = crowd(rt.alloc())?;
-    let call = calling(words, text.as_str());
-    let made = make(&rt, call)?;
+    let call = calling(CROWDED, text.as_str());
+    let made = make(&rt, &call)?;
     let due = Due {
         status: 0,
         has_record: true,
         held: Held::Text(OF_THE_CROWD),
     };
-    compare(&rt, &call, &made, due)?;
+    compare(&rt, &call, &made, &due)?;
     same(&rt, &call, ring(&made), Some((8192, 8208)))
 }
 
@@ -272,18 +273,19 @@ class C single 0 rebias 0 revoke 0 count 0 prototype 1 enters 0 0 2 0 1 0
 @7 t1 done
 ";
 
+const TWO_BY_TWO: &[&str] = &[
+    "run",
+    "--workers",
+    "1",
+    "--quantum",
+    "2",
+    "--bias",
+    "off",
+    "--stats",
+    "--journal",
+];
+
 #[test]
 fn an_object_is_locked_by_a_record_again(rt: HostRuntime) -> Result<(), Fail> {
-    let words: &[&str] = &[
-        "run",
-        "--workers",
-        "1",
-        "--quantum",
-        "2",
-        "--bias",
-        "off",
-        "--stats",
-        "--journal",
-    ];
-    expect(&rt, calling(words, AGAIN), 0, true, OF_AGAIN)
+    expect(&rt, &calling(TWO_BY_TWO, AGAIN), 0, true, OF_AGAIN)
 }

@@ -1,11 +1,15 @@
 //! Every end of a program. The counts, and the ways to ends, are worked out by hand from the rules of the language.
 
-use crate::calls::{Call, calling};
-use crate::due::expect;
+use crate::calls::calling;
+use crate::due::{Fault, Program, Row, expect, expect_faults, expect_programs, expect_rows};
 use example_programs::{
     ANSWER, DINING_RISING, DINING_THREE, FAULT_BY_ORDER, HASH, LOST_NOTIFY, TWO_ADDERS,
 };
 use std::test::Fail;
+
+const OUTCOMES: &[&str] = &["outcomes"];
+
+const WITNESS: &[&str] = &["outcomes", "--witness"];
 
 /// Two threads that take two monitors, each in its own order.
 const CROSSED: &str = "\
@@ -83,91 +87,98 @@ jump l
 end
 ";
 
+/// Programs, and the counts of their ends.
+const ENDS: &[Program] = &[
+    (ANSWER, 0, "states 2\nended 1\nfaulted 0\nstuck 0\n"),
+    (CROSSED, 4, "states 9\nended 1\nfaulted 0\nstuck 1\n"),
+    (ORDERED, 0, "states 8\nended 1\nfaulted 0\nstuck 0\n"),
+    (FAULT_BY_ORDER, 1, "states 5\nended 1\nfaulted 1\nstuck 0\n"),
+    (LOST_NOTIFY, 4, "states 6\nended 1\nfaulted 0\nstuck 1\n"),
+    (
+        ENDLESS,
+        1,
+        "states 1\nended 0\nfaulted 0\nstuck 0\nspent 1\n",
+    ),
+    (PRINTS, 0, "states 1\nended 0\nfaulted 0\nstuck 0\n"),
+    (DINING_THREE, 4, "states 27\nended 1\nfaulted 0\nstuck 1\n"),
+    (DINING_RISING, 0, "states 24\nended 1\nfaulted 0\nstuck 0\n"),
+    (TWO_ADDERS, 0, "states 17\nended 4\nfaulted 0\nstuck 0\n"),
+    (HASH, 3, "program: Hash\n"),
+];
+
 #[test]
 fn ends_are_counted(rt: HostRuntime) -> Result<(), Fail> {
-    let rows: [(&str, u8, &str); 11] = [
-        (ANSWER, 0, "states 2\nended 1\nfaulted 0\nstuck 0\n"),
-        (CROSSED, 4, "states 9\nended 1\nfaulted 0\nstuck 1\n"),
-        (ORDERED, 0, "states 8\nended 1\nfaulted 0\nstuck 0\n"),
-        (FAULT_BY_ORDER, 1, "states 5\nended 1\nfaulted 1\nstuck 0\n"),
-        (LOST_NOTIFY, 4, "states 6\nended 1\nfaulted 0\nstuck 1\n"),
-        (
-            ENDLESS,
-            1,
-            "states 1\nended 0\nfaulted 0\nstuck 0\nspent 1\n",
-        ),
-        (PRINTS, 0, "states 1\nended 0\nfaulted 0\nstuck 0\n"),
-        (DINING_THREE, 4, "states 27\nended 1\nfaulted 0\nstuck 1\n"),
-        (DINING_RISING, 0, "states 24\nended 1\nfaulted 0\nstuck 0\n"),
-        (TWO_ADDERS, 0, "states 17\nended 4\nfaulted 0\nstuck 0\n"),
-        (HASH, 3, "program: Hash\n"),
-    ];
-    for (text, status, held) in rows {
-        expect(&rt, calling(&["outcomes"], text), status, false, held)?;
-    }
-    Ok(())
+    expect_programs(&rt, OUTCOMES, false, ENDS)
 }
+
+/// Programs, and what is written of them with a way to an end.
+const WAYS: &[Program] = &[
+    (
+        CROSSED,
+        4,
+        "states 9\nended 1\nfaulted 0\nstuck 1\n%journal\n\
+            @1 t1 enter a stack-first\n@2 t2 enter b stack-first\n",
+    ),
+    (
+        FAULT_BY_ORDER,
+        1,
+        "states 5\nended 1\nfaulted 1\nstuck 0\n%journal\n\
+            @1 t2 enter a stack-first\n@2 t2 put a 0 a\n@3 t2 exit a\n@4 t2 done\n\
+            @5 t1 enter a stack-first\n@6 t1 get a 0 a\n@7 t1 exit a\n@8 t1 fault NotInt at 5\n",
+    ),
+    (ANSWER, 0, "states 2\nended 1\nfaulted 0\nstuck 0\n"),
+];
 
 /// After the counts stands a journal that leads to the stuck end, else to the one with a fault, where there is one.
 #[test]
 fn ways_to_ends_are_shown(rt: HostRuntime) -> Result<(), Fail> {
-    let rows: [(&str, u8, &str); 3] = [
-        (
-            CROSSED,
-            4,
-            "states 9\nended 1\nfaulted 0\nstuck 1\n%journal\n\
-            @1 t1 enter a stack-first\n@2 t2 enter b stack-first\n",
-        ),
-        (
-            FAULT_BY_ORDER,
-            1,
-            "states 5\nended 1\nfaulted 1\nstuck 0\n%journal\n\
-            @1 t2 enter a stack-first\n@2 t2 put a 0 a\n@3 t2 exit a\n@4 t2 done\n\
-            @5 t1 enter a stack-first\n@6 t1 get a 0 a\n@7 t1 exit a\n@8 t1 fault NotInt at 5\n",
-        ),
-        (ANSWER, 0, "states 2\nended 1\nfaulted 0\nstuck 0\n"),
-    ];
-    for (text, status, held) in rows {
-        let words = ["outcomes", "--witness"];
-        expect(&rt, calling(&words, text), status, false, held)?;
-    }
-    Ok(())
+    expect_programs(&rt, WITNESS, false, WAYS)
 }
+
+/// How many states are kept, and what is written of `CROSSED`.
+const LIMITS: &[Row] = &[
+    (
+        &["outcomes", "--states", "1"],
+        CROSSED,
+        8,
+        "states 1\nended 0\nfaulted 0\nstuck 0\nopen 1\n",
+    ),
+    (
+        &["outcomes", "--states", "3"],
+        CROSSED,
+        8,
+        "states 3\nended 0\nfaulted 0\nstuck 0\nopen 2\n",
+    ),
+    (
+        &["outcomes", "--states", "9"],
+        CROSSED,
+        4,
+        "states 9\nended 1\nfaulted 0\nstuck 1\n",
+    ),
+    (
+        &["outcomes", "--states", "10000001"],
+        CROSSED,
+        2,
+        "words refused\n",
+    ),
+];
 
 /// A search that has to stop says how many states it didn't go into.
 #[test]
 fn states_are_limited(rt: HostRuntime) -> Result<(), Fail> {
-    let rows: [(&str, u8, &str); 4] = [
-        ("1", 8, "states 1\nended 0\nfaulted 0\nstuck 0\nopen 1\n"),
-        ("3", 8, "states 3\nended 0\nfaulted 0\nstuck 0\nopen 2\n"),
-        ("9", 4, "states 9\nended 1\nfaulted 0\nstuck 1\n"),
-        ("10000001", 2, "words refused\n"),
-    ];
-    for (states, status, held) in rows {
-        let words = ["outcomes", "--states", states];
-        expect(&rt, calling(&words, CROSSED), status, false, held)?;
-    }
-    Ok(())
+    expect_rows(&rt, false, LIMITS)
 }
+
+/// Faults of a search, which writes once.
+const FAULTS: &[Fault] = &[(1, 0, 5, false, "read fault\n"), (0, 1, 6, false, "")];
 
 /// A text without a program, and a read or a write that fails.
 #[test]
 fn searches_that_cannot_be_made_are_refused(rt: HostRuntime) -> Result<(), Fail> {
-    let words = ["outcomes"];
-    let call = calling(&words, ANSWER);
-    let read = Call {
-        read_fails: 1,
-        ..call
-    };
-    expect(&rt, read, 5, false, "read fault\n")?;
-    let write = Call {
-        write_fails: 1,
-        ..call
-    };
-    expect(&rt, write, 6, false, "")?;
+    expect_faults(&rt, &calling(OUTCOMES, ANSWER), FAULTS)?;
     expect(
         &rt,
-        calling(&words, "class C\n"),
+        &calling(OUTCOMES, "class C\n"),
         3,
         false,
         "line 1: Operands\n",

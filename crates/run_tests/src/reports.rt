@@ -1,36 +1,35 @@
 //! Runs with a report.
 
 use crate::calls::calling;
-use crate::due::{expect, expect_around};
+use crate::due::{Program, expect, expect_around, expect_programs};
 use example_programs::{ANSWER, CROSSWISE, DUMP, HAND_OVER, WAIT_FOREVER};
 use std::alloc::{AllocError, Global};
 use std::test::Fail;
 
 const REPORT: &[&str] = &["run", "--report"];
 
+/// Programs of one thread, and what is written of them.
+const OF_ONE_THREAD: &[Program] = &[
+    (
+        WAIT_FOREVER,
+        4,
+        "thread t1 waiting on a\ncycle none\nobject a 0 1 0 0 0 0 handovers 0\n",
+    ),
+    (
+        ANSWER,
+        0,
+        "t1: 42\nthread t1 done\nobject a 0 1 0 0 0 0 handovers 0\n",
+    ),
+    (
+        DUMP,
+        0,
+        "dump t1 1\na held by t1 2\nthread t1 done\nobject a 1 1 0 0 0 0 handovers 0\n",
+    ),
+];
+
 #[test]
 fn reports_of_one_thread_are_written(rt: HostRuntime) -> Result<(), Fail> {
-    let rows: [(&str, u8, &str); 3] = [
-        (
-            WAIT_FOREVER,
-            4,
-            "thread t1 waiting on a\ncycle none\nobject a 0 1 0 0 0 0 handovers 0\n",
-        ),
-        (
-            ANSWER,
-            0,
-            "t1: 42\nthread t1 done\nobject a 0 1 0 0 0 0 handovers 0\n",
-        ),
-        (
-            DUMP,
-            0,
-            "dump t1 1\na held by t1 2\nthread t1 done\nobject a 1 1 0 0 0 0 handovers 0\n",
-        ),
-    ];
-    for (text, status, held) in rows {
-        expect(&rt, calling(REPORT, text), status, true, held)?;
-    }
-    Ok(())
+    expect_programs(&rt, REPORT, true, OF_ONE_THREAD)
 }
 
 /// What is written of `CROSSWISE`, but for the paths to `h`.
@@ -42,27 +41,30 @@ object a 0 1 0 0 0 0 handovers 0
 object b 0 1 0 0 0 0 handovers 0
 object h 0 1 ";
 
+/// Programs of two threads, their status, and how what is written of them begins and ends.
+const OF_TWO_THREADS: &[(&str, u8, &str, &[&str])] = &[
+    (CROSSWISE, 4, CROSSWISE_REPORT, &[" handovers 2\n"]),
+    (
+        HAND_OVER,
+        0,
+        "t2: 7\nthread t1 done\nthread t2 done\nobject b 0 1 ",
+        &[" handovers 1\n", " handovers 2\n"],
+    ),
+];
+
 /// By which paths the second thread gets a lock depends on where the first one is.
 #[test]
 fn reports_of_two_threads_are_written(rt: HostRuntime) -> Result<(), Fail> {
-    let rows: [(&str, u8, &str, &[&str]); 2] = [
-        (CROSSWISE, 4, CROSSWISE_REPORT, &[" handovers 2\n"]),
-        (
-            HAND_OVER,
-            0,
-            "t2: 7\nthread t1 done\nthread t2 done\nobject b 0 1 ",
-            &[" handovers 1\n", " handovers 2\n"],
-        ),
-    ];
-    for (text, status, front, backs) in rows {
-        expect_around(&rt, calling(REPORT, text), status, front, backs)?;
+    for (text, status, front, backs) in OF_TWO_THREADS {
+        expect_around(&rt, &calling(REPORT, text), *status, front, backs)?;
     }
     Ok(())
 }
 
+const ALL: &[&str] = &["run", "--report", "--journal", "--stats"];
+
 #[test]
 fn a_report_stands_after_all_others(rt: HostRuntime) -> Result<(), Fail> {
-    let words: &[&str] = &["run", "--report", "--journal", "--stats"];
     let held = "\
 t1: 42
 thread t1 done
@@ -73,7 +75,7 @@ class C single 0 rebias 0 revoke 0 count 0 prototype 5 enters 0 1 0 0 0 0
 @4 t1 done
 object a 0 1 0 0 0 0 handovers 0
 ";
-    expect(&rt, calling(words, ANSWER), 0, true, held)
+    expect(&rt, &calling(ALL, ANSWER), 0, true, held)
 }
 
 /// Before the threads of `three_cycles`.
@@ -91,21 +93,24 @@ object o7 C
 object g Gate
 ";
 
+/// The object that each thread enters first, and the one that it enters last.
+const ENTERED: &[(u32, u32)] = &[
+    (0, 3),
+    (1, 5),
+    (2, 1),
+    (3, 0),
+    (4, 6),
+    (5, 2),
+    (6, 4),
+    (7, 3),
+];
+
 /// A program of eight threads, each of which enters the object of its own number, waits until all have done so, and then enters another
 /// one: 0 and 3 wait for one another, 1, 5 and 2 in this order, and 4 and 6; 7 waits for one of the first.
 fn three_cycles(alloc: Global) -> Result<String, Fail> {
     let mut text = String::from_str(alloc, OBJECTS)?;
-    for (own, other) in [
-        (0, 3),
-        (1, 5),
-        (2, 1),
-        (3, 0),
-        (4, 6),
-        (5, 2),
-        (6, 4),
-        (7, 3),
-    ] {
-        text.push_str(thread_of(alloc, own, other)?.as_str())?;
+    for (own, other) in ENTERED {
+        text.push_str(thread_of(alloc, *own, *other)?.as_str())?;
     }
     Ok(text)
 }
@@ -172,5 +177,5 @@ object g 0 1 ";
 fn three_cycles_are_told_once_each(rt: HostRuntime) -> Result<(), Fail> {
     let text = three_cycles(rt.alloc())?;
     let call = calling(REPORT, text.as_str());
-    expect_around(&rt, call, 4, THREE_CYCLES, &["\n"])
+    expect_around(&rt, &call, 4, THREE_CYCLES, &["\n"])
 }

@@ -1,13 +1,16 @@
 //! Words, texts, and what is written.
 
 use crate::calls::{Call, calling};
-use crate::due::expect;
-use crate::settings::expect_under_each;
+use crate::due::{Fault, Program, Row, expect_faults, expect_rows};
+use crate::settings::{SETTINGS, expect_under_each};
 use example_programs::{
     ANSWER, BULK_REBIAS, CROSSWISE, DINING_THREE, DUMP, EXIT_TOO_OFTEN, HAND_OVER, HASH, INFLATED,
     OVERFLOW, STALE_EPOCH, TOO_DEEP, UNGUARDED_GET, WAIT_FOREVER, WAIT_WITHOUT_HOLD,
 };
+use std::process::Abort;
+use std::sync::Wait;
 use std::test::Fail;
+use std::thread::Threads;
 
 /// `ANSWER` up to its fifth line.
 const NO_END: &str = "\
@@ -35,42 +38,53 @@ fn running(text: &str) -> Call {
     calling(&[], text)
 }
 
+/// Runs each of these texts under each of the settings, and compares what became of it.
+fn expect_programs_under_each<R: Threads + Wait + Abort + AllocGlobal + Sync>(
+    rt: &R,
+    has_record: bool,
+    rows: &[Program],
+) -> Result<(), Fail> {
+    for (text, status, held) in rows {
+        expect_under_each(rt, &running(text), *status, has_record, held)?;
+    }
+    Ok(())
+}
+
+/// Programs whose output no order of steps changes, and what becomes of them.
+const PROGRAMS: &[Program] = &[
+    (ANSWER, 0, "t1: 42\nthread t1 done\n"),
+    (
+        EXIT_TOO_OFTEN,
+        1,
+        "thread t1 fault IllegalMonitorState at 6\n",
+    ),
+    (
+        WAIT_WITHOUT_HOLD,
+        1,
+        "thread t1 fault IllegalMonitorState at 2\n",
+    ),
+    (WAIT_FOREVER, 4, "thread t1 waiting on a\n"),
+    (HASH, 0, "t1: 273329069\nthread t1 done\n"),
+    (TOO_DEEP, 1, "thread t1 fault TooDeep at 5\n"),
+    (OVERFLOW, 1, "thread t1 fault Overflow at 3\n"),
+    (UNGUARDED_GET, 1, "thread t1 fault Unguarded at 2\n"),
+    (NO_SLOT, 1, "thread t1 fault Range at 2\n"),
+    (HAND_OVER, 0, "t2: 7\nthread t1 done\nthread t2 done\n"),
+    (
+        CROSSWISE,
+        4,
+        "thread t1 blocked on b\nthread t2 blocked on a\n",
+    ),
+    (DUMP, 0, "dump t1 1\na held by t1 2\nthread t1 done\n"),
+    (INFLATED, 0, "t1: 273329069\nthread t1 done\n"),
+    (BULK_REBIAS, 0, "t2: 20\nthread t1 done\nthread t2 done\n"),
+    (STALE_EPOCH, 0, "t1: 21\nthread t1 done\nthread t2 done\n"),
+];
+
 /// Programs whose output no order of steps changes, under each of the settings.
 #[test]
 fn programs_write_the_same_under_each_setting(rt: HostRuntime) -> Result<(), Fail> {
-    let rows: [(&'static str, u8, &str); 15] = [
-        (ANSWER, 0, "t1: 42\nthread t1 done\n"),
-        (
-            EXIT_TOO_OFTEN,
-            1,
-            "thread t1 fault IllegalMonitorState at 6\n",
-        ),
-        (
-            WAIT_WITHOUT_HOLD,
-            1,
-            "thread t1 fault IllegalMonitorState at 2\n",
-        ),
-        (WAIT_FOREVER, 4, "thread t1 waiting on a\n"),
-        (HASH, 0, "t1: 273329069\nthread t1 done\n"),
-        (TOO_DEEP, 1, "thread t1 fault TooDeep at 5\n"),
-        (OVERFLOW, 1, "thread t1 fault Overflow at 3\n"),
-        (UNGUARDED_GET, 1, "thread t1 fault Unguarded at 2\n"),
-        (NO_SLOT, 1, "thread t1 fault Range at 2\n"),
-        (HAND_OVER, 0, "t2: 7\nthread t1 done\nthread t2 done\n"),
-        (
-            CROSSWISE,
-            4,
-            "thread t1 blocked on b\nthread t2 blocked on a\n",
-        ),
-        (DUMP, 0, "dump t1 1\na held by t1 2\nthread t1 done\n"),
-        (INFLATED, 0, "t1: 273329069\nthread t1 done\n"),
-        (BULK_REBIAS, 0, "t2: 20\nthread t1 done\nthread t2 done\n"),
-        (STALE_EPOCH, 0, "t1: 21\nthread t1 done\nthread t2 done\n"),
-    ];
-    for (text, status, held) in rows {
-        expect_under_each(&rt, running(text), status, true, held)?;
-    }
-    Ok(())
+    expect_programs_under_each(&rt, true, PROGRAMS)
 }
 
 /// What is written of `ANSWER` with its journal.
@@ -107,111 +121,111 @@ thread t1 done
 @7 t1 done
 ";
 
+/// Words and programs, and what they write.
+const BY_WORDS: &[Row] = &[
+    (&["run", "--journal"], ANSWER, 0, BY_BIAS),
+    (
+        &[
+            "run",
+            "--journal",
+            "--fuel=100",
+            "--workers=2",
+            "--quantum=10",
+            "--tick=1",
+        ],
+        ANSWER,
+        0,
+        BY_BIAS,
+    ),
+    (
+        &["run", "--journal", "--bias=off"],
+        ANSWER,
+        0,
+        BY_STACK_LOCK,
+    ),
+    (
+        &["run", "--stats"],
+        ANSWER,
+        0,
+        "t1: 42\nthread t1 done\nclass C single 0 rebias 0 revoke 0 count 0 prototype 5 enters 0 1 0 0 0 0\n",
+    ),
+    (
+        &["run", "--stats", "--bias", "off"],
+        ANSWER,
+        0,
+        "t1: 42\nthread t1 done\nclass C single 0 rebias 0 revoke 0 count 0 prototype 1 enters 0 0 1 0 0 0\n",
+    ),
+    (
+        &["run", "--workers=1"],
+        CROSSWISE,
+        4,
+        "thread t1 blocked on b\nthread t2 blocked on a\n",
+    ),
+    (
+        &["run", "--hash-start", "2"],
+        HASH,
+        0,
+        "t1: 273331126\nthread t1 done\n",
+    ),
+    (
+        &["run", "--workers=1", "--quantum=1"],
+        DINING_THREE,
+        4,
+        "thread plato blocked on b\nthread zeno blocked on c\nthread thales blocked on a\n",
+    ),
+    (
+        &["run", "--workers=1"],
+        DINING_THREE,
+        0,
+        "thread plato done\nthread zeno done\nthread thales done\n",
+    ),
+    (
+        &["run", "--journal", "--bias", "off"],
+        INFLATED,
+        0,
+        INFLATED_JOURNAL,
+    ),
+    (
+        &["run", "--stats"],
+        INFLATED,
+        0,
+        "t1: 273329069\nthread t1 done\nclass C single 1 rebias 0 revoke 0 count 1 prototype 5 enters 0 1 0 0 1 0\n",
+    ),
+];
+
 #[test]
 fn words_choose_what_is_written(rt: HostRuntime) -> Result<(), Fail> {
-    let rows: [(&'static [&'static str], &'static str, u8, &str); 11] = [
-        (&["run", "--journal"], ANSWER, 0, BY_BIAS),
-        (
-            &[
-                "run",
-                "--journal",
-                "--fuel=100",
-                "--workers=2",
-                "--quantum=10",
-                "--tick=1",
-            ],
-            ANSWER,
-            0,
-            BY_BIAS,
-        ),
-        (
-            &["run", "--journal", "--bias=off"],
-            ANSWER,
-            0,
-            BY_STACK_LOCK,
-        ),
-        (
-            &["run", "--stats"],
-            ANSWER,
-            0,
-            "t1: 42\nthread t1 done\nclass C single 0 rebias 0 revoke 0 count 0 prototype 5 enters 0 1 0 0 0 0\n",
-        ),
-        (
-            &["run", "--stats", "--bias", "off"],
-            ANSWER,
-            0,
-            "t1: 42\nthread t1 done\nclass C single 0 rebias 0 revoke 0 count 0 prototype 1 enters 0 0 1 0 0 0\n",
-        ),
-        (
-            &["run", "--workers=1"],
-            CROSSWISE,
-            4,
-            "thread t1 blocked on b\nthread t2 blocked on a\n",
-        ),
-        (
-            &["run", "--hash-start", "2"],
-            HASH,
-            0,
-            "t1: 273331126\nthread t1 done\n",
-        ),
-        (
-            &["run", "--workers=1", "--quantum=1"],
-            DINING_THREE,
-            4,
-            "thread plato blocked on b\nthread zeno blocked on c\nthread thales blocked on a\n",
-        ),
-        (
-            &["run", "--workers=1"],
-            DINING_THREE,
-            0,
-            "thread plato done\nthread zeno done\nthread thales done\n",
-        ),
-        (
-            &["run", "--journal", "--bias", "off"],
-            INFLATED,
-            0,
-            INFLATED_JOURNAL,
-        ),
-        (
-            &["run", "--stats"],
-            INFLATED,
-            0,
-            "t1: 273329069\nthread t1 done\nclass C single 1 rebias 0 revoke 0 count 1 prototype 5 enters 0 1 0 0 1 0\n",
-        ),
-    ];
-    for (words, text, status, held) in rows {
-        expect(&rt, calling(words, text), status, true, held)?;
-    }
-    Ok(())
+    expect_rows(&rt, true, BY_WORDS)
 }
 
 /// The first instruction takes the only unit of fuel.
 #[test]
 fn one_unit_of_fuel_is_soon_spent(rt: HostRuntime) -> Result<(), Fail> {
     let call = calling(&["--fuel", "1"], ANSWER);
-    expect_under_each(&rt, call, 1, true, "thread t1 spent\n")
+    expect_under_each(&rt, &call, 1, true, "thread t1 spent\n")
 }
+
+/// Words that are none of a command.
+const OTHER_WORDS: &[Row] = &[
+    (&["walk"], ANSWER, 2, "words refused\n"),
+    (&["run", "--workers", "0"], ANSWER, 2, "words refused\n"),
+];
 
 #[test]
 fn other_words_are_refused(rt: HostRuntime) -> Result<(), Fail> {
-    let rows: [&'static [&'static str]; 2] = [&["walk"], &["run", "--workers", "0"]];
-    for words in rows {
-        expect(&rt, calling(words, ANSWER), 2, false, "words refused\n")?;
-    }
-    Ok(())
+    expect_rows(&rt, false, OTHER_WORDS)
 }
+
+/// Texts that are no programs.
+const NO_PROGRAMS: &[Program] = &[
+    (NO_END, 3, "line 3: NoEnd\n"),
+    ("", 3, "program: NoThread\n"),
+    ("class C 17\n", 3, "line 1: BadNumber\n"),
+];
 
 #[test]
 fn what_cannot_run_is_refused(rt: HostRuntime) -> Result<(), Fail> {
-    let rows: [(&str, &str); 3] = [
-        (NO_END, "line 3: NoEnd\n"),
-        ("", "program: NoThread\n"),
-        ("class C 17\n", "line 1: BadNumber\n"),
-    ];
-    for (text, held) in rows {
-        expect_under_each(&rt, running(text), 3, false, held)?;
-    }
-    Ok(())
+    expect_programs_under_each(&rt, false, NO_PROGRAMS)
 }
 
 /// A text of so many empty lines, in reads of 100,000 bytes.
@@ -227,13 +241,13 @@ fn empty_lines(empty_lines: u32) -> Call<'static> {
 #[test]
 fn longest_text_is_read(rt: HostRuntime) -> Result<(), Fail> {
     let call = empty_lines(1_048_576);
-    expect_under_each(&rt, call, 3, false, "program: NoThread\n")
+    expect_under_each(&rt, &call, 3, false, "program: NoThread\n")
 }
 
 #[test]
 fn too_long_a_text_is_refused(rt: HostRuntime) -> Result<(), Fail> {
     let call = empty_lines(1_048_577);
-    expect_under_each(&rt, call, 3, false, "program: Limit\n")
+    expect_under_each(&rt, &call, 3, false, "program: Limit\n")
 }
 
 /// Reads and writes of one byte each change nothing.
@@ -243,26 +257,23 @@ fn cuts_change_nothing(rt: HostRuntime) -> Result<(), Fail> {
         cut: 1,
         ..running(ANSWER)
     };
-    expect_under_each(&rt, piece_by_piece, 0, true, "t1: 42\nthread t1 done\n")
+    expect_under_each(&rt, &piece_by_piece, 0, true, "t1: 42\nthread t1 done\n")
 }
+
+/// Faults of a run of `ANSWER`, which writes twice.
+const FAULTS: &[Fault] = &[
+    (1, 0, 5, false, "read fault\n"),
+    (2, 0, 5, false, "read fault\n"),
+    (0, 1, 6, true, ""),
+    (0, 2, 6, true, "t1: 42\n"),
+    (1, 1, 6, false, ""),
+];
 
 /// A read that fails leaves nothing but its line to be written, and a write that fails ends the writing.
 #[test]
 fn faults_end_a_call(rt: HostRuntime) -> Result<(), Fail> {
-    let rows = [
-        (1, 0, 5, false, "read fault\n"),
-        (2, 0, 5, false, "read fault\n"),
-        (0, 1, 6, true, ""),
-        (0, 2, 6, true, "t1: 42\n"),
-        (1, 1, 6, false, ""),
-    ];
-    for (read_fails, write_fails, status, has_record, held) in rows {
-        let call = Call {
-            read_fails,
-            write_fails,
-            ..running(ANSWER)
-        };
-        expect_under_each(&rt, call, status, has_record, held)?;
+    for words in SETTINGS {
+        expect_faults(&rt, &calling(words, ANSWER), FAULTS)?;
     }
     Ok(())
 }

@@ -22,36 +22,47 @@ impl Gate for Counting {
     }
 }
 
+/// How many instructions a turn has, and how many turns the thread has then.
+const TURNS: &[(&str, u32)] = &[
+    ("1000", 1),
+    ("7", 1),
+    ("6", 2),
+    ("4", 2),
+    ("3", 3),
+    ("1", 7),
+];
+
 /// The thread of the program executes six instructions, and then ends, which is no instruction. A turn is over after as many instructions
 /// as are asked for: so with six to a turn it has a second one, in which it ends, and with seven it hasn't.
 #[test]
 fn a_quantum_is_how_long_a_turn_is(rt: HostRuntime) -> Result<(), Fail> {
-    let rows = [
-        ("1000", 1),
-        ("7", 1),
-        ("6", 2),
-        ("4", 2),
-        ("3", 3),
-        ("1", 7),
-    ];
-    for (quantum, turns) in rows {
-        let words: &[&str] = &["run", "--quantum", quantum];
-        let call = calling(words, ANSWER);
-        let found = turns_of(&rt, call)?;
-        same(&rt, &call, found, turns)?;
+    for (quantum, turns) in TURNS {
+        expect_turns(&rt, quantum, *turns)?;
     }
     Ok(())
+}
+
+/// A run by turns of so many instructions has so many turns.
+fn expect_turns<R: Threads + Wait + Abort + AllocGlobal + Sync>(
+    rt: &R,
+    quantum: &'static str,
+    turns: u32,
+) -> Result<(), Fail> {
+    let words: &[&str] = &["run", "--quantum", quantum];
+    let call = calling(words, ANSWER);
+    let found = turns_of(rt, &call)?;
+    same(rt, &call, found, turns)
 }
 
 /// The turns of a run.
 fn turns_of<R: Threads + Wait + Abort + AllocGlobal + Sync>(
     rt: &R,
-    call: Call,
+    call: &Call,
 ) -> Result<u32, Fail> {
     let gate = Counting {
         visits: AtomicU32::new(0),
     };
     let made = make_by(rt, call, &gate)?;
-    same(rt, &call, made.status, 0)?;
+    same(rt, call, made.status, 0)?;
     Ok(gate.visits.load(Ordering::SeqCst))
 }
