@@ -1,6 +1,8 @@
 //! Calls from words and a text in memory to what a sink in memory holds.
 
-use bias_cli::{Closed, Finish, replay};
+ghost use Rattle.std.specs.Prelude.{◌≡◌, IfOk};
+
+use bias_cli::{Finish, replay};
 use run_io::{FreeGate, Gate, MemorySink, MemorySource, StepClock};
 use std::alloc::{AllocError, Global};
 use std::process::Abort;
@@ -58,13 +60,10 @@ pub fn failing<'a>(call: &Call<'a>, read_fails: u32, write_fails: u32) -> Call<'
     }
 }
 
-/// What became of a call: its status, whether it has a record, its closed heap, whether the machine under the record is stuck, and what
-/// the sink holds then.
+/// What became of a call: what it answered, whether the machine under its record is stuck, and what the sink holds then.
 #[derive(Drop)]
 pub struct Made {
-    pub status: u8,
-    pub has_record: bool,
-    pub closed: Option<Closed>,
+    pub finish: Box<Finish>,
     pub is_stuck: bool,
     pub held: Vec<u8>,
 }
@@ -73,7 +72,7 @@ pub struct Made {
 pub fn make<R: Threads + Wait + Abort + AllocGlobal + Sync>(
     rt: &R,
     call: &Call,
-) -> Result<Box<Made>, Fail> {
+) -> Result<Made, Fail> {
     make_by(rt, call, &FreeGate)
 }
 
@@ -98,16 +97,27 @@ fn text_of(alloc: Global, call: &Call) -> Result<Vec<u8>, AllocError> {
 }
 
 /// The source that the call reads.
-fn source_of(alloc: Global, call: &Call) -> Result<MemorySource, AllocError> {
+fn source_of(alloc: Global, call: &Call) -> Result<Box<MemorySource>, AllocError> {
     let fails = vec![in alloc; call.read_fails]?;
-    Ok(MemorySource::new(text_of(alloc, call)?, fails, call.cut.max(1)))
+    let text = text_of(alloc, call)?;
+    boxed(alloc, MemorySource::new(text, fails, call.cut.max(1)))
 }
 
 /// The sink that the call writes to, with room for 1,000,000 bytes.
-fn sink_of(alloc: Global, call: &Call) -> Result<MemorySink, AllocError> {
+fn sink_of(alloc: Global, call: &Call) -> Result<Box<MemorySink>, AllocError> {
     let fails = vec![in alloc; call.write_fails]?;
     match MemorySink::new(alloc, 1_000_000, fails, call.cut.max(1)) {
-        Ok(sink) => Ok(sink),
+        Ok(sink) => boxed(alloc, sink),
+        Err(_) => Err(AllocError),
+    }
+}
+
+/// The value in a box. One with many words that stands by itself is dear: the proof of a function goes over all of them at each step.
+fn boxed<T: Drop>(alloc: Global, value: T) -> Result<Box<T>, AllocError>
+    ensures { IfOk result (λ b. b.value ≡ value) }
+{
+    match Box::new(alloc, value) {
+        Ok(value) => Ok(value),
         Err(_) => Err(AllocError),
     }
 }
@@ -117,44 +127,34 @@ pub fn make_by<R: Threads + Wait + Abort + AllocGlobal + Sync, G: Gate + Sync>(
     rt: &R,
     call: &Call,
     gate: &G,
-) -> Result<Box<Made>, Fail> {
+) -> Result<Made, Fail> {
     let words = words_of(rt.alloc(), call.words)?;
     let mut source = source_of(rt.alloc(), call)?;
     let mut sink = sink_of(rt.alloc(), call)?;
-    let finish = bias_cli::biasrun(
-        rt,
-        rt.alloc(),
-        words.as_slice(),
-        &mut source,
-        &mut sink,
-        &StepClock::new(call.clock.0, call.clock.1),
-        gate,
-    );
+    let clock = StepClock::new(call.clock.0, call.clock.1);
+    run(rt, words.as_slice(), &mut source, &mut sink, &clock, gate)
+}
+
+/// Calls `biasrun`, and replays the record.
+fn run<R: Threads + Wait + AllocGlobal + Sync, G: Gate + Sync>(
+    rt: &R,
+    words: &[String],
+    source: &mut MemorySource,
+    sink: &mut MemorySink,
+    clock: &StepClock,
+    gate: &G,
+) -> Result<Made, Fail> {
+    let finish = bias_cli::biasrun(rt, rt.alloc(), words, source, sink, clock, gate);
+    let finish = boxed(rt.alloc(), finish)?;
     bias_cli::records_can_be_replayed();
     let is_stuck = match &finish.run {
         Some(run) => replay(rt.alloc(), run)?.is_stuck(),
         None => false,
     };
     let held = Vec::from_slice(rt.alloc(), sink.held())?;
-    Ok(made_of(rt.alloc(), finish, is_stuck, held)?)
-}
-
-/// What became of a call, in a box: a test that holds what is in it by value is dear to prove.
-fn made_of(
-    alloc: Global,
-    finish: Finish,
-    is_stuck: bool,
-    held: Vec<u8>,
-) -> Result<Box<Made>, AllocError> {
-    let made = Made {
-        status: finish.status,
-        has_record: finish.run.is_some(),
-        closed: finish.closed,
+    Ok(Made {
+        finish,
         is_stuck,
         held,
-    };
-    match Box::new(alloc, made) {
-        Ok(made) => Ok(made),
-        Err(_) => Err(AllocError),
-    }
+    })
 }

@@ -190,7 +190,11 @@ fn expect_legal<R: Threads + Wait + Abort + AllocGlobal + Sync>(
             after.push(*byte)?;
         }
     }
-    let state = if run.status == 4 { "stuck" } else { "ended" };
+    let state = if run.finish.status == 4 {
+        "stuck"
+    } else {
+        "ended"
+    };
     let held = format!(in rt.alloc(); "legal {entries} {state}\n")?;
     let check = checking(text, after.as_slice());
     expect(rt, &check, 0, false, held.as_str())

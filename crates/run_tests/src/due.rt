@@ -67,9 +67,9 @@ fn is_written(held: &[u8], due: &Held) -> bool {
 
 /// A call with a record has a closed heap, and is stuck where its status says so.
 fn is_as_due(made: &Made, due: &Due) -> bool {
-    made.status == due.status
-        && made.has_record == due.has_record
-        && made.closed.is_some() == due.has_record
+    made.finish.status == due.status
+        && made.finish.run.is_some() == due.has_record
+        && made.finish.closed.is_some() == due.has_record
         && made.is_stuck == is_to_be_stuck(due)
         && is_written(made.held.as_slice(), &due.held)
 }
@@ -139,9 +139,9 @@ pub fn compare<R: Abort + AllocGlobal>(
             due.status,
             due.has_record,
             is_to_be_stuck(due),
-            made.status,
-            made.has_record,
-            made.closed.is_some(),
+            made.finish.status,
+            made.finish.run.is_some(),
+            made.finish.closed.is_some(),
             made.is_stuck
         );
     }

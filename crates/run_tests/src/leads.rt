@@ -116,7 +116,7 @@ fn run_held<R: Threads + Wait + Abort + AllocGlobal + Sync>(
     };
     let call = calling(TWO_WORKERS, text);
     let made = make_by(rt, &call, &gate)?;
-    same(rt, &call, made.status, 0)?;
+    same(rt, &call, made.finish.status, 0)?;
     same(rt, &call, gate.saw.load(Ordering::SeqCst), true)
 }
 
@@ -167,7 +167,7 @@ fn five_workers_run_five_threads_at_once(rt: HostRuntime) -> Result<(), Fail> {
     };
     let call = calling(FIVE_WORKERS, FIVE);
     let made = make_by(&rt, &call, &gate)?;
-    same(&rt, &call, made.status, 0)?;
+    same(&rt, &call, made.finish.status, 0)?;
     let came = gate.came.load(Ordering::SeqCst);
     same(&rt, &call, came >= 5, true)?;
     same(&rt, &call, gate.saw.load(Ordering::SeqCst), came)

@@ -51,7 +51,7 @@ fn faults_end_the_writing(rt: HostRuntime) -> Result<(), Fail> {
 fn the_program_for_1500_items_runs_to_its_end(rt: HostRuntime) -> Result<(), Fail> {
     let making = calling(&["make", "1500"], "");
     let made = make(&rt, &making)?;
-    same(&rt, &making, made.status, 0)?;
+    same(&rt, &making, made.finish.status, 0)?;
     let run = Call {
         after: made.held.as_slice(),
         ..calling(&["run", "--stats"], "")

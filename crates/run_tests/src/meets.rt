@@ -125,7 +125,7 @@ fn seen<R: Threads + Wait + Abort + AllocGlobal + Sync>(
         looks,
     };
     let made = make_by(rt, call, &gate)?;
-    same(rt, call, made.status, 0)?;
+    same(rt, call, made.finish.status, 0)?;
     Ok((
         gate.first.saw.load(Ordering::SeqCst),
         gate.second.saw.load(Ordering::SeqCst),

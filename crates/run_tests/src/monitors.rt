@@ -196,7 +196,7 @@ thread t15 done
 /// How many ring positions were claimed in the run, each by an inflation, and the position after the last monitor that stands in the
 /// ring after it: so many monitors there are, and so often one was given back.
 fn ring(made: &Made) -> Option<(u64, u64)> {
-    let closed = made.closed.as_ref()?;
+    let closed = made.finish.closed.as_ref()?;
     let words = closed.words().items();
     let shape = closed.shape();
     Some((*words.get(shape.claim_at())?, *words.get(shape.end_at())?))

@@ -63,6 +63,6 @@ fn turns_of<R: Threads + Wait + Abort + AllocGlobal + Sync>(
         visits: AtomicU32::new(0),
     };
     let made = make_by(rt, call, &gate)?;
-    same(rt, call, made.status, 0)?;
+    same(rt, call, made.finish.status, 0)?;
     Ok(gate.visits.load(Ordering::SeqCst))
 }

@@ -1,8 +1,8 @@
-use Rattle.std.proofs.Common.{ap}
+use Rattle.std.proofs.Common.{ap, sym, ◌∙◌}
 use Rattle.run_io.specs.contracts.memory_sink.MemorySinkSink.TheImpl.{ghosts}
 use Rattle.bias_cli.specs.Seen.{sink_seen}
 use Rattle.bias_cli.proofs.Statuses.{either_of}
-use Rattle.run_tests.proofs.calls.make_by.Goals as goal
+use Rattle.run_tests.proofs.calls.run.Goals as goal
 
 pub replay-requires : goal.replay-requires
 replay-requires g c =
@@ -12,4 +12,4 @@ replay-requires g c =
     let up = c.biasrun-finish.ensures.given_up is in
     record { status = up.status; left = up.left; unwritten = ap (sink_seen ghosts) up.unwritten })
     c.biasrun-finish.ensures.finished)
-    c.in-Some.is
+    (sym (ap (λ h. h.run) (c.deref.ensures ∙ c.in_ok-finish.ensures)) ∙ c.in-Some.is)
