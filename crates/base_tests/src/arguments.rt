@@ -1,7 +1,9 @@
 //! Words that are accepted, and words that aren't.
 
+use crate::compare::holds;
 use cli_args::{Command, Options, WordsFault, read_words};
 use std::alloc::{AllocError, Global};
+use std::process::Abort;
 use std::test::Fail;
 
 const DEFAULT: Options = Options {
@@ -34,123 +36,171 @@ fn read(alloc: Global, words: &[String]) -> Result<Option<Command>, AllocError> 
     }
 }
 
-#[test]
-fn options_are_read(rt: HostRuntime) -> Result<(), Fail> {
-    let workers = Options {
-        workers: 4,
-        stats: true,
-        ..DEFAULT
-    };
-    let all = Options {
-        workers: 16,
-        fuel: 200_000,
-        quantum: 7,
-        bias: false,
-        start: 0,
-        tick: 30,
-        stats: true,
-        journal: true,
-        report: true,
-    };
-    let report = Options {
-        report: true,
-        ..DEFAULT
-    };
-    let greatest_start = Options {
-        start: 4_294_967_295,
-        ..DEFAULT
-    };
-    let accepted = [
-        ("biasrun run --workers=04 --stats", workers),
-        ("biasrun run", DEFAULT),
-        ("--help run", DEFAULT),
-        (
-            "biasrun run --journal --tick 30 --bias=off --hash-start=0 --quantum 0000000007 --stats --report --fuel 200000 --workers=16",
-            all,
-        ),
-        ("biasrun run --hash-start 4294967295", greatest_start),
-        ("biasrun run --tick=0", DEFAULT),
-        ("biasrun run --bias on", DEFAULT),
-        ("biasrun run --report", report),
-    ];
-    for (line, options) in accepted {
-        let command = read_line(rt.alloc(), line)?;
-        assert_eq!(rt; command, Some(Command::Run(options)), "at {line}");
+/// Expects that each line asks for the command beside it.
+fn expect_asked<R: Abort + AllocGlobal>(rt: &R, rows: &[(&str, Command)]) -> Result<(), Fail> {
+    for (line, asked) in rows {
+        expect(rt, line, asked)?;
     }
     Ok(())
+}
+
+/// Expects that the line asks for this.
+fn expect<R: Abort + AllocGlobal>(rt: &R, line: &str, asked: &Command) -> Result<(), Fail> {
+    let command = read_line(rt.alloc(), line)?;
+    assert_eq!(rt; command, Some(*asked), "at {line}");
+    Ok(())
+}
+
+/// Lines that run a program.
+const RUNS: &[(&str, Command)] = &[
+    (
+        "biasrun run --workers=04 --stats",
+        Command::Run(Options {
+            workers: 4,
+            stats: true,
+            ..DEFAULT
+        }),
+    ),
+    ("biasrun run", Command::Run(DEFAULT)),
+    ("--help run", Command::Run(DEFAULT)),
+    (
+        "biasrun run --journal --tick 30 --bias=off --hash-start=0 --quantum 0000000007 --stats --report --fuel 200000 --workers=16",
+        Command::Run(Options {
+            workers: 16,
+            fuel: 200_000,
+            quantum: 7,
+            bias: false,
+            start: 0,
+            tick: 30,
+            stats: true,
+            journal: true,
+            report: true,
+        }),
+    ),
+    (
+        "biasrun run --hash-start 4294967295",
+        Command::Run(Options {
+            start: 4_294_967_295,
+            ..DEFAULT
+        }),
+    ),
+    ("biasrun run --tick=0", Command::Run(DEFAULT)),
+    ("biasrun run --bias on", Command::Run(DEFAULT)),
+    (
+        "biasrun run --report",
+        Command::Run(Options {
+            report: true,
+            ..DEFAULT
+        }),
+    ),
+];
+
+#[test]
+fn options_are_read(rt: HostRuntime) -> Result<(), Fail> {
+    expect_asked(&rt, RUNS)
 }
 
 /// A program with blocks is run with the options of a run, and compiled without any.
+const OF_BLOCKS: &[(&str, Command)] = &[
+    ("biasrun sync", Command::Sync(DEFAULT)),
+    (
+        "biasrun sync --journal --quantum=7",
+        Command::Sync(Options {
+            quantum: 7,
+            journal: true,
+            ..DEFAULT
+        }),
+    ),
+    ("biasrun compile", Command::Compile),
+];
+
 #[test]
 fn programs_with_blocks_are_asked_for(rt: HostRuntime) -> Result<(), Fail> {
-    let some = Options {
-        quantum: 7,
-        journal: true,
-        ..DEFAULT
-    };
-    let accepted = [
-        ("biasrun sync", Command::Sync(DEFAULT)),
-        ("biasrun sync --journal --quantum=7", Command::Sync(some)),
-        ("biasrun compile", Command::Compile),
-    ];
-    for (line, asked) in accepted {
-        let command = read_line(rt.alloc(), line)?;
-        assert_eq!(rt; command, Some(asked), "at {line}");
-    }
-    Ok(())
+    expect_asked(&rt, OF_BLOCKS)
 }
+
+/// Lines that check a journal.
+const CHECKS: &[(&str, Command)] = &[
+    (
+        "biasrun check",
+        Command::Check {
+            fuel: 20_000,
+            start: 1,
+        },
+    ),
+    (
+        "biasrun check --fuel 7",
+        Command::Check { fuel: 7, start: 1 },
+    ),
+    (
+        "biasrun check --hash-start=0 --fuel=200000",
+        Command::Check {
+            fuel: 200_000,
+            start: 0,
+        },
+    ),
+];
 
 #[test]
 fn checks_are_read(rt: HostRuntime) -> Result<(), Fail> {
-    let accepted = [
-        ("biasrun check", (20_000, 1)),
-        ("biasrun check --fuel 7", (7, 1)),
-        ("biasrun check --hash-start=0 --fuel=200000", (200_000, 0)),
-    ];
-    for (line, (fuel, start)) in accepted {
-        let command = read_line(rt.alloc(), line)?;
-        let check = Command::Check { fuel, start };
-        assert_eq!(rt; command, Some(check), "at {line}");
-    }
-    Ok(())
+    expect_asked(&rt, CHECKS)
 }
+
+/// Lines that search the outcomes.
+const SEARCHES: &[(&str, Command)] = &[
+    (
+        "biasrun outcomes",
+        Command::Outcomes {
+            states: 1_000_000,
+            witness: false,
+        },
+    ),
+    (
+        "biasrun outcomes --witness",
+        Command::Outcomes {
+            states: 1_000_000,
+            witness: true,
+        },
+    ),
+    (
+        "biasrun outcomes --states 1",
+        Command::Outcomes {
+            states: 1,
+            witness: false,
+        },
+    ),
+    (
+        "biasrun outcomes --states=10000000 --witness",
+        Command::Outcomes {
+            states: 10_000_000,
+            witness: true,
+        },
+    ),
+    (
+        "biasrun outcomes --witness --states 0000000250",
+        Command::Outcomes {
+            states: 250,
+            witness: true,
+        },
+    ),
+];
 
 #[test]
 fn searches_are_read(rt: HostRuntime) -> Result<(), Fail> {
-    let accepted = [
-        ("biasrun outcomes", (1_000_000, false)),
-        ("biasrun outcomes --witness", (1_000_000, true)),
-        ("biasrun outcomes --states 1", (1, false)),
-        (
-            "biasrun outcomes --states=10000000 --witness",
-            (10_000_000, true),
-        ),
-        (
-            "biasrun outcomes --witness --states 0000000250",
-            (250, true),
-        ),
-    ];
-    for (line, (states, witness)) in accepted {
-        let command = read_line(rt.alloc(), line)?;
-        let search = Command::Outcomes { states, witness };
-        assert_eq!(rt; command, Some(search), "at {line}");
-    }
-    Ok(())
+    expect_asked(&rt, SEARCHES)
 }
+
+/// Lines that make a program for this many items.
+const MAKES: &[(&str, Command)] = &[
+    ("biasrun make 1", Command::Make { items: 1 }),
+    ("biasrun make 40", Command::Make { items: 40 }),
+    ("biasrun make 0000000040", Command::Make { items: 40 }),
+    ("biasrun make 1500", Command::Make { items: 1_500 }),
+];
 
 #[test]
 fn numbers_of_items_are_read(rt: HostRuntime) -> Result<(), Fail> {
-    let accepted = [
-        ("biasrun make 1", 1),
-        ("biasrun make 40", 40),
-        ("biasrun make 0000000040", 40),
-        ("biasrun make 1500", 1_500),
-    ];
-    for (line, items) in accepted {
-        let command = read_line(rt.alloc(), line)?;
-        assert_eq!(rt; command, Some(Command::Make { items }), "at {line}");
-    }
-    Ok(())
+    expect_asked(&rt, MAKES)
 }
 
 /// Words that are refused, a command line each.
@@ -273,13 +323,19 @@ biasrun compile --witness
 biasrun make --witness
 biasrun make 5 --states 5";
 
+/// Expects that the line is refused.
+fn expect_refused<R: Abort + AllocGlobal>(rt: &R, line: &str) -> Result<(), Fail> {
+    let command = read_line(rt.alloc(), line)?;
+    assert!(rt; command.is_none(), "at {line}");
+    Ok(())
+}
+
 #[test]
 fn other_words_are_refused(rt: HostRuntime) -> Result<(), Fail> {
     for line in REFUSED.split('\n') {
-        let command = read_line(rt.alloc(), line)?;
-        assert!(rt; command.is_none(), "at {line}");
+        expect_refused(&rt, line)?;
     }
     let command = read(rt.alloc(), &[])?;
-    assert!(rt; command.is_none());
+    holds(&rt, command.is_none());
     Ok(())
 }

@@ -5,6 +5,7 @@ use run_io::{
     BufferedSink, Clock, Failed, FreeGate, Gate, MemorySink, MemorySource, ReadSource, Sink,
     Source, StepClock, WriteSink, moment,
 };
+use std::process::Abort;
 use std::test::Fail;
 
 fn read_once<S: Source>(source: &mut S, into: &mut [u8]) -> Result<usize, Failed> {
@@ -23,23 +24,30 @@ fn pass<G: Gate>(gate: &G) {
     gate.visit(0);
 }
 
+/// What each read answers, and the first two bytes of the buffer after it.
+const READS: &[(Result<usize, Failed>, [u8; 2])] = &[
+    (Ok(2), [1, 2]),
+    (Err(Failed), [1, 2]),
+    (Ok(2), [3, 4]),
+    (Ok(1), [5, 4]),
+    (Ok(0), [5, 4]),
+];
+
+/// Expects these answers, one read after the other, and these bytes.
+fn expect_reads(rt: &impl Abort, source: &mut MemorySource) {
+    let mut into = [0u8; 3];
+    for (answer, front) in READS {
+        same(rt, read_once(source, &mut into), *answer);
+        same(rt, [into[0], into[1]], *front);
+    }
+}
+
 #[test]
 fn a_source_in_memory_gives_its_bytes_or_fails(rt: HostRuntime) -> Result<(), Fail> {
     let bytes = [1, 2, 3, 4, 5].to_vec(rt.alloc())?;
     let fails = [2].to_vec(rt.alloc())?;
     let mut source = MemorySource::new(bytes, fails, 2);
-    let mut into = [0u8; 3];
-    let wants: [(Result<usize, Failed>, [u8; 2]); 5] = [
-        (Ok(2), [1, 2]),
-        (Err(Failed), [1, 2]),
-        (Ok(2), [3, 4]),
-        (Ok(1), [5, 4]),
-        (Ok(0), [5, 4]),
-    ];
-    for (answer, front) in wants {
-        same(&rt, read_once(&mut source, &mut into), answer);
-        same(&rt, [into[0], into[1]], front);
-    }
+    expect_reads(&rt, &mut source);
     Ok(())
 }
 
@@ -57,6 +65,16 @@ fn a_sink_in_memory_takes_what_it_has_room_for(rt: HostRuntime) -> Result<(), Fa
     Ok(())
 }
 
+/// Counts of a clock, how long one stands for, and the moment of each.
+const MOMENTS: &[(u64, u32, u64)] = &[(3, 0, 1), (3, 5, 16), (u64::MAX, 2, u64::MAX)];
+
+/// Expects those moments.
+fn expect_moments(rt: &impl Abort) {
+    for (count, tick, want) in MOMENTS {
+        same(rt, moment(*count, *tick), *want);
+    }
+}
+
 #[test]
 fn a_step_clock_goes_on_by_its_step(rt: HostRuntime) {
     let clock = StepClock::new(1, 1);
@@ -66,9 +84,7 @@ fn a_step_clock_goes_on_by_its_step(rt: HostRuntime) {
     let clock = StepClock::new(u64::MAX, 2);
     same(&rt, tell(&clock), u64::MAX);
     same(&rt, tell(&clock), 1);
-    for (count, tick, want) in [(3, 0, 1), (3, 5, 16), (u64::MAX, 2, u64::MAX)] {
-        same(&rt, moment(count, tick), want);
-    }
+    expect_moments(&rt);
     pass(&FreeGate);
 }
 
