@@ -183,15 +183,15 @@ sync o
 
 /// Lines after `FRONT` with which it has no blocks.
 const NO_BLOCKS: &[After] = &[
-    (b"print i\ndone\nadd i i one\nend\n", 3, "line 12: Open\n"),
+    ("print i\ndone\nadd i i one\nend\n", 3, "line 12: Open\n"),
     (
-        b"ref o a\ndone\nadd i i one\ndone\nend\n",
+        "ref o a\ndone\nadd i i one\ndone\nend\n",
         3,
         "line 14: Assigned\n",
     ),
-    (b"done\ndone\ndone\nend\n", 3, "line 16: Stray\n"),
-    (b"done\ndone\nenter o\nend\n", 3, "line 16: UnknownWord\n"),
-    (b"done\ndone\n", 3, "line 3: NoEnd\n"),
+    ("done\ndone\ndone\nend\n", 3, "line 16: Stray\n"),
+    ("done\ndone\nenter o\nend\n", 3, "line 16: UnknownWord\n"),
+    ("done\ndone\n", 3, "line 3: NoEnd\n"),
 ];
 
 #[test]

@@ -1,8 +1,8 @@
 //! Journals that are checked, and what is written of them.
 
 use crate::calls::{Call, calling, followed_by, make};
-use crate::due::{After, Fault, expect, expect_after, expect_faults};
-use example_programs::{ANSWER, EXAMPLES, HASH, WAIT_FOREVER};
+use crate::due::{After, Fault, PROGRAMS, expect, expect_after, expect_faults};
+use example_programs::{ANSWER, HASH, WAIT_FOREVER};
 use std::process::Abort;
 use std::sync::Wait;
 use std::test::Fail;
@@ -19,7 +19,7 @@ fn checking<'a>(text: &'a str, after: &'a [u8]) -> Call<'a> {
 type Checked = (
     &'static [&'static str],
     &'static str,
-    &'static [u8],
+    &'static str,
     u8,
     &'static str,
 );
@@ -30,7 +30,7 @@ fn expect_checks<R: Threads + Wait + Abort + AllocGlobal + Sync>(
     rows: &[Checked],
 ) -> Result<(), Fail> {
     for (words, text, after, status, held) in rows {
-        let call = followed_by(&calling(words, text), after);
+        let call = followed_by(&calling(words, text), after.as_bytes());
         expect(rt, &call, *status, false, held)?;
     }
     Ok(())
@@ -39,40 +39,40 @@ fn expect_checks<R: Threads + Wait + Abort + AllocGlobal + Sync>(
 /// Journals of `ANSWER`, and what stands in their place.
 const JOURNALS: &[After] = &[
     (
-        b"%journal\n@1 t1 enter a stack-first\n@2 t1 print 42\n@3 t1 exit a\n@4 t1 done\n",
+        "%journal\n@1 t1 enter a stack-first\n@2 t1 print 42\n@3 t1 exit a\n@4 t1 done\n",
         0,
         "legal 4 ended\n",
     ),
     (
-        b"%journal\n@1 t1 enter a stack-first\n@2 t1 print 42\n@3 t1 wait a\n@4 t1 done\n",
+        "%journal\n@1 t1 enter a stack-first\n@2 t1 print 42\n@3 t1 wait a\n@4 t1 done\n",
         1,
         "journal 3: no step\n",
     ),
-    (b"%journal\n", 0, "legal 0 open\n"),
+    ("%journal\n", 0, "legal 0 open\n"),
     (
-        b"%journal\n@1 t1 enter z stack-first\n@2 t1 print 42\n@3 t1 exit a\n@4 t1 done\n",
+        "%journal\n@1 t1 enter z stack-first\n@2 t1 print 42\n@3 t1 exit a\n@4 t1 done\n",
         3,
         "journal 1: unreadable\n",
     ),
     (
-        b"%journal\n@1 t1 enter a stack-first\n@2 t1 print 42\n@3 t1 exit a\n@4 t1 done",
+        "%journal\n@1 t1 enter a stack-first\n@2 t1 print 42\n@3 t1 exit a\n@4 t1 done",
         3,
         "journal 4: unreadable\n",
     ),
     (
-        b"%journal\n@1 t1 enter a stack-first\n@1 t1 print 42\n",
+        "%journal\n@1 t1 enter a stack-first\n@1 t1 print 42\n",
         1,
         "journal 2: no step\n",
     ),
     (
-        b"%journal\n@1 t1 enter a bias-taken\n@2 t1 print 42\n",
+        "%journal\n@1 t1 enter a bias-taken\n@2 t1 print 42\n",
         0,
         "legal 2 open\n",
     ),
-    (b"%journal\n%journal\n", 3, "journal 1: unreadable\n"),
-    (b"", 3, "program: NoJournal\n"),
-    (b"%journal", 3, "program: NoJournal\n"),
-    (b" %journal\n%journal\r\n", 3, "program: NoJournal\n"),
+    ("%journal\n%journal\n", 3, "journal 1: unreadable\n"),
+    ("", 3, "program: NoJournal\n"),
+    ("%journal", 3, "program: NoJournal\n"),
+    (" %journal\n%journal\r\n", 3, "program: NoJournal\n"),
 ];
 
 #[test]
@@ -85,32 +85,32 @@ const OTHER_PROGRAMS: &[Checked] = &[
     (
         CHECK,
         HASH,
-        b"%journal\n@1 t1 hash a 273329069 draw 1\n@2 t1 print 273329069\n@3 t1 done\n",
+        "%journal\n@1 t1 hash a 273329069 draw 1\n@2 t1 print 273329069\n@3 t1 done\n",
         0,
         "legal 3 ended\n",
     ),
     (
         CHECK,
         HASH,
-        b"%journal\n@1 t1 hash a 77\n@2 t1 print 77\n@3 t1 done\n",
+        "%journal\n@1 t1 hash a 77\n@2 t1 print 77\n@3 t1 done\n",
         1,
         "hash a\n",
     ),
     (
         CHECK,
         WAIT_FOREVER,
-        b"%journal\n@1 t1 enter a monitor-first\n@2 t1 wait a\n",
+        "%journal\n@1 t1 enter a monitor-first\n@2 t1 wait a\n",
         0,
         "legal 2 stuck\n",
     ),
     (
         CHECK,
         "class C 17\n",
-        b"%journal\n@1\n",
+        "%journal\n@1\n",
         3,
         "line 1: BadNumber\n",
     ),
-    (CHECK, "", b"%journal\n", 3, "program: NoThread\n"),
+    (CHECK, "", "%journal\n", 3, "program: NoThread\n"),
 ];
 
 #[test]
@@ -123,28 +123,28 @@ const BY_WORDS: &[Checked] = &[
     (
         &["check", "--fuel", "1"],
         ANSWER,
-        b"%journal\n@1 t1 spent\n",
+        "%journal\n@1 t1 spent\n",
         0,
         "legal 1 ended\n",
     ),
     (
         &["check", "--hash-start=2"],
         HASH,
-        b"%journal\n@1 t1 hash a 273331126 draw 1\n",
+        "%journal\n@1 t1 hash a 273331126 draw 1\n",
         0,
         "legal 1 open\n",
     ),
     (
         CHECK,
         HASH,
-        b"%journal\n@1 t1 hash a 273331126 draw 1\n",
+        "%journal\n@1 t1 hash a 273331126 draw 1\n",
         1,
         "hash a\n",
     ),
     (
         &["check", "--stats"],
         ANSWER,
-        b"%journal\n",
+        "%journal\n",
         2,
         "words refused\n",
     ),
@@ -166,7 +166,7 @@ fn faults_end_a_check(rt: HostRuntime) -> Result<(), Fail> {
 /// What a run writes of its journal, after its program and the marker, is legal.
 #[test]
 fn journals_of_runs_are_legal(rt: HostRuntime) -> Result<(), Fail> {
-    for (_, text) in &EXAMPLES {
+    for (_, text) in PROGRAMS {
         expect_legal(&rt, text)?;
     }
     Ok(())

@@ -74,6 +74,12 @@ fn is_as_due(made: &Made, due: &Due) -> bool {
         && is_written(made.held.as_slice(), &due.held)
 }
 
+/// The programs of `examples/` that have no blocks, each with the name of its file.
+pub const PROGRAMS: &[(&str, &str)] = &EXAMPLES;
+
+/// Those that have.
+const WITH_BLOCKS: &[(&str, &str)] = &BLOCKS;
+
 /// The name of the text in a list of programs.
 fn named_in(programs: &[(&'static str, &'static str)], text: &str) -> Option<&'static str> {
     let mut found = None;
@@ -87,7 +93,7 @@ fn named_in(programs: &[(&'static str, &'static str)], text: &str) -> Option<&'s
 
 /// The program of the call: its file, or the text, where it is none of `examples/`.
 fn program_of(alloc: Global, text: &str) -> Result<String, AllocError> {
-    let name = named_in(&EXAMPLES, text).or(named_in(&BLOCKS, text));
+    let name = named_in(PROGRAMS, text).or(named_in(WITH_BLOCKS, text));
     match name {
         Some(name) => format!(in alloc; "examples/{name}"),
         None => format!(in alloc; "this program:\n{text}"),
@@ -218,7 +224,7 @@ pub fn expect_programs<R: Threads + Wait + Abort + AllocGlobal + Sync>(
 }
 
 /// What stands after the text of a call, and what the call has to come to: its status and what is written.
-pub type After = (&'static [u8], u8, &'static str);
+pub type After = (&'static str, u8, &'static str);
 
 /// Makes the call, which has no record, with what stands after its text in each row.
 pub fn expect_after<R: Threads + Wait + Abort + AllocGlobal + Sync>(
@@ -227,7 +233,8 @@ pub fn expect_after<R: Threads + Wait + Abort + AllocGlobal + Sync>(
     rows: &[After],
 ) -> Result<(), Fail> {
     for (after, status, held) in rows {
-        expect(rt, &followed_by(call, after), *status, false, held)?;
+        let call = followed_by(call, after.as_bytes());
+        expect(rt, &call, *status, false, held)?;
     }
     Ok(())
 }

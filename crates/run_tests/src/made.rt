@@ -199,22 +199,18 @@ fn dumps_have_made_objects(rt: HostRuntime) -> Result<(), Fail> {
 /// Journals of `MADE`, and what a check answers.
 const JOURNALS: &[After] = &[
     (
-        b"%journal\n@1 t1 new t1.0 C\n@2 t1 enter t1.0 bias-taken\n@3 t1 print t1.0\n@4 t1 exit t1.0\n@5 t1 done\n",
+        "%journal\n@1 t1 new t1.0 C\n@2 t1 enter t1.0 bias-taken\n@3 t1 print t1.0\n@4 t1 exit t1.0\n@5 t1 done\n",
         0,
         "legal 5 ended\n",
     ),
-    (b"%journal\n@1 t1 new t1.0 C\n", 0, "legal 1 open\n"),
-    (b"%journal\n@1 t1 new t1.1 C\n", 1, "journal 1: no step\n"),
+    ("%journal\n@1 t1 new t1.0 C\n", 0, "legal 1 open\n"),
+    ("%journal\n@1 t1 new t1.1 C\n", 1, "journal 1: no step\n"),
     (
-        b"%journal\n@1 t1 enter t1.0 bias-taken\n",
+        "%journal\n@1 t1 enter t1.0 bias-taken\n",
         1,
         "journal 1: no step\n",
     ),
-    (
-        b"%journal\n@1 t1 new t1.0 D\n",
-        3,
-        "journal 1: unreadable\n",
-    ),
+    ("%journal\n@1 t1 new t1.0 D\n", 3, "journal 1: unreadable\n"),
 ];
 
 #[test]
