@@ -1,4 +1,4 @@
-use Rattle.std.proofs.Common.{◌≡◌, ◌<◌, [], ◌∷◌, false, List, length, All, sym, subst, inl, rules}
+use Rattle.std.proofs.Common.{◌≡◌, [], ◌∷◌, false, List, length, All, sym, subst, inl, rules}
 use Rattle.heap_table.specs.Seen.{HeapSeen, PassSeen, IsOf, InOrder, knowns}
 use Rattle.heap_table.proofs.AtLast.{both}
 use Rattle.runtime_tests.proofs.last.try_close.Goals as goal
