@@ -197,10 +197,17 @@ const NO_BLOCKS: &[After] = &[
 #[test]
 fn what_has_no_blocks_is_refused(rt: HostRuntime) -> Result<(), Fail> {
     for words in BOTH {
-        expect_after(&rt, &calling(words, FRONT), NO_BLOCKS)?;
-        expect(&rt, &calling(words, ""), 3, false, "program: NoThread\n")?;
+        expect_no_blocks(&rt, words)?;
     }
     Ok(())
+}
+
+fn expect_no_blocks<R: Threads + Wait + Abort + AllocGlobal + Sync>(
+    rt: &R,
+    words: &'static [&'static str],
+) -> Result<(), Fail> {
+    expect_after(rt, &calling(words, FRONT), NO_BLOCKS)?;
+    expect(rt, &calling(words, ""), 3, false, "program: NoThread\n")
 }
 
 /// A thread that faults says the number of the instruction in its code: here of the enter.

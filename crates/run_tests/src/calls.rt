@@ -2,7 +2,7 @@
 
 ghost use Rattle.std.specs.Prelude.{◌≡◌, IfOk};
 
-use bias_cli::{Finish, replay};
+use bias_cli::{Finish, biasrun, records_can_be_replayed, replay};
 use run_io::{FreeGate, Gate, MemorySink, MemorySource, StepClock};
 use std::alloc::{AllocError, Global};
 use std::process::Abort;
@@ -135,7 +135,7 @@ pub fn make_by<R: Threads + Wait + Abort + AllocGlobal + Sync, G: Gate + Sync>(
     run(rt, words.as_slice(), &mut source, &mut sink, &clock, gate)
 }
 
-/// Calls `biasrun`, and replays the record.
+/// Calls `biasrun`, replays the record, and takes what the sink holds.
 fn run<R: Threads + Wait + AllocGlobal + Sync, G: Gate + Sync>(
     rt: &R,
     words: &[String],
@@ -144,17 +144,33 @@ fn run<R: Threads + Wait + AllocGlobal + Sync, G: Gate + Sync>(
     clock: &StepClock,
     gate: &G,
 ) -> Result<Made, Fail> {
-    let finish = bias_cli::biasrun(rt, rt.alloc(), words, source, sink, clock, gate);
-    let finish = boxed(rt.alloc(), finish)?;
-    bias_cli::records_can_be_replayed();
-    let is_stuck = match &finish.run {
-        Some(run) => replay(rt.alloc(), run)?.is_stuck(),
-        None => false,
-    };
+    let (finish, is_stuck) = answered(rt, words, source, sink, clock, gate)?;
     let held = Vec::from_slice(rt.alloc(), sink.held())?;
     Ok(Made {
         finish,
         is_stuck,
         held,
     })
+}
+
+/// What `biasrun` answers, and whether the machine under the record is stuck.
+fn answered<R: Threads + Wait + AllocGlobal + Sync, G: Gate + Sync>(
+    rt: &R,
+    words: &[String],
+    source: &mut MemorySource,
+    sink: &mut MemorySink,
+    clock: &StepClock,
+    gate: &G,
+) -> Result<(Box<Finish>, bool), AllocError> {
+    let finish = biasrun(rt, rt.alloc(), words, source, sink, clock, gate);
+    let finish = boxed(rt.alloc(), finish)?;
+    records_can_be_replayed();
+    let is_stuck = match &finish.run {
+        Some(run) => match replay(rt.alloc(), run) {
+            Ok(machine) => machine.is_stuck(),
+            Err(_) => return Err(AllocError),
+        },
+        None => false,
+    };
+    Ok((finish, is_stuck))
 }

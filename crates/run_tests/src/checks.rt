@@ -1,8 +1,9 @@
 //! Journals that are checked, and what is written of them.
 
-use crate::calls::{Call, calling, followed_by, make};
-use crate::due::{After, Fault, PROGRAMS, expect, expect_after, expect_faults};
-use example_programs::{ANSWER, HASH, WAIT_FOREVER};
+use crate::calls::{Call, Made, calling, followed_by, make};
+use crate::due::{After, Fault, expect, expect_after, expect_faults};
+use example_programs::{ANSWER, EXAMPLES, HASH, WAIT_FOREVER};
+use std::alloc::{AllocError, Global};
 use std::process::Abort;
 use std::sync::Wait;
 use std::test::Fail;
@@ -29,11 +30,19 @@ fn expect_checks<R: Threads + Wait + Abort + AllocGlobal + Sync>(
     rt: &R,
     rows: &[Checked],
 ) -> Result<(), Fail> {
-    for (words, text, after, status, held) in rows {
-        let call = followed_by(&calling(words, text), after.as_bytes());
-        expect(rt, &call, *status, false, held)?;
+    for row in rows {
+        expect_check(rt, row)?;
     }
     Ok(())
+}
+
+fn expect_check<R: Threads + Wait + Abort + AllocGlobal + Sync>(
+    rt: &R,
+    row: &Checked,
+) -> Result<(), Fail> {
+    let (words, text, after, status, held) = row;
+    let call = followed_by(&calling(words, text), after.as_bytes());
+    expect(rt, &call, *status, false, held)
 }
 
 /// Journals of `ANSWER`, and what stands in their place.
@@ -166,36 +175,73 @@ fn faults_end_a_check(rt: HostRuntime) -> Result<(), Fail> {
 /// What a run writes of its journal, after its program and the marker, is legal.
 #[test]
 fn journals_of_runs_are_legal(rt: HostRuntime) -> Result<(), Fail> {
-    for (_, text) in PROGRAMS {
-        expect_legal(&rt, text)?;
+    expect_all_legal(&rt, &EXAMPLES)
+}
+
+/// Runs each of the programs, and checks the journal of the run.
+fn expect_all_legal<R: Threads + Wait + Abort + AllocGlobal + Sync>(
+    rt: &R,
+    programs: &[(&str, &str)],
+) -> Result<(), Fail> {
+    for (_, text) in programs {
+        expect_legal(rt, text)?;
     }
     Ok(())
 }
 
-/// Runs the program, and checks the journal of the run. No other line of the run has an `@`, and each of the journal has one.
+const WITH_JOURNAL: &[&str] = &["run", "--journal"];
+
 fn expect_legal<R: Threads + Wait + Abort + AllocGlobal + Sync>(
     rt: &R,
     text: &str,
 ) -> Result<(), Fail> {
-    let run = make(rt, &calling(&["run", "--journal"], text))?;
-    let mut after = Vec::from_slice(rt.alloc(), b"%journal\n")?;
-    let mut entries = 0u32;
+    let run = make(rt, &calling(WITH_JOURNAL, text))?;
+    check_journal(rt, text, &run)
+}
+
+/// Checks the journal of a run of this program.
+fn check_journal<R: Threads + Wait + Abort + AllocGlobal + Sync>(
+    rt: &R,
+    text: &str,
+    run: &Made,
+) -> Result<(), Fail> {
+    let after = journal_of(rt.alloc(), run.held.as_slice())?;
+    let held = answer_to(rt.alloc(), run)?;
+    let check = checking(text, after.as_slice());
+    expect(rt, &check, 0, false, held.as_str())
+}
+
+/// The journal in what a run wrote, after its marker: it begins with the first `@`.
+fn journal_of(alloc: Global, held: &[u8]) -> Result<Vec<u8>, AllocError> {
+    let mut journal = Vec::from_slice(alloc, b"%journal\n")?;
     let mut is_journal = false;
-    for byte in run.held.iter() {
-        if *byte == b'@' {
-            is_journal = true;
-            entries = entries.saturating_add(1);
-        }
+    for byte in held {
+        is_journal = is_journal || *byte == b'@';
         if is_journal {
-            after.push(*byte)?;
+            journal.push(*byte)?;
         }
     }
+    Ok(journal)
+}
+
+/// How many entries the journal has in what a run wrote: each of its lines has an `@`, and no other line has one.
+fn entries_in(held: &[u8]) -> u32 {
+    let mut entries = 0u32;
+    for byte in held {
+        if *byte == b'@' {
+            entries = entries.saturating_add(1);
+        }
+    }
+    entries
+}
+
+/// What a check has to answer of the journal of a run.
+fn answer_to(alloc: Global, run: &Made) -> Result<String, AllocError> {
+    let entries = entries_in(run.held.as_slice());
     let state = if run.finish.status == 4 {
         "stuck"
     } else {
         "ended"
     };
-    let held = format!(in rt.alloc(); "legal {entries} {state}\n")?;
-    let check = checking(text, after.as_slice());
-    expect(rt, &check, 0, false, held.as_str())
+    format!(in alloc; "legal {entries} {state}\n")
 }

@@ -2,9 +2,9 @@
 //!
 //! Each comparison stands in a function, so that a test is proved as one straight line, where a macro would fork with all that is known at it.
 
-use crate::calls::{Call, Made, calling, failing, followed_by, make};
-use example_programs::{BLOCKS, EXAMPLES};
-use std::alloc::{AllocError, Global};
+use crate::calls::{Call, Made, calling, failing, followed_by, make, make_by};
+use crate::told::{differing, told};
+use run_io::Gate;
 use std::fmt::Debug;
 use std::process::Abort;
 use std::sync::Wait;
@@ -29,7 +29,7 @@ pub struct Due<'a> {
 }
 
 /// Whether the machine under the record has to be stuck.
-fn is_to_be_stuck(due: &Due) -> bool {
+pub fn is_to_be_stuck(due: &Due) -> bool {
     due.has_record && due.status == 4
 }
 
@@ -74,61 +74,6 @@ fn is_as_due(made: &Made, due: &Due) -> bool {
         && is_written(made.held.as_slice(), &due.held)
 }
 
-/// The programs of `examples/` that have no blocks, each with the name of its file.
-pub const PROGRAMS: &[(&str, &str)] = &EXAMPLES;
-
-/// Those that have.
-const WITH_BLOCKS: &[(&str, &str)] = &BLOCKS;
-
-/// The name of the text in a list of programs.
-fn named_in(programs: &[(&'static str, &'static str)], text: &str) -> Option<&'static str> {
-    let mut found = None;
-    for (name, program) in programs {
-        if *program == text {
-            found = Some(*name);
-        }
-    }
-    found
-}
-
-/// The program of the call: its file, or the text, where it is none of `examples/`.
-fn program_of(alloc: Global, text: &str) -> Result<String, AllocError> {
-    let name = named_in(PROGRAMS, text).or(named_in(WITH_BLOCKS, text));
-    match name {
-        Some(name) => format!(in alloc; "examples/{name}"),
-        None => format!(in alloc; "this program:\n{text}"),
-    }
-}
-
-/// The call for whom a test fails: its words, its program and what stands after it, and what of its reads and writes is special.
-fn told(alloc: Global, call: &Call) -> Result<String, AllocError> {
-    let mut line = String::from_str(alloc, "biasrun")?;
-    for word in call.words {
-        line.push_str(" ")?;
-        line.push_str(word)?;
-    }
-    let program = program_of(alloc, call.text)?;
-    let after = String::from_utf8_lossy(alloc, call.after)?;
-    let (from, by) = call.clock;
-    let rest = format!(in alloc;
-        " < {program}\n{after}(empty_lines {}, read_fails {}, write_fails {}, cut {}, clock {from} by {by})",
-        call.empty_lines, call.read_fails, call.write_fails, call.cut
-    )?;
-    line.push_str(rest.as_str())?;
-    Ok(line)
-}
-
-/// What has to be written, for whom a test fails.
-fn shown(alloc: Global, due: &Held) -> Result<String, AllocError> {
-    match due {
-        Held::Text(text) => String::from_str(alloc, text),
-        Held::OneOf(texts) => format!(in alloc; "one of {texts:?}\n"),
-        Held::Around(front, backs) => format!(in alloc;
-            "{front}..\nand at the end one of {backs:?}\n"
-        ),
-    }
-}
-
 /// Ends the test where the call came to something else.
 pub fn compare<R: Abort + AllocGlobal>(
     rt: &R,
@@ -137,19 +82,8 @@ pub fn compare<R: Abort + AllocGlobal>(
     due: &Due,
 ) -> Result<(), Fail> {
     if !is_as_due(made, due) {
-        let line = told(rt.alloc(), call)?;
-        let wanted = shown(rt.alloc(), &due.held)?;
-        let found = String::from_utf8_lossy(rt.alloc(), made.held.as_slice())?;
-        panic!(rt;
-            "{line}\nexpected: status {}, record and heap {}, stuck {}\n{wanted}\ngot: status {}, record {}, heap {}, stuck {}\n{found}",
-            due.status,
-            due.has_record,
-            is_to_be_stuck(due),
-            made.finish.status,
-            made.finish.run.is_some(),
-            made.finish.closed.is_some(),
-            made.is_stuck
-        );
+        let text = differing(rt.alloc(), call, made, due)?;
+        panic!(rt; "{text}");
     }
     Ok(())
 }
@@ -161,9 +95,32 @@ pub fn same<T: Drop + PartialEq + Debug, R: Abort + AllocGlobal>(
     found: T,
     wanted: T,
 ) -> Result<(), Fail> {
+    if found == wanted {
+        Ok(())
+    } else {
+        differ(rt, call, &found, &wanted)
+    }
+}
+
+/// Ends the test, which found something else of the call.
+fn differ<T: Debug, R: Abort + AllocGlobal>(
+    rt: &R,
+    call: &Call,
+    found: &T,
+    wanted: &T,
+) -> Result<(), Fail> {
     let line = told(rt.alloc(), call)?;
-    assert_eq!(rt; found, wanted, "{line}");
-    Ok(())
+    panic!(rt; "{line}\nexpected: {wanted:?}\ngot: {found:?}");
+}
+
+/// Makes the call by this gate, and compares its status, which has to be 0.
+pub fn expect_end_by<R: Threads + Wait + Abort + AllocGlobal + Sync, G: Gate + Sync>(
+    rt: &R,
+    call: &Call,
+    gate: &G,
+) -> Result<(), Fail> {
+    let made = make_by(rt, call, gate)?;
+    same(rt, call, made.finish.status, 0)
 }
 
 /// Makes the call, and compares what became of it.
@@ -201,10 +158,19 @@ pub fn expect_rows<R: Threads + Wait + Abort + AllocGlobal + Sync>(
     has_record: bool,
     rows: &[Row],
 ) -> Result<(), Fail> {
-    for (words, text, status, held) in rows {
-        expect(rt, &calling(words, text), *status, has_record, held)?;
+    for row in rows {
+        expect_row(rt, has_record, row)?;
     }
     Ok(())
+}
+
+fn expect_row<R: Threads + Wait + Abort + AllocGlobal + Sync>(
+    rt: &R,
+    has_record: bool,
+    row: &Row,
+) -> Result<(), Fail> {
+    let (words, text, status, held) = row;
+    expect(rt, &calling(words, text), *status, has_record, held)
 }
 
 /// A text, and what calls with it have to come to: their status and what is written.
@@ -217,10 +183,20 @@ pub fn expect_programs<R: Threads + Wait + Abort + AllocGlobal + Sync>(
     has_record: bool,
     rows: &[Program],
 ) -> Result<(), Fail> {
-    for (text, status, held) in rows {
-        expect(rt, &calling(words, text), *status, has_record, held)?;
+    for row in rows {
+        expect_program(rt, words, has_record, row)?;
     }
     Ok(())
+}
+
+fn expect_program<R: Threads + Wait + Abort + AllocGlobal + Sync>(
+    rt: &R,
+    words: &'static [&'static str],
+    has_record: bool,
+    row: &Program,
+) -> Result<(), Fail> {
+    let (text, status, held) = row;
+    expect(rt, &calling(words, text), *status, has_record, held)
 }
 
 /// What stands after the text of a call, and what the call has to come to: its status and what is written.

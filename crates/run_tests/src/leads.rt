@@ -1,7 +1,7 @@
 //! Threads that have turns while another one is held, and how many are in their turns at once.
 
-use crate::calls::{calling, make_by};
-use crate::due::same;
+use crate::calls::{Call, calling};
+use crate::due::{expect_end_by, same};
 use example_programs::CONTENTION;
 use run_io::Gate;
 use std::process::Abort;
@@ -25,6 +25,14 @@ struct Lead {
 }
 
 impl Lead {
+    fn new() -> Lead {
+        Lead {
+            turns: AtomicU32::new(0),
+            came: AtomicBool::new(false),
+            saw: AtomicBool::new(false),
+        }
+    }
+
     fn hold(&self) {
         if self.came.swap(true, Ordering::SeqCst) {
             return;
@@ -109,15 +117,17 @@ fn run_held<R: Threads + Wait + Abort + AllocGlobal + Sync>(
     rt: &R,
     text: &str,
 ) -> Result<(), Fail> {
-    let gate = Lead {
-        turns: AtomicU32::new(0),
-        came: AtomicBool::new(false),
-        saw: AtomicBool::new(false),
-    };
-    let call = calling(TWO_WORKERS, text);
-    let made = make_by(rt, &call, &gate)?;
-    same(rt, &call, made.finish.status, 0)?;
-    same(rt, &call, gate.saw.load(Ordering::SeqCst), true)
+    expect_seen(rt, &calling(TWO_WORKERS, text), &Lead::new())
+}
+
+/// The call by this gate, at which thread 0 sees it.
+fn expect_seen<R: Threads + Wait + Abort + AllocGlobal + Sync>(
+    rt: &R,
+    call: &Call,
+    gate: &Lead,
+) -> Result<(), Fail> {
+    expect_end_by(rt, call, gate)?;
+    same(rt, call, gate.saw.load(Ordering::SeqCst), true)
 }
 
 /// Five threads, each of which ends in its first turn.
@@ -143,6 +153,15 @@ struct Crowd {
     saw: AtomicU32,
 }
 
+impl Crowd {
+    fn new() -> Crowd {
+        Crowd {
+            came: AtomicU32::new(0),
+            saw: AtomicU32::new(0),
+        }
+    }
+}
+
 impl Gate for Crowd {
     fn visit(&self, _thread: u32) {
         self.came.fetch_add(1, Ordering::SeqCst);
@@ -161,14 +180,17 @@ const FIVE_WORKERS: &[&str] = &["run", "--workers", "5"];
 /// is set running while another one is may have to come again, but not before.
 #[test]
 fn five_workers_run_five_threads_at_once(rt: HostRuntime) -> Result<(), Fail> {
-    let gate = Crowd {
-        came: AtomicU32::new(0),
-        saw: AtomicU32::new(0),
-    };
-    let call = calling(FIVE_WORKERS, FIVE);
-    let made = make_by(&rt, &call, &gate)?;
-    same(&rt, &call, made.finish.status, 0)?;
+    expect_crowd(&rt, &calling(FIVE_WORKERS, FIVE), &Crowd::new())
+}
+
+/// The call by this gate, at which each thread that comes sees five.
+fn expect_crowd<R: Threads + Wait + Abort + AllocGlobal + Sync>(
+    rt: &R,
+    call: &Call,
+    gate: &Crowd,
+) -> Result<(), Fail> {
+    expect_end_by(rt, call, gate)?;
     let came = gate.came.load(Ordering::SeqCst);
-    same(&rt, &call, came >= 5, true)?;
-    same(&rt, &call, gate.saw.load(Ordering::SeqCst), came)
+    same(rt, call, came >= 5, true)?;
+    same(rt, call, gate.saw.load(Ordering::SeqCst), came)
 }

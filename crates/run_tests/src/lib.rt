@@ -31,4 +31,6 @@ mod rows;
 #[cfg(test)]
 mod settings;
 #[cfg(test)]
+mod told;
+#[cfg(test)]
 mod turns;

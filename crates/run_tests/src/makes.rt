@@ -1,9 +1,12 @@
 //! Programs that are made, and what becomes of them.
 
-use crate::calls::{Call, calling, make};
+use crate::calls::{Call, calling, followed_by, make};
 use crate::due::{Row, expect, expect_around, expect_faults, expect_rows, same};
 use example_programs::HANDOVER_40;
+use std::process::Abort;
+use std::sync::Wait;
 use std::test::Fail;
+use std::thread::Threads;
 
 const MAKE_40: &[&str] = &["make", "40"];
 
@@ -45,6 +48,16 @@ fn faults_end_the_writing(rt: HostRuntime) -> Result<(), Fail> {
     expect_faults(&rt, &by_twelve, &[(0, 2, 6, false, "class Item 0")])
 }
 
+const STATS: &[&str] = &["run", "--stats"];
+
+/// What is written of the most items.
+const MOST_ITEMS: &str = "\
+t1: 1500
+thread t1 done
+thread t2 done
+class Item single 38 rebias 1 revoke 1 count 40 prototype 1 enters 0 2981 1500 0 0 0
+class Flag single ";
+
 /// The program for the most items runs to its end within the fuel that is there without words. Its items are biased as those of the
 /// program for 40 are.
 #[test]
@@ -52,17 +65,16 @@ fn the_program_for_1500_items_runs_to_its_end(rt: HostRuntime) -> Result<(), Fai
     let making = calling(&["make", "1500"], "");
     let made = make(&rt, &making)?;
     same(&rt, &making, made.finish.status, 0)?;
-    let run = Call {
-        after: made.held.as_slice(),
-        ..calling(&["run", "--stats"], "")
-    };
-    let front = "\
-t1: 1500
-thread t1 done
-thread t2 done
-class Item single 38 rebias 1 revoke 1 count 40 prototype 1 enters 0 2981 1500 0 0 0
-class Flag single ";
-    expect_around(&rt, &run, 0, front, &["\n"])
+    expect_most_items(&rt, made.held.as_slice())
+}
+
+/// Runs the program that was made for the most items.
+fn expect_most_items<R: Threads + Wait + Abort + AllocGlobal + Sync>(
+    rt: &R,
+    program: &[u8],
+) -> Result<(), Fail> {
+    let run = followed_by(&calling(STATS, ""), program);
+    expect_around(rt, &run, 0, MOST_ITEMS, &["\n"])
 }
 
 /// What is written of the 40 items where no time goes on.

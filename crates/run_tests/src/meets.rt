@@ -1,7 +1,7 @@
 //! Threads of a program that run at the same time.
 
-use crate::calls::{Call, calling, make_by};
-use crate::due::same;
+use crate::calls::{Call, calling};
+use crate::due::{expect_end_by, same};
 use example_programs::CONTENTION;
 use run_io::Gate;
 use std::process::Abort;
@@ -124,8 +124,7 @@ fn seen<R: Threads + Wait + Abort + AllocGlobal + Sync>(
         second: Side::new(),
         looks,
     };
-    let made = make_by(rt, call, &gate)?;
-    same(rt, call, made.finish.status, 0)?;
+    expect_end_by(rt, call, &gate)?;
     Ok((
         gate.first.saw.load(Ordering::SeqCst),
         gate.second.saw.load(Ordering::SeqCst),

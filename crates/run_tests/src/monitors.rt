@@ -3,10 +3,13 @@
 //! All runs are without biases and by one worker, whose threads have turns of a fixed length one after the other, so that what
 //! each turn does can be counted by hand.
 
-use crate::calls::{Made, calling, make};
+use crate::calls::{Call, Made, calling, make};
 use crate::due::{Due, Held, compare, expect, same};
 use std::alloc::{AllocError, Global};
+use std::process::Abort;
+use std::sync::Wait;
 use std::test::Fail;
+use std::thread::Threads;
 
 /// Before the threads of `crowd`: as many objects as there may be.
 const OBJECTS: &str = "\
@@ -221,15 +224,28 @@ const CROWDED: &[&str] = &[
 #[test]
 fn monitors_given_back_serve_later_inflations(rt: HostRuntime) -> Result<(), Fail> {
     let text = crowd(rt.alloc())?;
-    let call = calling(CROWDED, text.as_str());
-    let made = make(&rt, &call)?;
-    let due = Due {
-        status: 0,
-        has_record: true,
-        held: Held::Text(OF_THE_CROWD),
-    };
-    compare(&rt, &call, &made, &due)?;
-    same(&rt, &call, ring(&made), Some((8192, 8208)))
+    expect_ring(&rt, &calling(CROWDED, text.as_str()))
+}
+
+/// What the run of `crowd` has to come to.
+const DUE_OF_THE_CROWD: &Due = &Due {
+    status: 0,
+    has_record: true,
+    held: Held::Text(OF_THE_CROWD),
+};
+
+/// Runs `crowd`, and compares what became of it and how its monitors went round.
+fn expect_ring<R: Threads + Wait + Abort + AllocGlobal + Sync>(
+    rt: &R,
+    call: &Call,
+) -> Result<(), Fail> {
+    let made = make(rt, call)?;
+    compare_crowd(rt, call, &made)?;
+    same(rt, call, ring(&made), Some((8192, 8208)))
+}
+
+fn compare_crowd<R: Abort + AllocGlobal>(rt: &R, call: &Call, made: &Made) -> Result<(), Fail> {
+    compare(rt, call, made, DUE_OF_THE_CROWD)
 }
 
 /// Two threads contend for an object, and then one of them dumps and enters it again.

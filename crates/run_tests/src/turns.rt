@@ -1,7 +1,7 @@
 //! How many turns a thread has.
 
-use crate::calls::{Call, calling, make_by};
-use crate::due::same;
+use crate::calls::{Call, calling};
+use crate::due::{expect_end_by, same};
 use example_programs::ANSWER;
 use run_io::Gate;
 use std::process::Abort;
@@ -62,7 +62,6 @@ fn turns_of<R: Threads + Wait + Abort + AllocGlobal + Sync>(
     let gate = Counting {
         visits: AtomicU32::new(0),
     };
-    let made = make_by(rt, call, &gate)?;
-    same(rt, call, made.finish.status, 0)?;
+    expect_end_by(rt, call, &gate)?;
     Ok(gate.visits.load(Ordering::SeqCst))
 }

@@ -2,7 +2,7 @@ use Rattle.std.proofs.Common.{ap, sym, ◌∙◌}
 use Rattle.run_io.specs.contracts.memory_sink.MemorySinkSink.TheImpl.{ghosts}
 use Rattle.bias_cli.specs.Seen.{sink_seen}
 use Rattle.bias_cli.proofs.Statuses.{either_of}
-use Rattle.run_tests.proofs.calls.run.Goals as goal
+use Rattle.run_tests.proofs.calls.answered.Goals as goal
 
 pub replay-requires : goal.replay-requires
 replay-requires g c =
