@@ -3,7 +3,10 @@
 use crate::calls::calling;
 use crate::due::expect_around;
 use example_programs::{BULK_REBIAS, STALE_EPOCH};
+use std::process::Abort;
+use std::sync::Wait;
 use std::test::Fail;
+use std::thread::Threads;
 
 /// Of `BULK_REBIAS`: the second thread ends 19 biases one by one, and takes each object by a record. The 20th is the last of a bulk rebias,
 /// by which it gets a bias.
@@ -77,8 +80,10 @@ thread t2 done
 class Item single 19 rebias 1 revoke 0 count 20 prototype 261 enters 1 23 19 0 0 0
 class Flag single ";
 
-/// Words and programs, and how what they write begins.
-const TWENTY_ITEMS: &[(&'static [&'static str], &'static str, &'static str)] = &[
+/// Words, a program, and how what they write begins.
+type Front = (&'static [&'static str], &'static str, &'static str);
+
+const TWENTY_ITEMS: &[Front] = &[
     (&["run", "--report"], BULK_REBIAS, REBIAS_REPORT),
     (&["run", "--stats"], BULK_REBIAS, REBIAS_STATS),
     (&["run", "--report"], STALE_EPOCH, STALE_REPORT),
@@ -87,8 +92,16 @@ const TWENTY_ITEMS: &[(&'static [&'static str], &'static str, &'static str)] = &
 
 #[test]
 fn biases_of_twenty_items(rt: HostRuntime) -> Result<(), Fail> {
-    for (words, text, front) in TWENTY_ITEMS {
-        expect_around(&rt, &calling(words, text), 0, front, &["\n"])?;
+    expect_fronts(&rt, TWENTY_ITEMS)
+}
+
+/// Runs the program of each row, and compares its status and how what was written begins.
+fn expect_fronts<R: Threads + Wait + Abort + AllocGlobal + Sync>(
+    rt: &R,
+    rows: &[Front],
+) -> Result<(), Fail> {
+    for (words, text, front) in rows {
+        expect_around(rt, &calling(words, text), 0, front, &["\n"])?;
     }
     Ok(())
 }

@@ -79,11 +79,16 @@ pub fn make<R: Threads + Wait + Abort + AllocGlobal + Sync>(
 /// The arguments of the program, whose name comes first.
 fn words_of(alloc: Global, words: &[&str]) -> Result<Vec<String>, AllocError> {
     let mut all = Vec::new(alloc);
-    all.push(String::from_str(alloc, "biasrun")?)?;
+    add_word(alloc, &mut all, "biasrun")?;
     for word in words {
-        all.push(String::from_str(alloc, word)?)?;
+        add_word(alloc, &mut all, word)?;
     }
     Ok(all)
+}
+
+fn add_word(alloc: Global, all: &mut Vec<String>, word: &str) -> Result<(), AllocError> {
+    all.push(String::from_str(alloc, word)?)?;
+    Ok(())
 }
 
 /// The call's text, with all that stands after it.

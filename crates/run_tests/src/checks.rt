@@ -2,7 +2,8 @@
 
 use crate::calls::{Call, Made, calling, followed_by, make};
 use crate::due::{After, Fault, expect, expect_after, expect_faults};
-use example_programs::{ANSWER, EXAMPLES, HASH, WAIT_FOREVER};
+use crate::told::{Named, programs};
+use example_programs::{ANSWER, HASH, WAIT_FOREVER};
 use std::alloc::{AllocError, Global};
 use std::process::Abort;
 use std::sync::Wait;
@@ -175,13 +176,13 @@ fn faults_end_a_check(rt: HostRuntime) -> Result<(), Fail> {
 /// What a run writes of its journal, after its program and the marker, is legal.
 #[test]
 fn journals_of_runs_are_legal(rt: HostRuntime) -> Result<(), Fail> {
-    expect_all_legal(&rt, &EXAMPLES)
+    expect_all_legal(&rt, programs())
 }
 
 /// Runs each of the programs, and checks the journal of the run.
 fn expect_all_legal<R: Threads + Wait + Abort + AllocGlobal + Sync>(
     rt: &R,
-    programs: &[(&str, &str)],
+    programs: &[Named],
 ) -> Result<(), Fail> {
     for (_, text) in programs {
         expect_legal(rt, text)?;

@@ -1,6 +1,6 @@
 //! Programs that are made, and what becomes of them.
 
-use crate::calls::{Call, calling, followed_by, make};
+use crate::calls::{Call, calling, failing, followed_by, make};
 use crate::due::{Row, expect, expect_around, expect_faults, expect_rows, same};
 use example_programs::HANDOVER_40;
 use std::process::Abort;
@@ -13,15 +13,23 @@ const MAKE_40: &[&str] = &["make", "40"];
 #[test]
 fn the_program_for_40_items_is_written(rt: HostRuntime) -> Result<(), Fail> {
     let all_goes_well = calling(MAKE_40, "");
-    expect(&rt, &all_goes_well, 0, false, HANDOVER_40)?;
+    expect_forty(&rt, &all_goes_well)?;
     // Writes of one byte each change nothing.
     let piece_by_piece = Call {
         cut: 1,
         ..all_goes_well
     };
-    expect(&rt, &piece_by_piece, 0, false, HANDOVER_40)?;
+    expect_forty(&rt, &piece_by_piece)?;
     // Nothing is read: the first read would fail.
-    expect_faults(&rt, &all_goes_well, &[(1, 0, 0, false, HANDOVER_40)])
+    expect_forty(&rt, &failing(&all_goes_well, 1, 0))
+}
+
+/// The call writes the program for 40 items.
+fn expect_forty<R: Threads + Wait + Abort + AllocGlobal + Sync>(
+    rt: &R,
+    call: &Call,
+) -> Result<(), Fail> {
+    expect(rt, call, 0, false, HANDOVER_40)
 }
 
 /// Words that make no program.

@@ -117,13 +117,18 @@ end
 }
 
 /// A program of 16 threads that go over 4,096 objects twice, the first of them ahead of the others.
-fn crowd(alloc: Global) -> Result<String, Fail> {
+fn crowd(alloc: Global) -> Result<String, AllocError> {
     let mut text = String::from_str(alloc, OBJECTS)?;
     text.push_str(LEADER)?;
+    add_followers(alloc, &mut text)?;
+    Ok(text)
+}
+
+fn add_followers(alloc: Global, text: &mut String) -> Result<(), AllocError> {
     for number in 1..16 {
         text.push_str(follower(alloc, number)?.as_str())?;
     }
-    Ok(text)
+    Ok(())
 }
 
 /// What is written of it. The first thread dumps while nobody has an object. The others dump in their next turns, while it has

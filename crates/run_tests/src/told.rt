@@ -7,6 +7,24 @@ use crate::due::{Due, Held, is_to_be_stuck};
 use example_programs::{BLOCKS, EXAMPLES};
 use std::alloc::{AllocError, Global};
 
+/// The name of a file of `examples/`, and its text.
+pub type Named = (&'static str, &'static str);
+
+const WITHOUT_BLOCKS: &[Named] = &EXAMPLES;
+
+const WITH_BLOCKS: &[Named] = &BLOCKS;
+
+/// The programs of `examples/` that have no blocks. A function that does no more than name them holds their texts, which is dear, in one
+/// step alone.
+pub fn programs() -> &'static [Named] {
+    WITHOUT_BLOCKS
+}
+
+/// Those that have.
+fn programs_with_blocks() -> &'static [Named] {
+    WITH_BLOCKS
+}
+
 /// The call: its words, its program and what stands after it, and what of its reads and writes is special.
 pub fn told(alloc: Global, call: &Call) -> Result<String, AllocError> {
     let mut line = String::from_str(alloc, "biasrun")?;
@@ -15,12 +33,7 @@ pub fn told(alloc: Global, call: &Call) -> Result<String, AllocError> {
 }
 
 /// The call, what it had to come to, and what it came to.
-pub fn differing(
-    alloc: Global,
-    call: &Call,
-    made: &Made,
-    due: &Due,
-) -> Result<String, AllocError> {
+pub fn differing(alloc: Global, call: &Call, made: &Made, due: &Due) -> Result<String, AllocError> {
     let mut text = told(alloc, call)?;
     add_due(alloc, &mut text, due)?;
     add_made(alloc, &mut text, made)?;
@@ -44,24 +57,14 @@ fn add_words(line: &mut String, words: &[&str]) -> Result<(), AllocError> {
 
 /// The program of the call: its file, or the text, where it is none of `examples/`.
 fn add_program(line: &mut String, text: &str) -> Result<(), AllocError> {
-    match without_blocks(text).or(with_blocks(text)) {
+    match named_in(programs(), text).or(named_in(programs_with_blocks(), text)) {
         Some(name) => add_line(line, " < examples/", name),
         None => add_line(line, " < this program:\n", text),
     }
 }
 
-/// The name of this program, where it is one of `examples/` that have no blocks.
-fn without_blocks(text: &str) -> Option<&'static str> {
-    named_in(&EXAMPLES, text)
-}
-
-/// The same of those that have.
-fn with_blocks(text: &str) -> Option<&'static str> {
-    named_in(&BLOCKS, text)
-}
-
 /// The name of the text in a list of programs.
-fn named_in(programs: &[(&'static str, &'static str)], text: &str) -> Option<&'static str> {
+fn named_in(programs: &[Named], text: &str) -> Option<&'static str> {
     let mut found = None;
     for (name, program) in programs {
         if *program == text {
