@@ -1,6 +1,6 @@
 -- What a call leaves lets the next one begin.
 use Rattle.std.proofs.Common.{◌≡◌, ℕ, suc, ◌+◌, ◌≤◌, ◌==◌, ◌&&◌, ◌||◌, ◌++◌, ◌∷◌, [], not, nat_lt, nat_le, lt-ltb, le-leb, eq-eqb, Bool, true, false}
-use Rattle.std.proofs.Common.{List, length, cond, Option, None, Ok, is_none, refl, sym, ap, ◌∙◌, subst, arith, inl, inr, append_assoc, append-nil}
+use Rattle.std.proofs.Common.{List, length, cond, Option, None, Ok, Err, is_none, refl, sym, ap, ◌∙◌, subst, arith, inl, inr, append_assoc, append-nil}
 use Rattle.std.proofs.lemmas.Bool.{and_from}
 use Rattle.std.specs.List.{AllByRecursion}
 use mathlib.Core.List.{map-append}
@@ -17,7 +17,7 @@ use Rattle.core_world.specs.declared.heap_call.Operation.{Operation}
 use Rattle.core_world.specs.declared.heap_call.Operation.TheVariants as op
 use Rattle.core_world.specs.declared.heap_call.HeapCall.{HeapCall}
 use Rattle.core_world.specs.declared.heap_call.HeapCall.TheVariants as task
-use Rattle.core_world.specs.declared.heap_call.HeapCall.TheVariants.{Finish}
+use Rattle.core_world.specs.declared.heap_call.HeapCall.TheVariants.{Finish, Resume}
 use Rattle.core_world.specs.declared.heap_call.Unfinished.{Unfinished}
 use Rattle.core_world.specs.Clauses.Lengths.{log_limit}
 use Rattle.core_world.specs.Clauses.Safepoints.{ends, is_ending}
@@ -32,12 +32,14 @@ use Rattle.core_calls.proofs.Runs.{did_none}
 use Rattle.heap_table.proofs.Resting.{fresh_rests}
 use Rattle.own_logs.proofs.HoldSums.{all_empty}
 use Rattle.heap_table.specs.Kept.{all_holds}
-use Rattle.heap_table.specs.Resting.{Rests, MayOperate, start_now}
+use Rattle.heap_table.specs.Resting.{Rests, MayCall, MayOperate, start_now}
 use Rattle.heap_table.specs.Seen.{HeapSeen, PassSeen}
 use Rattle.lock_runtime.specs.Standing.{IsRunning, IsStopped, StandsAfterTurn}
 use Rattle.embed_example.specs.declared.Act.{Act}
 use Rattle.embed_example.specs.declared.Act.TheVariants.{Wait}
-use Rattle.embed_example.specs.Acts.{entries, op_of, HasAdded, HasMade, IsDone, IsLeft, Tried}
+use Rattle.embed_example.specs.declared.Stop.{Stop}
+use Rattle.embed_example.specs.declared.Stop.TheVariants.{Halted}
+use Rattle.embed_example.specs.Acts.{entries, op_of, HasAdded, HasMade, IsDone, IsGivenUp, IsLeft, Tried}
 use Rattle.embed_example.specs.Between.{IsNew, IsLive, IsFree, MayTry, IsBeside}
 
 -- LOGS. A log ends by its entries alone.
@@ -151,6 +153,15 @@ pub tried_may : (a : Act) (o : ℕ) (h : HeapSeen) (p q : PassSeen) (progress : 
 tried_may a o h p q (Done x) t = free_may h (op_of a) o q t.0
 tried_may a o h p q (Pending cause) t = t.0
 
+-- what a try is known by once it is known how it ended
+pub tried_done : (a : Act) (o : ℕ) (h : HeapSeen) (p q : PassSeen) (progress : Progress (Unit {0})) (x : Unit {0}) → Tried a o h p q (Ok progress)
+    → progress ≡ Done x → IsFree h q × HasAdded (IsDone a o) p q
+tried_done a o h p q progress x t is = subst (λ (y : Progress (Unit {0})). Tried a o h p q (Ok y)) is t
+
+pub tried_left : (a : Act) (o : ℕ) (h : HeapSeen) (p q : PassSeen) (progress : Progress (Unit {0})) (cause : PendingCause) → Tried a o h p q (Ok progress)
+    → progress ≡ Pending cause → MayTry (op_of a) o h q × HasAdded (AllByRecursion (IsLeft a o)) p q
+tried_left a o h p q progress cause t is = subst (λ (y : Progress (Unit {0})). Tried a o h p q (Ok y)) is t
+
 -- a refusal leaves the thread as it was
 pub as_before : (h : HeapSeen) (w : Operation) (o : ℕ) (p q : PassSeen) → MayTry w o h p → Rests h q → q.limit ≡ p.limit → q.known ≡ p.known → MayTry w o h q
 as_before h w o p q may rests limit same =
@@ -204,6 +215,10 @@ beside_both h p q r a b =
       checking = b.checking ∙ a.checking;
       limit = b.limit ∙ a.limit;
     }
+
+-- a stopped thread that asks for nothing may resume
+pub may_resume : (h : HeapSeen) (p : PassSeen) → Rests h p → IsStopped p.known → MayCall h p Resume
+may_resume h p rests stopped = record { rests = rests; may = λ i. not (stopped.runs i) && not (stopped.asks i) }
 
 -- and leave it running, let it go on with what is unfinished
 pub may_beside : (h : HeapSeen) (w : Operation) (o : ℕ) (p q : PassSeen) → IsBeside h p q → IsRunning q.known → MayTry w o h p → MayTry w o h q
@@ -330,6 +345,16 @@ added_left a o p q r x y =
 
 pub added_none : (a : Act) (o : ℕ) (p : PassSeen) → HasAdded (AllByRecursion (IsLeft a o)) p p
 added_none a o p = record { new = []; log = sym (append-nil p.known.log); is = tt }
+
+-- after tries that were left, one is refused
+pub given_up : (a : Act) (o : ℕ) (h : HeapSeen) (p q r : PassSeen) (e : Stop) → HasAdded (AllByRecursion (IsLeft a o)) p q → Tried a o h q r (Err e)
+    → IsGivenUp a o h p r e
+given_up a o h p q r e x t = (record { new = x.new; log = t.1 ∙ x.log; is = x.is }, inl t.2)
+
+-- or the run is halted
+pub given_up_halted : (a : Act) (o : ℕ) (h : HeapSeen) (p q r s : PassSeen) (e : Stop) → HasAdded (AllByRecursion (IsLeft a o)) p q
+    → HasAdded (AllByRecursion (IsLeft a o)) q r → IsBeside h r s → e ≡ Halted → IsGivenUp a o h p s e
+given_up_halted a o h p q r s e x y b is = (added_beside h (AllByRecursion (IsLeft a o)) p r s (added_left a o p q r x y) b, inr is)
 
 pub made : (a : Act) (o : ℕ) (h : HeapSeen) (p q r : PassSeen) → HasAdded (AllByRecursion (IsLeft a o)) p q → HasAdded (IsDone a o) q r → IsFree h r
     → HasMade a o h p r

@@ -292,29 +292,47 @@ pub fn begin_to_wait<R: Wait>(rt: &R, heap: &Heap, pass: &mut Pass) -> Result<()
 }
 
 /// The rest of it.
+pub fn go_on<R: Wait>(rt: &R, heap: &Heap, pass: &mut Pass) -> Result<(), Stop>
+    requires door { DOOR < heap.now.heap.shape.declared }
+    requires waits { MayTry op.Wait DOOR heap.now pass.old }
+    ensures { OnOk result (IsOver heap.now pass.new) }
+{
+    make(rt, heap, pass, Act::Wait, DOOR)?;
+    make(rt, heap, pass, Act::Exit, DOOR)?;
+    end(heap, pass)
+}
+
+/// The first thread's part beside the second one, for which its pass is moved into a thread of the system.
 pub fn wait_on<R: Wait>(rt: &R, heap: &Heap, mut pass: Pass) -> Result<Pass, Stop>
     requires door { DOOR < heap.now.heap.shape.declared }
     requires waits { MayTry op.Wait DOOR heap.now pass }
     ensures { IfOk result (IsOver heap.now) }
 {
-    make(rt, heap, &mut pass, Act::Wait, DOOR)?;
-    make(rt, heap, &mut pass, Act::Exit, DOOR)?;
-    end(heap, &mut pass)?;
+    go_on(rt, heap, &mut pass)?;
     Ok(pass)
 }
 
 /// The whole of the second thread.
+pub fn visit<R: Wait>(rt: &R, heap: &Heap, pass: &mut Pass) -> Result<(), Stop>
+    requires door { DOOR < heap.now.heap.shape.declared }
+    requires new { IsNew heap.now FUEL 1 pass.old }
+    ensures { OnOk result (IsOver heap.now pass.new) }
+{
+    set_running(rt, heap, pass)?;
+    make(rt, heap, pass, Act::Enter, DOOR)?;
+    make(rt, heap, pass, Act::Hash, DOOR)?;
+    make(rt, heap, pass, Act::Notify, DOOR)?;
+    make(rt, heap, pass, Act::Exit, DOOR)?;
+    end(heap, pass)
+}
+
+/// The same, with a pass that is moved into a thread of the system.
 pub fn knock<R: Wait>(rt: &R, heap: &Heap, mut pass: Pass) -> Result<Pass, Stop>
     requires door { DOOR < heap.now.heap.shape.declared }
     requires new { IsNew heap.now FUEL 1 pass }
     ensures { IfOk result (IsOver heap.now) }
 {
-    set_running(rt, heap, &mut pass)?;
-    make(rt, heap, &mut pass, Act::Enter, DOOR)?;
-    make(rt, heap, &mut pass, Act::Hash, DOOR)?;
-    make(rt, heap, &mut pass, Act::Notify, DOOR)?;
-    make(rt, heap, &mut pass, Act::Exit, DOOR)?;
-    end(heap, &mut pass)?;
+    visit(rt, heap, &mut pass)?;
     Ok(pass)
 }
 
@@ -368,14 +386,17 @@ fn show(rt: &impl Print, thread: usize, log: &[Logged]) -> io::Result<()> {
     Ok(())
 }
 
+// The threads' logs, in the order of the threads.
+fn show_all(rt: &impl Print, logs: &[List<Logged>]) -> io::Result<()> {
+    for (thread, log) in logs.iter().enumerate() {
+        show(rt, thread, log.items())?;
+    }
+    Ok(())
+}
+
 fn main(rt: HostRuntime) -> io::Result<()> {
     match meet(&rt) {
         Err(stop) => println!(rt; "{stop:?}"),
-        Ok(closed) => {
-            for (thread, log) in closed.logs().items().iter().enumerate() {
-                show(&rt, thread, log.items())?;
-            }
-            Ok(())
-        }
+        Ok(closed) => show_all(&rt, closed.logs().items()),
     }
 }
