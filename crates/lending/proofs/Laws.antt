@@ -152,6 +152,15 @@ module _ {S V : Type 0} (Is : ℕ → S → Type 0) where
       subst (Is i) (same_Some h.0 y same) h.2
 
 module _ {S : Type 0} (Is : ℕ → S → Type 0) where
+  pub none_yet : (xs : List S) → xs ≡ [] → SoFar Is 0 xs
+  none_yet xs e =
+      subst (SoFar Is 0) (sym e)
+      record {
+        few = omega arith;
+        all = λ whole j z at. absurd (none-some z at);
+        some = λ j z at. absurd (none-some z at);
+      }
+
   pub one_more : (i : ℕ) (xs : List S) (y : S) → SoFar Is i xs → Is i y → SoFar Is (i + 1) (xs ++ y ∷ [])
   one_more i xs y so is =
       let len = length_push xs y in
