@@ -35,8 +35,7 @@ const ROWS: &[(u64, Act, u64, bool)] = &[
 
 fn makes(rt: &impl Abort, old: u64, act: &Act, word: u64, hit: bool) {
     let effect = apply(old, act);
-    assert_eq!(rt; effect.word, word, "from {old}");
-    assert_eq!(rt; effect.hit, hit, "from {old}");
+    assert_eq!(rt; (effect.word, effect.hit), (word, hit), "from {old}");
 }
 
 #[test]

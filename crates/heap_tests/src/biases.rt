@@ -9,6 +9,7 @@ use bias_lock::bias_enter;
 use core_world::{BiasTry, HeapCall, Operation, Unfinished};
 use heap_table::{CallContext, Heap, Pass};
 use plain_monitor::Path;
+use std::process::Abort;
 use std::test::Fail;
 
 // It enters the first object.
@@ -27,29 +28,29 @@ fn enter(heap: &Heap, pass: &mut Pass) -> BiasTry
 }
 
 // The first thread enters it.
-fn enter_first(heap: &Heap, pass: &mut Pass) -> BiasTry
+fn enter_first(rt: &impl Abort, heap: &Heap, pass: &mut Pass)
     requires biasing { heap.now.heap.biasing ≡ true }
     requires knows { Knows heap.now (resumed 0 0 1) pass.old }
 {
-    enter(heap, pass)
+    let tried = enter(heap, pass);
+    same(rt, tried, BiasTry::Took(Path::BiasTaken));
 }
 
 // The second thread tries to enter it.
-fn enter_second(heap: &Heap, pass: &mut Pass) -> BiasTry
+fn enter_second(rt: &impl Abort, heap: &Heap, pass: &mut Pass)
     requires biasing { heap.now.heap.biasing ≡ true }
     requires knows { Knows heap.now (resumed 1 1 3) pass.old }
 {
-    enter(heap, pass)
+    let tried = enter(heap, pass);
+    same(rt, tried, BiasTry::Valid { mark: 1029 });
 }
 
 #[test]
 fn one_thread_has_the_bias(rt: HostRuntime) -> Result<(), Fail> {
     let (heap, mut first, mut second) = begin_two(rt.alloc(), true)?;
     resume_both(&rt, &heap, &mut first, &mut second);
-    let tried = enter_first(&heap, &mut first);
-    same(&rt, tried, BiasTry::Took(Path::BiasTaken));
-    let tried = enter_second(&heap, &mut second);
-    same(&rt, tried, BiasTry::Valid { mark: 1029 });
+    enter_first(&rt, &heap, &mut first);
+    enter_second(&rt, &heap, &mut second);
     same(&rt, first.held(0), 1);
     same(&rt, second.held(0), 0);
     Ok(())

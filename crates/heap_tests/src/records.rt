@@ -46,11 +46,24 @@ fn enter_first(rt: &impl Abort, heap: &Heap, pass: &mut Pass)
 }
 
 // The second thread tries to enter it by the neutral mark that it had.
-fn enter_second(heap: &Heap, pass: &mut Pass) -> Progress<Path>
+fn enter_second(rt: &impl Abort, heap: &Heap, pass: &mut Pass)
     requires biasing { heap.now.heap.biasing ≡ false }
     requires knows { Knows heap.now (resumed 1 1 3) pass.old }
 {
-    enter(heap, pass, 1)
+    let raced = PendingCause::Raced {
+        expected: 1,
+        found: 4096,
+    };
+    let progress = enter(heap, pass, 1);
+    same(rt, progress, Progress::Pending(raced));
+}
+
+// The first thread enters it again.
+fn enter_again(rt: &impl Abort, heap: &Heap, pass: &mut Pass)
+    requires { MayEnter heap.now pass.old 4096 }
+{
+    let progress = enter(heap, pass, 4096);
+    same(rt, progress, Progress::Done(Path::StackAgain));
 }
 
 #[test]
@@ -58,14 +71,8 @@ fn one_thread_has_the_lock(rt: HostRuntime) -> Result<(), Fail> {
     let (heap, mut first, mut second) = begin_two(rt.alloc(), false)?;
     resume_both(&rt, &heap, &mut first, &mut second);
     enter_first(&rt, &heap, &mut first);
-    let progress = enter_second(&heap, &mut second);
-    let raced = PendingCause::Raced {
-        expected: 1,
-        found: 4096,
-    };
-    same(&rt, progress, Progress::Pending(raced));
-    let progress = enter(&heap, &mut first, 4096);
-    same(&rt, progress, Progress::Done(Path::StackAgain));
+    enter_second(&rt, &heap, &mut second);
+    enter_again(&rt, &heap, &mut first);
     same(&rt, first.held(0), 2);
     same(&rt, second.held(0), 0);
     Ok(())

@@ -1,6 +1,7 @@
-use Rattle.std.proofs.Common.{◌≡◌, false, List, length, All, sym, subst, inl}
-use Rattle.heap_table.specs.Seen.{HeapSeen, PassSeen, IsOf, InOrder, knowns}
+use Rattle.std.proofs.Common.{◌≡◌, false, List, length, All, sym, ap, ◌∙◌, subst, inl}
+use Rattle.heap_table.specs.Seen.{HeapSeen, PassSeen, ClosedSeen, IsOf, InOrder, knowns}
 use Rattle.heap_table.proofs.AtLast.{both}
+use Rattle.heap_table.proofs.Resting.{if_ok}
 use Rattle.heap_tests.proofs.last.end.Goals as goal
 
 -- the two passes, in the order of their threads
@@ -27,3 +28,8 @@ close-requires-clause-quiet c =
     let p = c.requires.passes in
     inl (subst (All (λ p. p.known.requesting ≡ false)) (sym c.in_ok-passes.ensures)
     (both (λ p. p.known.requesting ≡ false) c.args.first.value c.args.second.value p.0.quiet p.1.quiet))
+
+pub returns : goal.returns
+returns c =
+    if_ok c.boxed.result (λ closed e. ap (λ (x : ClosedSeen). x.heap) e ∙ c.close.ensures.heap ∙ ap (λ (h : HeapSeen). h.heap) c.into_inner.ensures)
+    c.boxed.ensures
