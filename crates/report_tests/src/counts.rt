@@ -5,6 +5,7 @@ ghost use Rattle.plain_machine.specs.Legal.{IsLegal};
 ghost use Rattle.object_program.specs.Name.{is_name};
 ghost use Rattle.object_program.specs.declared.program.Code.{Code};
 
+use crate::compare::same;
 use lock_journal::RunRecord;
 use object_program::{ClassDef, Code, Name, ObjectDef, Program, ThreadDef};
 use plain_monitor::{Entry, List, Logged, Path};
@@ -139,7 +140,44 @@ fn object(bytes: &[u8], first: u32) -> ObjectDef
     }
 }
 
-/// The program of both threads, over the objects `a`, `b` and `c`.
+/// The class of the objects.
+fn classes(alloc: Global) -> Result<List<ClassDef>, AllocError>
+    ensures { IfOk result (λ l. l ≡ record { name = codes "C"; slots = 0 } ∷ []) }
+{
+    let class = ClassDef {
+        name: Name::of(b"C"),
+        slots: 0,
+    };
+    Ok(List::of(Vec::from_slice(alloc, &[class])?))
+}
+
+/// The objects `a`, `b` and `c`.
+fn objects(alloc: Global) -> Result<List<ObjectDef>, AllocError>
+    ensures { IfOk result (λ l. l
+        ≡ record { name = codes "a"; class = 0; first = 0; size = 1; array = false }
+        ∷ record { name = codes "b"; class = 0; first = 1; size = 1; array = false }
+        ∷ record { name = codes "c"; class = 0; first = 2; size = 1; array = false } ∷ []) }
+{
+    let mut objects = Vec::new(alloc);
+    objects.push(object(b"a", 0))?;
+    objects.push(object(b"b", 1))?;
+    objects.push(object(b"c", 2))?;
+    Ok(List::of(objects))
+}
+
+/// The two threads.
+fn threads(alloc: Global) -> Result<List<ThreadDef>, AllocError>
+    ensures { IfOk result (λ l. l
+        ≡ record { name = codes "t1"; locals = codes "x" ∷ []; labels = []; code = CODE_OF_T1 }
+        ∷ record { name = codes "t2"; locals = codes "x" ∷ []; labels = []; code = CODE_OF_T2 } ∷ []) }
+{
+    let mut threads = Vec::new(alloc);
+    threads.push(thread(alloc, b"t1", &CODE_OF_T1)?)?;
+    threads.push(thread(alloc, b"t2", &CODE_OF_T2)?)?;
+    Ok(List::of(threads))
+}
+
+/// The program of both threads, over the three objects. A name has its 32 bytes by value, so each list is made in a function of its own.
 fn program(alloc: Global) -> Result<Program, AllocError>
     ensures { IfOk result (λ p. p ≡ record {
       classes = record { name = codes "C"; slots = 0 } ∷ [];
@@ -150,18 +188,10 @@ fn program(alloc: Global) -> Result<Program, AllocError>
           ∷ record { name = codes "t2"; locals = codes "x" ∷ []; labels = []; code = CODE_OF_T2 } ∷ [];
     }) }
 {
-    let class = ClassDef {
-        name: Name::of(b"C"),
-        slots: 0,
-    };
-    let objects = [object(b"a", 0), object(b"b", 1), object(b"c", 2)];
-    let mut threads = Vec::new(alloc);
-    threads.push(thread(alloc, b"t1", &CODE_OF_T1)?)?;
-    threads.push(thread(alloc, b"t2", &CODE_OF_T2)?)?;
     Ok(Program {
-        classes: List::of(Vec::from_slice(alloc, &[class])?),
-        objects: List::of(Vec::from_slice(alloc, &objects)?),
-        threads: List::of(threads),
+        classes: classes(alloc)?,
+        objects: objects(alloc)?,
+        threads: threads(alloc)?,
     })
 }
 
@@ -190,13 +220,13 @@ const COUNTED: &[(u32, &[u64], u64)] = &[(0, &[0, 1, 1, 1, 0, 0], 2), (2, &[0, 0
 /// Asserts that these are the counts of an object.
 fn expect_count(rt: &impl Abort, count: &ObjectCount, expected: &(u32, &[u64], u64)) {
     let (object, paths, handovers) = expected;
-    assert_eq!(rt; (count.object, count.handovers), (*object, *handovers));
-    assert_eq!(rt; count.paths.items(), *paths);
+    same(rt, (count.object, count.handovers), (*object, *handovers));
+    same(rt, count.paths.items(), *paths);
 }
 
 /// Asserts that these are the counts of the objects.
 fn expect_counts(rt: &impl Abort, counts: &[ObjectCount], expected: &[(u32, &[u64], u64)]) {
-    assert_eq!(rt; counts.len(), expected.len());
+    same(rt, counts.len(), expected.len());
     for (count, of_object) in counts.iter().zip(expected.iter()) {
         expect_count(rt, count, of_object);
     }

@@ -1,11 +1,12 @@
 //! The cycles of machines in which threads wait.
 
-ghost use Rattle.std.specs.Prelude.{◌≡◌, length, IfOk};
+ghost use Rattle.std.specs.Prelude.{◌≡◌, length};
 
+use crate::compare::same;
 use example_programs::WAIT_FOREVER;
 use object_program::Program;
 use plain_machine::{Machine, Offer};
-use plain_monitor::List;
+use plain_monitor::{List, NoMemory};
 use program_syntax::read_program;
 use std::alloc::Global;
 use std::process::Abort;
@@ -51,15 +52,14 @@ end
     Ok(())
 }
 
-/// The machine after one round of turns and the next, where nobody can go on or many rounds are over.
-fn stand_still(alloc: Global, program: &Program) -> Result<Machine, Fail>
-    ensures { IfOk result (λ m. length m.threads ≡ length program.now.threads) }
+/// One round of turns and the next, until nobody can go on or many rounds are over.
+fn stand_still(program: &Program, machine: &mut Machine)
+    requires { length machine.old.threads ≡ length program.now.threads }
+    ensures { length machine.new.threads ≡ length program.now.threads }
 {
-    let mut machine = Machine::new(alloc, program, 100)?;
     for _ in 0..ROUNDS {
-        turn_each(program, &mut machine);
+        turn_each(program, machine);
     }
-    Ok(machine)
 }
 
 /// A turn of each thread.
@@ -74,16 +74,22 @@ fn turn_each(program: &Program, machine: &mut Machine)
     }
 }
 
-/// The cycles at the end of the program with this text.
+/// The cycles at the end of the program.
+fn cycles_at_end(alloc: Global, program: &Program) -> Result<List<Cycle>, NoMemory> {
+    let mut machine = Machine::new(alloc, program, 100)?;
+    stand_still(program, &mut machine);
+    find_cycles(alloc, program, &machine)
+}
+
+/// The cycles at the end of the program with this text. The program and the machine are large, so each is held by a function of its own.
 fn cycles_of(alloc: Global, text: &str) -> Result<List<Cycle>, Fail> {
     let program = read_program(alloc, text.as_bytes())?;
-    let machine = stand_still(alloc, &program)?;
-    Ok(find_cycles(alloc, &program, &machine)?)
+    Ok(cycles_at_end(alloc, &program)?)
 }
 
 /// Asserts that these are the cycles, each as the pairs of its links.
 fn expect(rt: &impl Abort, cycles: &[Cycle], expected: &[&[(u32, u32)]]) {
-    assert_eq!(rt; cycles.len(), expected.len());
+    same(rt, cycles.len(), expected.len());
     for (cycle, pairs) in cycles.iter().zip(expected.iter()) {
         expect_links(rt, cycle.links.items(), pairs);
     }
@@ -91,9 +97,9 @@ fn expect(rt: &impl Abort, cycles: &[Cycle], expected: &[&[(u32, u32)]]) {
 
 /// Asserts that these are the links, each as a thread and the object that it waits for.
 fn expect_links(rt: &impl Abort, links: &[Link], pairs: &[(u32, u32)]) {
-    assert_eq!(rt; links.len(), pairs.len());
+    same(rt, links.len(), pairs.len());
     for (link, pair) in links.iter().zip(pairs.iter()) {
-        assert_eq!(rt; (link.thread, link.object), *pair);
+        same(rt, (link.thread, link.object), *pair);
     }
 }
 

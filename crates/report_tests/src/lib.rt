@@ -6,6 +6,8 @@ mod checks;
 #[cfg(test)]
 mod classes;
 #[cfg(test)]
+mod compare;
+#[cfg(test)]
 mod counts;
 #[cfg(test)]
 mod cycles;
