@@ -2,6 +2,7 @@
 
 use bias_check::{CheckFault, Checked, Reached, check_journal};
 use example_programs::{ANSWER, HASH, WAIT_FOREVER};
+use object_program::Program;
 use program_syntax::read_program;
 use std::alloc::Global;
 use std::process::Abort;
@@ -64,12 +65,17 @@ end
 ";
 
 /// The answer, with 1,000 units of fuel and generators from 1.
+fn answer_to(alloc: Global, program: &Program, lines: &[u8]) -> Result<Checked, CheckFault> {
+    if lines.len() > 1000 {
+        return Err(CheckFault::NoMemory);
+    }
+    check_journal(alloc, program, 1000, 1, lines)
+}
+
+/// The answer to a journal of the program with this text.
 fn answer(alloc: Global, program: &str, lines: &[u8]) -> Result<Result<Checked, CheckFault>, Fail> {
     let program = read_program(alloc, program.as_bytes())?;
-    if lines.len() > 1000 {
-        return Ok(Err(CheckFault::NoMemory));
-    }
-    Ok(check_journal(alloc, &program, 1000, 1, lines))
+    Ok(answer_to(alloc, &program, lines))
 }
 
 /// Expects this answer to the journal of the program.

@@ -1,6 +1,8 @@
 //! The classes of the objects of a machine.
 
+use object_program::Program;
 use plain_machine::Machine;
+use plain_monitor::NoMemory;
 use program_syntax::read_program;
 use std::process::Abort;
 use std::test::Fail;
@@ -24,10 +26,16 @@ fn expect_classes(rt: &impl Abort, machine: &Machine) {
     }
 }
 
+/// Expects them of the program's machine. The machine is large, as the program is, so this function holds it alone.
+fn expect_classes_of<R: Abort + AllocGlobal>(rt: &R, program: &Program) -> Result<(), NoMemory> {
+    let machine = Machine::new(rt.alloc(), program, 10)?;
+    expect_classes(rt, &machine);
+    Ok(())
+}
+
 #[test]
 fn declared_objects_have_the_class_of_their_line(rt: HostRuntime) -> Result<(), Fail> {
     let program = read_program(rt.alloc(), TEXT)?;
-    let machine = Machine::new(rt.alloc(), &program, 10)?;
-    expect_classes(&rt, &machine);
+    expect_classes_of(&rt, &program)?;
     Ok(())
 }

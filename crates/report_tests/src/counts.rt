@@ -8,7 +8,7 @@ ghost use Rattle.object_program.specs.declared.program.Code.{Code};
 use crate::compare::same;
 use lock_journal::RunRecord;
 use object_program::{ClassDef, Code, Name, ObjectDef, Program, ThreadDef};
-use plain_monitor::{Entry, List, Logged, Path};
+use plain_monitor::{Entry, List, Logged, NoMemory, Path};
 use std::alloc::{AllocError, Global};
 use std::process::Abort;
 use std::test::Fail;
@@ -232,11 +232,23 @@ fn expect_counts(rt: &impl Abort, counts: &[ObjectCount], expected: &[(u32, &[u6
     }
 }
 
+/// Asserts that these are the counts of the record's objects. The record is large, so it is borrowed here.
+fn expect_counted<R: Abort + AllocGlobal>(
+    rt: &R,
+    run: &RunRecord,
+    expected: &[(u32, &[u64], u64)],
+) -> Result<(), NoMemory>
+    requires { IsLegal run.now.program run.now.fuel run.now.logs }
+{
+    let counts = count_objects(rt.alloc(), run)?;
+    expect_counts(rt, counts.items(), expected);
+    Ok(())
+}
+
 /// Object 0 goes from `t1` to `t2` and back. Object 1 isn't entered, and object 2 has one thread.
 #[test]
 fn objects_are_counted(rt: HostRuntime) -> Result<(), Fail> {
     let run = record_of_run(rt.alloc())?;
-    let counts = count_objects(rt.alloc(), &run)?;
-    expect_counts(&rt, counts.items(), COUNTED);
+    expect_counted(&rt, &run, COUNTED)?;
     Ok(())
 }
