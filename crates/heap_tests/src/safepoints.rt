@@ -171,12 +171,19 @@ fn second_lets_go(rt: &impl Abort, heap: &Heap, first: &mut Pass, second: &mut P
     same(rt, poll(heap, second), DONE);
 }
 
+// The second thread has a safepoint, for which the first one stops.
+fn first_stops_for_second(rt: &impl Abort, heap: &Heap, first: &mut Pass, second: &mut Pass)
+    requires { Rests heap.now first.old × Rests heap.now second.old }
+{
+    second_asks(rt, heap, first, second);
+    first_stops(rt, heap, first, second);
+    second_lets_go(rt, heap, first, second);
+}
+
 #[test]
 fn a_thread_stops_for_another(rt: HostRuntime) -> Result<(), Fail> {
     let (heap, mut first, mut second) = begin(rt.alloc())?;
-    second_asks(&rt, &heap, &mut first, &mut second);
-    first_stops(&rt, &heap, &mut first, &mut second);
-    second_lets_go(&rt, &heap, &mut first, &mut second);
+    first_stops_for_second(&rt, &heap, &mut first, &mut second);
     Ok(())
 }
 

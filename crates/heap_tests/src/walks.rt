@@ -210,19 +210,31 @@ const ENTERED: &[Logged] = &[Logged {
     },
 }];
 
+// It resumes, and takes the second object.
+fn take(rt: &impl Abort, heap: &Heap, pass: &mut Pass)
+    requires { IsAt heap.now [] pass.old }
+{
+    let resumed = resume(heap, pass);
+    holds(rt, resumed);
+    holds(rt, pass.running());
+    let entered = enter(heap, pass);
+    holds(rt, entered);
+}
+
+// What it then has, and has logged.
+fn has_taken(rt: &impl Abort, pass: &Pass) {
+    same(rt, pass.hold_words()[0], 257);
+    same(rt, pass.held(1), 1);
+    same(rt, pass.holds(), 1);
+    same(rt, pass.log(), ENTERED);
+    same(rt, pass.room(), 85);
+}
+
 #[test]
 fn an_object_is_taken_by_a_lock_record(rt: HostRuntime) -> Result<(), Fail> {
     let (heap, mut pass, _second) = begin_two(rt.alloc(), false)?;
-    let resumed = resume(&heap, &mut pass);
-    holds(&rt, resumed);
-    holds(&rt, pass.running());
-    let entered = enter(&heap, &mut pass);
-    holds(&rt, entered);
-    same(&rt, pass.hold_words()[0], 257);
-    same(&rt, pass.held(1), 1);
-    same(&rt, pass.holds(), 1);
-    same(&rt, pass.log(), ENTERED);
-    same(&rt, pass.room(), 85);
+    take(&rt, &heap, &mut pass);
+    has_taken(&rt, &pass);
     Ok(())
 }
 

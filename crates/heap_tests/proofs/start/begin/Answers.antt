@@ -24,6 +24,7 @@ pub returns-clause-limit : goal.returns-clause-limit
 returns-clause-limit c = (ap (λ (p : PassSeen). p.limit) (are c).0, ap (λ (p : PassSeen). p.limit) (are c).1)
 
 pub returns-clause-fresh : goal.returns-clause-fresh
-returns-clause-fresh c =
-    (subst (IsFresh c.in_ok-heap.heap.value 0) (sym (are c).0) c.in_ok-heap.ensures.fresh.0,
-    subst (IsFresh c.in_ok-heap.heap.value 1) (sym (are c).1) c.in_ok-heap.ensures.fresh.1)
+returns-clause-fresh c = (
+  subst (IsFresh c.in_ok-heap.heap.value 0) (sym (are c).0) c.in_ok-heap.ensures.fresh.0,
+  subst (IsFresh c.in_ok-heap.heap.value 1) (sym (are c).1) c.in_ok-heap.ensures.fresh.1,
+)
