@@ -64,7 +64,7 @@ exit o
 end
 ";
 
-/// The answer, with 1,000 units of fuel and generators from 1.
+/// The answer of the program to a journal, with 1,000 units of fuel and generators from 1.
 fn answer_to(alloc: Global, program: &Program, lines: &[u8]) -> Result<Checked, CheckFault> {
     if lines.len() > 1000 {
         return Err(CheckFault::NoMemory);
@@ -72,7 +72,7 @@ fn answer_to(alloc: Global, program: &Program, lines: &[u8]) -> Result<Checked, 
     check_journal(alloc, program, 1000, 1, lines)
 }
 
-/// The answer to a journal of the program with this text.
+/// The same of the program with this text.
 fn answer(alloc: Global, program: &str, lines: &[u8]) -> Result<Result<Checked, CheckFault>, Fail> {
     let program = read_program(alloc, program.as_bytes())?;
     Ok(answer_to(alloc, &program, lines))
