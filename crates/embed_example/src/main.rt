@@ -344,6 +344,18 @@ fn in_order(heap: &Heap, first: &Pass, second: &Pass) -> bool
     heap.shape().threads() == 2 && first.thread() == 0 && second.thread() == 1
 }
 
+// The passes, in the order of their threads.
+fn listed(alloc: Global, first: Pass, second: Pass) -> Result<List<Pass>, Stop>
+    ensures { IfOk result (λ passes. passes ≡ first ∷ second ∷ []) }
+{
+    let Ok(mut passes) = Vec::with_capacity(alloc, 2) else {
+        return Err(Stop::NoMemory);
+    };
+    passes.push_reserved(first);
+    passes.push_reserved(second);
+    Ok(List::of(passes))
+}
+
 /// Closes the heap. That asks for all of its passes, in the order of their threads, each stopped and without a request. No page of a log was
 /// handed out, so what is left are the whole logs.
 pub fn close_door(alloc: Global, heap: Heap, first: Pass, second: Pass) -> Result<Closed, Stop>
@@ -355,12 +367,8 @@ pub fn close_door(alloc: Global, heap: Heap, first: Pass, second: Pass) -> Resul
     if !in_order(&heap, &first, &second) {
         return Err(Stop::Order);
     }
-    let Ok(mut passes) = Vec::with_capacity(alloc, 2) else {
-        return Err(Stop::NoMemory);
-    };
-    passes.push_reserved(first);
-    passes.push_reserved(second);
-    Ok(close(heap, List::of(passes)))
+    let passes = listed(alloc, first, second)?;
+    Ok(close(heap, passes))
 }
 
 /// Both threads, and what is left of their heap. The logs are legal, and their stamps exact.
