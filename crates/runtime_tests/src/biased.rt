@@ -5,14 +5,16 @@ use crate::calls::{DONE, LEFT, pending};
 use crate::compare::{holds, same};
 use crate::lab::Thread::{First, Second};
 use crate::lab::{Lab, Thread};
-use crate::last::{closed, count, has_three_records, mark, monitor, prototype};
+use crate::last::{closed, count, displaced, mark, monitor, prototype};
 use core_world::{PendingCause, Progress};
 use plain_monitor::Path;
 use std::process::Abort;
+use std::test::Fail;
 
 // The first thread has entered the first object three times, and both run.
 fn bias(rt: &impl Abort, lab: &mut Lab) {
-    lab.both_resume(rt);
+    lab.resumes(rt, First);
+    lab.resumes(rt, Second);
     lab.enters(rt, First, 0, 1, Path::BiasTaken);
     lab.enters(rt, First, 0, 1, Path::BiasOwn);
     lab.enters(rt, First, 0, 1, Path::BiasOwn);
@@ -28,19 +30,23 @@ fn revoke(rt: &impl Abort, lab: &mut Lab) {
 }
 
 #[test]
-fn a_revoked_bias_stands_in_records(rt: HostRuntime) {
-    let mut lab = Lab::begin(&rt, true);
+fn a_revoked_bias_stands_in_records(rt: HostRuntime) -> Result<(), Fail> {
+    let mut lab = Lab::begin(rt.alloc(), true)?;
     revoke(&rt, &mut lab);
     let closed = closed(&rt, lab);
     same(&rt, mark(&closed, 0), Some(10));
     same(&rt, monitor(&closed, 0), Some([1, 4096, 0, 0]));
-    has_three_records(&rt, &closed);
+    same(&rt, displaced(&closed, 0, 0), Some(1));
+    same(&rt, displaced(&closed, 0, 1), Some(0));
+    same(&rt, displaced(&closed, 0, 2), Some(0));
     same(&rt, count(&closed, 0), Some(1));
+    Ok(())
 }
 
 // The first thread has 63 holds of object 0, and then one of object 1 at the last place, 63. Its record has the word 4096 + 63 * 8.
 fn revoke_the_last_place(rt: &impl Abort, lab: &mut Lab) {
-    lab.both_resume(rt);
+    lab.resumes(rt, First);
+    lab.resumes(rt, Second);
     holds(rt, lab.enter_times(First, 0, 63));
     lab.enters(rt, First, 1, 1, Path::BiasTaken);
     lab.stops(rt, First);
@@ -50,49 +56,46 @@ fn revoke_the_last_place(rt: &impl Abort, lab: &mut Lab) {
 }
 
 #[test]
-fn a_revocation_visits_the_last_place(rt: HostRuntime) {
-    let mut lab = Lab::begin(&rt, true);
+fn a_revocation_visits_the_last_place(rt: HostRuntime) -> Result<(), Fail> {
+    let mut lab = Lab::begin(rt.alloc(), true)?;
     revoke_the_last_place(&rt, &mut lab);
     let closed = closed(&rt, lab);
     same(&rt, mark(&closed, 1), Some(10));
     same(&rt, monitor(&closed, 0), Some([1, 4600, 0, 1]));
-}
-
-// The first thread leaves the object as often as it entered it, and the second has it by the monitor.
-fn pass_on(rt: &impl Abort, lab: &mut Lab) {
-    lab.resumes(rt, First);
-    lab.leaves(rt, First, 0);
-    lab.leaves(rt, First, 0);
-    lab.leaves(rt, First, 0);
-    lab.stops(rt, First);
-    lab.resumes(rt, Second);
-    lab.enters(rt, Second, 0, 1, Path::MonitorFirst);
+    Ok(())
 }
 
 #[test]
-fn a_revoked_lock_goes_to_the_next_by_the_monitor(rt: HostRuntime) {
-    let mut lab = Lab::begin(&rt, true);
+fn a_revoked_lock_goes_to_the_next_by_the_monitor(rt: HostRuntime) -> Result<(), Fail> {
+    let mut lab = Lab::begin(rt.alloc(), true)?;
     revoke(&rt, &mut lab);
-    pass_on(&rt, &mut lab);
+    lab.resumes(&rt, First);
+    lab.leaves(&rt, First, 0);
+    lab.leaves(&rt, First, 0);
+    lab.leaves(&rt, First, 0);
+    lab.stops(&rt, First);
+    lab.resumes(&rt, Second);
+    lab.enters(&rt, Second, 0, 1, Path::MonitorFirst);
     lab.has_logged(&rt, Second, &[7]);
-}
-
-// The second thread asks the first to stop, which hears of it, and is kept out again when it has stopped.
-fn ask_to_stop(rt: &impl Abort, lab: &mut Lab) {
-    let word = 8589934593;
-    lab.is_kept_out(rt, Second, 0, 1, PendingCause::Stopping { word });
-    let requested = pending(PendingCause::Requested { word });
-    same(rt, lab.poll(First), requested);
-    lab.stops(rt, First);
-    let owned = PendingCause::Owned { word: 4096 };
-    lab.is_kept_out(rt, Second, 0, 1, owned);
+    Ok(())
 }
 
 #[test]
-fn a_revocation_waits_until_the_others_stop(rt: HostRuntime) {
-    let mut lab = Lab::begin(&rt, true);
+fn a_revocation_waits_until_the_others_stop(rt: HostRuntime) -> Result<(), Fail> {
+    let mut lab = Lab::begin(rt.alloc(), true)?;
     bias(&rt, &mut lab);
-    ask_to_stop(&rt, &mut lab);
+    let word = 8589934593;
+    let stopping = PendingCause::Stopping { word };
+    let owned = PendingCause::Owned { word: 4096 };
+    lab.is_kept_out(&rt, Second, 0, 1, stopping);
+    same(
+        &rt,
+        lab.poll(First),
+        pending(PendingCause::Requested { word }),
+    );
+    lab.stops(&rt, First);
+    lab.is_kept_out(&rt, Second, 0, 1, owned);
+    Ok(())
 }
 
 // Whether the stopped thread resumed, entered and left these objects at this moment, and stopped.
@@ -142,39 +145,43 @@ fn five_rounds(lab: &mut Lab) -> bool {
 }
 
 #[test]
-fn a_bias_has_the_epoch_of_its_class(rt: HostRuntime) {
-    let mut lab = Lab::begin(&rt, true);
+fn a_bias_has_the_epoch_of_its_class(rt: HostRuntime) -> Result<(), Fail> {
+    let mut lab = Lab::begin(rt.alloc(), true)?;
     holds(&rt, first_round(&mut lab));
     let closed = closed(&rt, lab);
     same(&rt, mark(&closed, 100), Some(1285));
+    Ok(())
 }
 
 #[test]
-fn the_epochs_of_a_class_begin_again(rt: HostRuntime) {
-    let mut lab = Lab::begin(&rt, true);
+fn the_epochs_of_a_class_begin_again(rt: HostRuntime) -> Result<(), Fail> {
+    let mut lab = Lab::begin(rt.alloc(), true)?;
     holds(&rt, five_rounds(&mut lab));
     let closed = closed(&rt, lab);
     same(&rt, prototype(&closed, 0), Some(261));
     same(&rt, count(&closed, 0), Some(20));
-}
-
-// The first thread enters the last object by its bias and leaves it, and then the second enters it.
-fn visit_the_last(rt: &impl Abort, lab: &mut Lab, now: u64) {
-    lab.resumes(rt, First);
-    lab.enters(rt, First, 100, now, Path::BiasOwn);
-    lab.leaves(rt, First, 100);
-    lab.stops(rt, First);
-    lab.resumes(rt, Second);
-    lab.enters(rt, Second, 100, now, Path::StackFirst);
-    lab.stops(rt, Second);
+    Ok(())
 }
 
 #[test]
-fn a_bias_of_an_epoch_that_came_again_is_valid(rt: HostRuntime) {
-    let mut lab = Lab::begin(&rt, true);
+fn a_bias_of_an_epoch_that_came_again_is_valid(rt: HostRuntime) -> Result<(), Fail> {
+    let mut lab = Lab::begin(rt.alloc(), true)?;
     holds(&rt, five_rounds(&mut lab));
-    visit_the_last(&rt, &mut lab, 100001);
-    lab.has_counted(&rt, Second, (96, 5, 0));
+    let now = 100001;
+    lab.resumes(&rt, First);
+    lab.enters(&rt, First, 100, now, Path::BiasOwn);
+    lab.leaves(&rt, First, 100);
+    lab.stops(&rt, First);
+    lab.resumes(&rt, Second);
+    lab.enters(&rt, Second, 100, now, Path::StackFirst);
+    lab.stops(&rt, Second);
+    let Some(counts) = lab.pass(Second).counts().first() else {
+        panic!(rt; "there is a class")
+    };
+    same(&rt, counts.single, 96);
+    same(&rt, counts.rebias, 5);
+    same(&rt, counts.revoke, 0);
     let closed = closed(&rt, lab);
     same(&rt, count(&closed, 0), Some(21));
+    Ok(())
 }

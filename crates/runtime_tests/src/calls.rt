@@ -13,6 +13,9 @@ use lawful_heap::new_heap;
 use plain_monitor::{Ending, NoMemory, Path, Value};
 use std::alloc::Global;
 
+// The class of each object.
+const CLASSES: [u32; 101] = [0; 101];
+
 // The heap of this shape, and the passes of its two threads.
 fn passes(alloc: Global, shape: HeapShape, biasing: bool) -> Result<(Heap, Pass, Pass), NoMemory>
     requires { shape.threads ≡ 2 }
@@ -29,12 +32,32 @@ fn passes(alloc: Global, shape: HeapShape, biasing: bool) -> Result<(Heap, Pass,
     Ok((heap, first, second))
 }
 
-/// The heap of this shape, with or without biases, and the passes of its two threads.
-pub fn open(alloc: Global, shape: HeapShape, biasing: bool) -> Result<(Heap, Pass, Pass), NoMemory>
-    requires { shape.threads ≡ 2 }
+fn fresh(alloc: Global, biasing: bool) -> Result<(Heap, Pass, Pass), NoMemory>
+    ensures { IfOk result (λ r. IsFresh r.0 0 r.1 × IsFresh r.0 1 r.2) }
+{
+    let shape = HeapShape::of(alloc, 2, &[1], &CLASSES, 101)?;
+    passes(alloc, shape, biasing)
+}
+
+fn fresh_to_make(alloc: Global, biasing: bool) -> Result<(Heap, Pass, Pass), NoMemory>
+    ensures { IfOk result (λ r. IsFresh r.0 0 r.1 × IsFresh r.0 1 r.2) }
+{
+    let shape = HeapShape::of(alloc, 2, &[1], &[0], 1)?;
+    passes(alloc, shape.with_made(1)?, biasing)
+}
+
+/// A heap of two threads and 101 objects of one class with one slot, with or without biases, and its passes.
+pub fn begin(alloc: Global, biasing: bool) -> Result<(Heap, Pass, Pass), NoMemory>
     ensures { IfOk result (λ r. Rests r.0 r.1 × Rests r.0 r.2) }
 {
-    passes(alloc, shape, biasing)
+    fresh(alloc, biasing)
+}
+
+/// The same with one declared object, where the first thread makes the objects from 1 on, and the second those from 1025 on.
+pub fn begin_to_make(alloc: Global, biasing: bool) -> Result<(Heap, Pass, Pass), NoMemory>
+    ensures { IfOk result (λ r. Rests r.0 r.1 × Rests r.0 r.2) }
+{
+    fresh_to_make(alloc, biasing)
 }
 
 pub fn poll(heap: &Heap, pass: &mut Pass) -> Option<Progress<()>>

@@ -2,21 +2,17 @@
 ghost use Rattle.std.specs.Prelude.{◌≡◌, IfOk};
 ghost use Rattle.heap_table.specs.Resting.{Rests};
 
-use crate::calls::{self, DONE, LEFT, entered, not_entered, open};
+use crate::calls::{self, DONE, LEFT, entered, not_entered};
 use crate::compare::{holds, same};
-use crate::lab::Thread::{First, Second};
 use core_world::{
     IllegalMonitorState, PendingCause, Progress, TooDeep, TooMany, TooManyDumps, Unguarded,
 };
-use heap_table::{Heap, HeapShape, Pass};
-use plain_monitor::{Ending, Entry, Logged, NoMemory, Path, Value};
+use heap_table::{Heap, Pass};
+use plain_monitor::{Ending, Logged, NoMemory, Path, Value};
 use std::alloc::Global;
 use std::marker::Model;
 use std::mem;
 use std::process::Abort;
-
-// The class of each object.
-const CLASSES: [u32; 101] = [0; 101];
 
 // Whether the entries have these stamps, in order.
 fn has_stamps(log: &[Logged], stamps: &[u64]) -> bool {
@@ -27,22 +23,7 @@ fn has_stamps(log: &[Logged], stamps: &[u64]) -> bool {
             .all(|(logged, stamp)| logged.stamp == *stamp)
 }
 
-// What the log's last entry is.
-fn last(log: &[Logged]) -> Option<Entry> {
-    match log.last() {
-        Some(logged) => Some(logged.entry),
-        None => None,
-    }
-}
-
-// The revocations of one bias, the bulk rebiases and the bulk revocations of the one class.
-fn counted_in(pass: &Pass) -> Option<(u64, u64, u64)> {
-    let counts = pass.counts().first()?;
-    Some((counts.single, counts.rebias, counts.revoke))
-}
-
-/// The value in a box.
-pub fn boxed<T: Drop>(alloc: Global, value: T) -> Result<Box<T>, NoMemory>
+fn boxed<T: Drop>(alloc: Global, value: T) -> Result<Box<T>, NoMemory>
     ensures { IfOk result (λ b. b.value ≡ value) }
 {
     match Box::new(alloc, value) {
@@ -101,37 +82,16 @@ impl Lab {
         })
     }
 
-    fn try_open(alloc: Global, shape: HeapShape, biasing: bool) -> Result<Lab, NoMemory>
-        requires { shape.threads ≡ 2 }
-    {
-        let (heap, own, other) = open(alloc, shape, biasing)?;
+    /// A heap of two threads and 101 objects of one class with one slot, with or without biases.
+    pub fn begin(alloc: Global, biasing: bool) -> Result<Lab, NoMemory> {
+        let (heap, own, other) = calls::begin(alloc, biasing)?;
         Lab::of(alloc, heap, own, other)
     }
 
-    fn try_begin(alloc: Global, biasing: bool) -> Result<Box<Lab>, NoMemory> {
-        let shape = HeapShape::of(alloc, 2, &[1], &CLASSES, 101)?;
-        boxed(alloc, Lab::try_open(alloc, shape, biasing)?)
-    }
-
-    fn try_begin_to_make(alloc: Global, biasing: bool) -> Result<Box<Lab>, NoMemory> {
-        let shape = HeapShape::of(alloc, 2, &[1], &[0], 1)?;
-        boxed(alloc, Lab::try_open(alloc, shape.with_made(1)?, biasing)?)
-    }
-
-    /// A heap of two threads and 101 objects of one class with one slot, with or without biases. Fails the test where memory is wanting.
-    pub fn begin<R: Abort + AllocGlobal>(rt: &R, biasing: bool) -> Box<Lab> {
-        let Ok(lab) = Lab::try_begin(rt.alloc(), biasing) else {
-            panic!(rt; "there is memory for a heap")
-        };
-        lab
-    }
-
     /// The same with one declared object, where the first thread makes the objects from 1 on, and the second those from 1025 on.
-    pub fn begin_to_make<R: Abort + AllocGlobal>(rt: &R, biasing: bool) -> Box<Lab> {
-        let Ok(lab) = Lab::try_begin_to_make(rt.alloc(), biasing) else {
-            panic!(rt; "there is memory for a heap")
-        };
-        lab
+    pub fn begin_to_make(alloc: Global, biasing: bool) -> Result<Lab, NoMemory> {
+        let (heap, own, other) = calls::begin_to_make(alloc, biasing)?;
+        Lab::of(alloc, heap, own, other)
     }
 
     /// The pass of the thread, which says what the thread knows.
@@ -284,21 +244,9 @@ impl Lab {
         same(rt, self.resume(thread), DONE);
     }
 
-    /// Both threads run.
-    pub fn both_resume(&mut self, rt: &impl Abort) {
-        self.resumes(rt, First);
-        self.resumes(rt, Second);
-    }
-
     /// The thread stops.
     pub fn stops(&mut self, rt: &impl Abort, thread: Thread) {
         holds(rt, self.stop(thread));
-    }
-
-    /// Both threads stop.
-    pub fn both_stop(&mut self, rt: &impl Abort) {
-        self.stops(rt, First);
-        self.stops(rt, Second);
     }
 
     /// The thread enters the object, by this path.
@@ -318,11 +266,6 @@ impl Lab {
         same(rt, self.enter(thread, object, now), not_entered(why));
     }
 
-    /// The thread leaves the object.
-    pub fn leaves(&mut self, rt: &impl Abort, thread: Thread, object: u32) {
-        same(rt, self.exit(thread, object), LEFT);
-    }
-
     /// Whether the thread entered the object so often.
     pub fn enter_times(&mut self, thread: Thread, object: u32, times: u32) -> bool {
         for _ in 0..times {
@@ -333,39 +276,9 @@ impl Lab {
         true
     }
 
-    /// The first thread enters the object by a record, and the second is kept out, which gives the object a monitor.
-    pub fn inflate(&mut self, rt: &impl Abort, object: u32) {
-        self.enters(rt, First, object, 1, Path::StackFirst);
-        let owned = PendingCause::Owned { word: 4096 };
-        self.is_kept_out(rt, Second, object, 1, owned);
-    }
-
-    /// Both threads run, and the first one enters object 0 by a record and waits there: its waiting word has the stamp 2 of the
-    /// Wait and object 0.
-    pub fn first_waits(&mut self, rt: &impl Abort) {
-        self.both_resume(rt);
-        self.enters(rt, First, 0, 1, Path::StackFirst);
-        let unheard = Progress::Pending(PendingCause::NotNotified { word: 524290 });
-        same(rt, self.wait(First, 0, 1), Some(Ok(unheard)));
-    }
-
-    /// The thread notifies one that waits on object 0: this one, or none.
-    pub fn notifies(&mut self, rt: &impl Abort, thread: Thread, whom: Option<u32>) {
-        same(
-            rt,
-            self.notify(thread, 0, 1),
-            Some(Ok(Progress::Done(whom))),
-        );
-    }
-
-    /// What the thread counted of the one class: its revocations of one bias, its bulk rebiases and its bulk revocations.
-    pub fn has_counted(&self, rt: &impl Abort, thread: Thread, counted: (u64, u64, u64)) {
-        same(rt, counted_in(self.pass(thread)), Some(counted));
-    }
-
-    /// The last entry of the thread's log is this one.
-    pub fn has_last(&self, rt: &impl Abort, thread: Thread, entry: Entry) {
-        same(rt, last(self.pass(thread).log()), Some(entry));
+    /// The thread leaves the object.
+    pub fn leaves(&mut self, rt: &impl Abort, thread: Thread, object: u32) {
+        same(rt, self.exit(thread, object), LEFT);
     }
 
     /// The entries of the thread's log have these stamps, in order.

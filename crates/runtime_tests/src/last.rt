@@ -1,9 +1,8 @@
 //! The words, logs and counts of a heap that was closed.
-ghost use Rattle.std.specs.Prelude.{◌≡◌, [], ◌∷◌, IfSome, true, false};
+ghost use Rattle.std.specs.Prelude.{◌≡◌, true, false};
 ghost use Rattle.heap_table.specs.Resting.{Rests};
 
-use crate::compare::same;
-use crate::lab::{Lab, boxed};
+use crate::lab::Lab;
 use heap_table::{Closed, Heap, Pass, close};
 use plain_monitor::List;
 use std::alloc::Global;
@@ -27,38 +26,33 @@ fn may_close(heap: &Heap, first: &Pass, second: &Pass) -> bool
     heap.shape().threads() == 2 && is_quiet(first, 0) && is_quiet(second, 1)
 }
 
-// Both passes, in their order. `None` where memory is wanting.
-fn both(alloc: Global, first: Box<Pass>, second: Box<Pass>) -> Option<List<Pass>>
-    ensures { IfSome result (λ ps. ps ≡ first.value ∷ second.value ∷ []) }
-{
-    let Ok(mut passes) = Vec::with_capacity(alloc, 2) else {
-        return None;
-    };
-    passes.push_reserved(Box::into_inner(first));
-    passes.push_reserved(Box::into_inner(second));
-    Some(List::of(passes))
-}
-
 // What is left of the heap. `None` where a thread runs or has a request, or memory is wanting.
-fn try_close(
-    alloc: Global,
-    heap: Box<Heap>,
-    first: Box<Pass>,
-    second: Box<Pass>,
-) -> Option<Box<Closed>>
-    requires { Rests heap.value first.value × Rests heap.value second.value }
+fn try_close(alloc: Global, heap: Heap, first: Pass, second: Pass) -> Option<Closed>
+    requires { Rests heap first × Rests heap second }
 {
     if may_close(&heap, &first, &second) {
-        let passes = both(alloc, first, second)?;
-        return boxed(alloc, close(Box::into_inner(heap), passes)).ok();
+        let Ok(mut passes) = Vec::with_capacity(alloc, 2) else {
+            return None;
+        };
+        passes.push_reserved(first);
+        passes.push_reserved(second);
+        return Some(close(heap, List::of(passes)));
     }
     None
 }
 
+// The same of what a test has, in a box again.
+fn close_lab(alloc: Global, lab: Lab) -> Option<Box<Closed>> {
+    let (heap, first, second) = lab.apart();
+    let heap = Box::into_inner(heap);
+    let first = Box::into_inner(first);
+    let second = Box::into_inner(second);
+    Box::new(alloc, try_close(alloc, heap, first, second)?).ok()
+}
+
 /// What is left of the heap. Fails the test where a thread runs or has a request, or memory is wanting.
-pub fn closed<R: Abort + AllocGlobal>(rt: &R, lab: Box<Lab>) -> Box<Closed> {
-    let (heap, first, second) = Box::into_inner(lab).apart();
-    let Some(closed) = try_close(rt.alloc(), heap, first, second) else {
+pub fn closed<R: Abort + AllocGlobal>(rt: &R, lab: Lab) -> Box<Closed> {
+    let Some(closed) = close_lab(rt.alloc(), lab) else {
         panic!(rt; "both are stopped")
     };
     closed
@@ -110,13 +104,6 @@ pub fn count(closed: &Closed, class: u32) -> Option<u64> {
     } else {
         None
     }
-}
-
-/// The first thread has three records of one object: the header, and twice that it has the object already.
-pub fn has_three_records(rt: &impl Abort, closed: &Closed) {
-    same(rt, displaced(closed, 0, 0), Some(1));
-    same(rt, displaced(closed, 0, 1), Some(0));
-    same(rt, displaced(closed, 0, 2), Some(0));
 }
 
 pub fn displaced(closed: &Closed, thread: u32, place: u32) -> Option<u64> {

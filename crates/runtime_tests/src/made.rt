@@ -4,12 +4,20 @@ use crate::lab::Thread::{First, Second};
 use crate::lab::{Lab, Thread};
 use crate::last::{class, closed, displaced, mark, monitor};
 use core_world::{PendingCause, Progress, TooMany, Unguarded};
-use heap_table::Closed;
-use plain_monitor::{Entry, Path, Value};
+use plain_monitor::{Entry, Logged, Path, Value};
 use std::process::Abort;
+use std::test::Fail;
 
-fn new(object: u32) -> Entry {
-    Entry::New { object, class: 0 }
+// What the log's last entry is.
+fn last(log: &[Logged]) -> Option<Entry> {
+    match log.last() {
+        Some(logged) => Some(logged.entry),
+        None => None,
+    }
+}
+
+fn new(object: u32) -> Option<Entry> {
+    Some(Entry::New { object, class: 0 })
 }
 
 // What a call to make an object answers that made this one.
@@ -17,34 +25,29 @@ fn made(object: u32) -> Option<Result<u32, TooMany>> {
     Some(Ok(object))
 }
 
-// The thread makes this object, and logs it.
-fn makes(rt: &impl Abort, lab: &mut Lab, thread: Thread, object: u32) {
-    same(rt, lab.create(thread, 0), made(object));
-    lab.has_last(rt, thread, new(object));
-}
-
-// Each makes its objects in turn, while it runs, and none of an unknown class.
-fn make_in_turn(rt: &impl Abort, lab: &mut Lab) {
-    lab.both_resume(rt);
-    makes(rt, lab, First, 1);
-    makes(rt, lab, Second, 1025);
-    makes(rt, lab, First, 2);
-    same(rt, lab.create(First, 1), None);
-    lab.stops(rt, First);
-    same(rt, lab.create(First, 0), None);
+#[test]
+fn each_thread_makes_its_objects_in_turn(rt: HostRuntime) -> Result<(), Fail> {
+    let mut lab = Lab::begin_to_make(rt.alloc(), true)?;
+    lab.resumes(&rt, First);
+    lab.resumes(&rt, Second);
+    same(&rt, lab.create(First, 0), made(1));
+    same(&rt, last(lab.pass(First).log()), new(1));
+    same(&rt, lab.create(Second, 0), made(1025));
+    same(&rt, last(lab.pass(Second).log()), new(1025));
+    same(&rt, lab.create(First, 0), made(2));
+    same(&rt, last(lab.pass(First).log()), new(2));
+    same(&rt, lab.create(First, 1), None);
+    lab.stops(&rt, First);
+    same(&rt, lab.create(First, 0), None);
+    Ok(())
 }
 
 #[test]
-fn each_thread_makes_its_objects_in_turn(rt: HostRuntime) {
-    let mut lab = Lab::begin_to_make(&rt, true);
-    make_in_turn(&rt, &mut lab);
-}
-
-#[test]
-fn no_object_is_made_on_a_heap_without_their_numbers(rt: HostRuntime) {
-    let mut lab = Lab::begin(&rt, true);
+fn no_object_is_made_on_a_heap_without_their_numbers(rt: HostRuntime) -> Result<(), Fail> {
+    let mut lab = Lab::begin(rt.alloc(), true)?;
     lab.resumes(&rt, First);
     same(&rt, lab.create(First, 0), None);
+    Ok(())
 }
 
 // The first thread makes two objects, enters and leaves the first one, by this path, and both are stopped.
@@ -58,30 +61,27 @@ fn visit_the_first(rt: &impl Abort, lab: &mut Lab, path: Path) {
 }
 
 #[test]
-fn a_made_object_is_entered_by_a_record(rt: HostRuntime) {
-    let mut lab = Lab::begin_to_make(&rt, false);
+fn a_made_object_is_entered_by_a_record(rt: HostRuntime) -> Result<(), Fail> {
+    let mut lab = Lab::begin_to_make(rt.alloc(), false)?;
     visit_the_first(&rt, &mut lab, Path::StackFirst);
     let closed = closed(&rt, lab);
     same(&rt, class(&closed, 1), Some(1));
     same(&rt, mark(&closed, 1), Some(1));
     same(&rt, mark(&closed, 2), Some(1));
-}
-
-// Two objects are made, and the first one has the bias of the first thread.
-fn shows_two_made(rt: &impl Abort, closed: &Closed) {
-    same(rt, class(closed, 1), Some(1));
-    same(rt, mark(closed, 1), Some(1029));
-    same(rt, mark(closed, 2), Some(5));
-    same(rt, class(closed, 3), Some(0));
-    same(rt, mark(closed, 3), Some(1));
+    Ok(())
 }
 
 #[test]
-fn a_made_object_takes_a_bias(rt: HostRuntime) {
-    let mut lab = Lab::begin_to_make(&rt, true);
+fn a_made_object_takes_a_bias(rt: HostRuntime) -> Result<(), Fail> {
+    let mut lab = Lab::begin_to_make(rt.alloc(), true)?;
     visit_the_first(&rt, &mut lab, Path::BiasTaken);
     let closed = closed(&rt, lab);
-    shows_two_made(&rt, &closed);
+    same(&rt, class(&closed, 1), Some(1));
+    same(&rt, mark(&closed, 1), Some(1029));
+    same(&rt, mark(&closed, 2), Some(5));
+    same(&rt, class(&closed, 3), Some(0));
+    same(&rt, mark(&closed, 3), Some(1));
+    Ok(())
 }
 
 // The first thread makes an object, puts it into the slot of the declared one, which it enters by this path, and stops.
@@ -125,28 +125,32 @@ fn revoke_a_made_object(rt: &impl Abort, lab: &mut Lab) {
 }
 
 #[test]
-fn a_held_made_object_stands_in_a_record_after_its_bias(rt: HostRuntime) {
-    let mut lab = Lab::begin_to_make(&rt, true);
+fn a_held_made_object_stands_in_a_record_after_its_bias(rt: HostRuntime) -> Result<(), Fail> {
+    let mut lab = Lab::begin_to_make(rt.alloc(), true)?;
     revoke_a_made_object(&rt, &mut lab);
     let closed = closed(&rt, lab);
     same(&rt, mark(&closed, 1), Some(10));
     same(&rt, monitor(&closed, 0), Some([1, 4096, 0, 1]));
     same(&rt, displaced(&closed, 0, 0), Some(1));
-}
-
-// A free object is entered by this path.
-fn exchange(rt: &impl Abort, lab: &mut Lab, path: Path) {
-    hand_over(rt, lab, path);
-    take_over(rt, lab);
-    hash_inside(rt, lab, path);
-    lab.resumes(rt, First);
-    same(rt, lab.hash(First, 1, 1), Some(Progress::Done(273331126)));
+    Ok(())
 }
 
 #[test]
-fn a_made_object_is_handed_over(rt: HostRuntime) {
-    exchange(&rt, &mut Lab::begin_to_make(&rt, false), Path::StackFirst);
-    exchange(&rt, &mut Lab::begin_to_make(&rt, true), Path::BiasTaken);
+fn a_made_object_is_handed_over(rt: HostRuntime) -> Result<(), Fail> {
+    for biasing in [false, true] {
+        let first = if biasing {
+            Path::BiasTaken
+        } else {
+            Path::StackFirst
+        };
+        let mut lab = Lab::begin_to_make(rt.alloc(), biasing)?;
+        hand_over(&rt, &mut lab, first);
+        take_over(&rt, &mut lab);
+        hash_inside(&rt, &mut lab, first);
+        lab.resumes(&rt, First);
+        same(&rt, lab.hash(First, 1, 1), Some(Progress::Done(273331126)));
+    }
+    Ok(())
 }
 
 // Whether the thread made as many objects as a thread may.
@@ -159,18 +163,15 @@ fn make_all(lab: &mut Lab, thread: Thread) -> bool {
     true
 }
 
-// The first thread makes 1024 objects and no other, and the second makes its first one.
-fn make_as_many_as_may_be(rt: &impl Abort, lab: &mut Lab) {
-    lab.both_resume(rt);
-    holds(rt, make_all(lab, First));
-    lab.has_last(rt, First, new(1024));
-    same(rt, lab.create(First, 0), Some(Err(TooMany)));
-    same(rt, lab.pass(First).log().len(), 1024);
-    same(rt, lab.create(Second, 0), made(1025));
-}
-
 #[test]
-fn no_thread_makes_1025_objects(rt: HostRuntime) {
-    let mut lab = Lab::begin_to_make(&rt, true);
-    make_as_many_as_may_be(&rt, &mut lab);
+fn no_thread_makes_1025_objects(rt: HostRuntime) -> Result<(), Fail> {
+    let mut lab = Lab::begin_to_make(rt.alloc(), true)?;
+    lab.resumes(&rt, First);
+    lab.resumes(&rt, Second);
+    holds(&rt, make_all(&mut lab, First));
+    same(&rt, last(lab.pass(First).log()), new(1024));
+    same(&rt, lab.create(First, 0), Some(Err(TooMany)));
+    same(&rt, lab.pass(First).log().len(), 1024);
+    same(&rt, lab.create(Second, 0), made(1025));
+    Ok(())
 }

@@ -1,13 +1,12 @@
 //! Two threads that enter and leave one object beside each other.
 ghost use Rattle.heap_table.specs.Resting.{Rests};
 
-use crate::calls::{LEFT, enter, exit, poll, resume, stop};
+use crate::calls::{LEFT, begin, enter, exit, poll, resume, stop};
 use crate::compare::{holds, same};
-use crate::lab::Lab;
 use core_world::Progress;
 use heap_table::{Heap, Pass};
 use plain_monitor::{Entry, Logged};
-use std::process::Abort;
+use std::test::Fail;
 use std::thread::{Threads, join};
 
 // How often each thread enters, and how many calls it may make for that.
@@ -57,31 +56,28 @@ fn work(heap: &Heap, pass: &mut Pass)
     stop(heap, pass);
 }
 
-// The pass after its work.
-fn worked(heap: &Heap, pass: Box<Pass>) -> Box<Pass>
-    requires { Rests heap.now pass.value }
-{
-    let mut pass = pass;
-    work(heap, &mut pass);
-    pass
-}
-
-fn work_both<R: Threads>(
-    rt: &R,
-    heap: &Heap,
-    first: Box<Pass>,
-    second: Box<Pass>,
-) -> (Box<Pass>, Box<Pass>)
-    requires { Rests heap.now first.value × Rests heap.now second.value }
+fn work_both<R: Threads>(rt: &R, heap: &Heap, first: Pass, second: Pass) -> (Pass, Pass)
+    requires { Rests heap.now first × Rests heap.now second }
+    ensures { Rests heap.now result.0 × Rests heap.now result.1 }
 {
     join(
         rt,
-        move || -> Box<Pass>
-            requires { Rests heap.now first.value }
-        { worked(heap, first) },
-        move || -> Box<Pass>
-            requires { Rests heap.now second.value }
-        { worked(heap, second) },
+        move || -> Pass
+            requires { Rests heap.now first }
+            ensures { Rests heap.entry.now result }
+        {
+            let mut pass = first;
+            work(heap, &mut pass);
+            pass
+        },
+        move || -> Pass
+            requires { Rests heap.now second }
+            ensures { Rests heap.entry.now result }
+        {
+            let mut pass = second;
+            work(heap, &mut pass);
+            pass
+        },
     )
 }
 
@@ -132,23 +128,15 @@ fn exclude(first: &[Logged], second: &[Logged]) -> bool {
     owner.is_none()
 }
 
-// Both are stopped, have logged all that they entered and left, and were never inside at once.
-fn have_excluded(rt: &impl Abort, first: &Pass, second: &Pass) {
-    holds(rt, !first.running() && !second.running());
-    same(rt, first.log().len(), 1800);
-    same(rt, second.log().len(), 1800);
-    holds(rt, exclude(first.log(), second.log()));
-}
-
-// Two workers on this heap exclude each other.
-fn exclude_each_other<R: Abort + Threads>(rt: &R, lab: Box<Lab>) {
-    let (heap, first, second) = Box::into_inner(lab).apart();
-    let (first, second) = work_both(rt, &heap, first, second);
-    have_excluded(rt, &first, &second);
-}
-
 #[test]
-fn two_workers_exclude_each_other(rt: HostRuntime) {
-    exclude_each_other(&rt, Lab::begin(&rt, false));
-    exclude_each_other(&rt, Lab::begin(&rt, true));
+fn two_workers_exclude_each_other(rt: HostRuntime) -> Result<(), Fail> {
+    for biasing in [false, true] {
+        let (heap, first, second) = begin(rt.alloc(), biasing)?;
+        let (first, second) = work_both(&rt, &heap, first, second);
+        holds(&rt, !first.running() && !second.running());
+        same(&rt, first.log().len(), 1800);
+        same(&rt, second.log().len(), 1800);
+        holds(&rt, exclude(first.log(), second.log()));
+    }
+    Ok(())
 }

@@ -1,5 +1,0 @@
-use Rattle.heap_table.proofs.Resting.{fresh_rests, if_ok}
-use Rattle.runtime_tests.proofs.calls.open.Goals as goal
-
-pub returns : goal.returns
-returns c = if_ok c.passes.result (λ r h. (fresh_rests r.0 0 r.1 h.0, fresh_rests r.0 1 r.2 h.1)) c.passes.ensures
