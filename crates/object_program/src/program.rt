@@ -42,7 +42,7 @@ pub struct ThreadDef {
 /// An instruction. `x`, `y`, `z`, `i` and `o` are numbers of locals, `n` of a declaration of objects, `c` of a class and `k` of a slot, all from 0;
 /// `v` is a number from -2^61 to 2^61 - 1; and `l` is the number of the target instruction, from 1, which a label of the thread
 /// names.
-#[derive(Clone, Copy, Debug, PartialEq, Eq)]
+#[derive(Clone, Copy, PartialEq, Eq)]
 pub enum Code {
     /// x becomes the number v.
     Set { x: u32, v: i64 },
