@@ -3,3 +3,4 @@ mod StandLoop
 mod Later
 mod Parting
 mod Cells
+mod Unlocked
