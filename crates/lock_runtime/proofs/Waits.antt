@@ -1,22 +1,26 @@
 -- A thread that lets go logs one entry. By which marks no notify comes to an end, and what whole waits and notifies begin with.
-use Rattle.std.proofs.Common.{◌≡◌, ℕ, ◌+◌, List, [], ◌∷◌, Some, length, length-append, refl, ap, ◌∙◌}
+use Rattle.std.proofs.Common.{◌≡◌, ℕ, ◌+◌, List, [], ◌∷◌, Option, Some, length, length-append, refl, sym, ap, ◌∙◌}
 use Rattle.mark_word.specs.declared.mark.MarkForm.{MarkForm}
 use Rattle.mark_word.specs.declared.mark.MarkForm.TheVariants.{Inflating, Locked, Inflated}
+use Rattle.mark_word.specs.Mark.{read_mark}
 use Rattle.plain_monitor.specs.declared.entry.Entry.TheVariants as entry
 use Rattle.plain_monitor.specs.declared.entry.Logged.{Logged}
-use Rattle.core_world.specs.Threads.ThreadView.{Local, Start}
+use Rattle.core_world.specs.declared.word_id.WordId.TheVariants.{Mark}
+use Rattle.core_world.specs.Threads.ThreadView.{Local, Start, local_of}
 use Rattle.core_world.specs.Trees.Operations.{no_bias, wait_going, wait_beginning, notify_at, notify_going, notify_all_at, notify_all_going}
-use Rattle.core_world.specs.Trees.Plans.{CallContext}
-use Rattle.core_world.specs.Trees.StepTree.{unreachable}
+use Rattle.core_world.specs.Trees.Plans.{CallContext, load}
+use Rattle.core_world.specs.Trees.StepTree.{StepTree, unreachable, ask, ◌>>=◌}
 use Rattle.core_world.specs.Trees.WaitSteps.{monitor_wait_steps, monitor_resume_steps}
 use Rattle.core_world.specs.Words.Forms.{waits_on}
 use Rattle.core_world.specs.Words.Shape.{Shape}
 use Rattle.core_calls.specs.Paths.{Says}
 use Rattle.core_calls.proofs.Runs.{tells, did, did_one}
 use Rattle.core_calls.proofs.wait.WaitsSay.{LetGo, monitor_wait_says}
-use Rattle.heap_table.specs.Parts.{HasMadeSteps}
-use Rattle.heap_table.specs.Seen.{HeapSeen, PassSeen}
+use Rattle.heap_table.specs.Parts.{IsDueOn, HasMadeSteps}
+use Rattle.heap_table.specs.Seen.{HeapSeen, PassSeen, IsOf}
+use Rattle.heap_table.specs.Stepping.{HasStepped}
 use Rattle.heap_table.proofs.Resting.{IsCallOf}
+use Rattle.heap_table.proofs.StepsLeft.{AreLeft, all_left, step_made, left_as, alike_after}
 use Rattle.lock_runtime.specs.inner.WaitParts.{inflated_wait, marked_notify, marked_notify_all}
 use Rattle.lock_runtime.proofs.After.{arm_first}
 use Rattle.lock_runtime.proofs.Unbiased.{first_after}
@@ -45,6 +49,14 @@ never_all_notified Inflating s e k o inflating locked inflated = absurd (inflati
 never_all_notified (Locked t p) s e k o inflating locked inflated = absurd (locked t p refl)
 never_all_notified (Inflated m) s e k o inflating locked inflated = absurd (inflated m refl)
 never_all_notified _ s e k o inflating locked inflated = refl
+
+-- what is left once the mark is loaded, by its form
+pub by_mark : {A : Type 0} {h : HeapSeen} {p q : PassSeen} {mark : ℕ} (e : CallContext) (o : ℕ) (by : Option MarkForm → Local → StepTree A)
+    → IsOf h p → IsDueOn h p e.task (ask (load e (Mark o)) >>= (λ m. by (read_mark m) (local_of p.known))) → HasStepped h p q (load e (Mark o)) mark
+    → (f : Option MarkForm) → read_mark mark ≡ f
+    → AreLeft h e.task p (ask (load e (Mark o)) >>= (λ m. by (read_mark m) (local_of p.known))) q (by f (local_of q.known))
+by_mark e o by heap due did f form =
+    let local = (alike_after did refl refl refl).local in left_as (step_made (all_left heap due) refl refl refl did) (λ i. by (form i) (sym local i))
 
 -- WHOLE CALLS
 pub first_to_wait : (s : Shape) (e : CallContext) (k : Start) (o now : ℕ) → IsCallOf e.task (wait_going s e k o now)
