@@ -5,7 +5,7 @@ use Rattle.core_world.specs.Trees.SafepointSteps.{safepoint_steps}
 use Rattle.lock_runtime.specs.inner.LookParts.{reached_dump}
 use Rattle.lock_runtime.proofs.Asides.{safepoint_aside}
 use Rattle.lock_runtime.proofs.Dumped.{bare, bare_run, dumped_of, run_of}
-use Rattle.lock_runtime.proofs.PartMade.{PartMade, first_due, next_due, next_made, last_made, alike_after}
+use Rattle.lock_runtime.proofs.PartMade.{PartMade, first_due, next_due, next_made, last_made, alike_after, room_after}
 use Rattle.lock_runtime.proofs.Reached.{dump_is_reached}
 use Rattle.lock_runtime.proofs.Revoked.{first_safepoint}
 use Rattle.lock_runtime.proofs.looking.dump_asking.Goals as goal
@@ -47,6 +47,10 @@ dump_reached-requires-clause-reached c =
 pub dump_reached-requires-clause-due : goal.dump_reached-requires-clause-due
 dump_reached-requires-clause-due c =
     let z = (goal.at.dump_reached-requires-clause-due c).After-safepoint in next_due (asked z) c.in-Done.is (reached z)
+
+pub dump_reached-requires-clause-room : goal.dump_reached-requires-clause-room
+dump_reached-requires-clause-room c =
+    let z = (goal.at.dump_reached-requires-clause-room c).After-safepoint in room_after (asked z) (same z) c.requires.room
 
 pub returns-in-Done : goal.returns-in-Done
 returns-in-Done c =

@@ -5,8 +5,8 @@ use Rattle.core_world.specs.Trees.Plans.{done_with}
 use Rattle.core_world.specs.Trees.SafepointSteps.{release_safepoint, reached_word}
 use Rattle.core_world.specs.Trees.StepTree.{done, unreachable, ◌>>=◌}
 use Rattle.core_world.specs.Trees.WaitSteps.{publish_steps}
-use Rattle.heap_table.proofs.Aside.{either_aside}
-use Rattle.lock_runtime.proofs.PartMade.{PartMade, first_due, next_due, next_made, then_ends, alike_after}
+use Rattle.heap_table.proofs.Aside.{StartsAlike, either_aside}
+use Rattle.lock_runtime.proofs.PartMade.{PartMade, first_due, next_due, next_made, then_ends, alike_after, room_after}
 use Rattle.lock_runtime.proofs.looking.tell_dump.Goals as goal
 use Rattle.lock_runtime.proofs.looking.tell_dump.Goals.{After-release}
 
@@ -21,19 +21,26 @@ released : (c : After-release) → let a = c.args in let e = a.context.now in le
     (λ _. publish_steps (entry.Dump a.number) e l >>= (λ _. done_with a.number)) tt
 released c = record { due = c.requires.due; first = refl; made = c.release.ensures }
 
--- and the dump is told from what the thread knew before
+-- and left the thread's log and own words,
+alike : (c : After-release) → StartsAlike c.args.pass.now.known c.release.new.pass.known
+alike c =
+    let ends = λ (n : ℕ). either_aside (n == reached_word c.args.pass.now.known.thread) (done (tt {0})) unreachable tt tt in
+    alike_after (released c) (record { quiet = refl; words = refl; keeps = refl }, ends)
+
+-- so the dump is told from what the thread knew before
 telling : (c : After-release) → let a = c.args in let e = a.context.now in
     (publish_steps (entry.Dump a.number) e (local_of a.pass.now.known) >>= (λ _. done_with a.number))
     ≡ (publish_steps (entry.Dump a.number) e (local_of c.release.new.pass.known) >>= (λ _. done_with a.number))
 telling c =
-    let a = c.args in
-    let ends = λ (n : ℕ). either_aside (n == reached_word a.pass.now.known.thread) (done (tt {0})) unreachable tt tt in
-    let alike = alike_after (released c) (record { quiet = refl; words = refl; keeps = refl }, ends) in
-    ap (λ (l : Local). publish_steps (entry.Dump a.number) a.context.now l >>= (λ _. done_with a.number)) (sym alike.local)
+    let a = c.args in ap (λ (l : Local). publish_steps (entry.Dump a.number) a.context.now l >>= (λ _. done_with a.number)) (sym (alike c).local)
 
 pub publish-requires-clause-due : goal.publish-requires-clause-due
 publish-requires-clause-due c =
     let z = (goal.at.publish-requires-clause-due c).After-release in first_due (λ _. done_with c.args.number) (next_due (released z) refl (telling z))
+
+pub publish-requires-clause-room : goal.publish-requires-clause-room
+publish-requires-clause-room c =
+    let z = (goal.at.publish-requires-clause-room c).After-release in room_after (released z) (alike z).local c.requires.room
 
 pub returns : goal.returns
 returns c =
