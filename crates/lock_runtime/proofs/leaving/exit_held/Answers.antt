@@ -8,12 +8,20 @@ use Rattle.core_world.specs.Trees.Plans.{call_context}
 use Rattle.core_calls.proofs.enter_exit.EntersSay.{exit_says}
 use Rattle.core_calls.proofs.Runs.{tells}
 use Rattle.heap_table.specs.Resting.{start_now}
+use Rattle.lock_runtime.proofs.Begins.{object_there, room_one}
 use Rattle.lock_runtime.proofs.Goes.{GoesIfHeld, goes_due, goes_made, goes_rests}
 use Rattle.lock_runtime.proofs.LeftNothing.{first_to_exit}
 use Rattle.lock_runtime.proofs.Refused.{some_by_log, goes_by_log}
 use Rattle.lock_runtime.proofs.StandsCalls.{exit_leaves}
 use Rattle.lock_runtime.proofs.leaving.exit_held.Goals as goal
 use Rattle.lock_runtime.proofs.leaving.exit_held.Goals.{After-unfinished-context}
+
+pub leave_held-requires-clause-object : goal.leave_held-requires-clause-object
+leave_held-requires-clause-object c =
+    object_there c.args.heap.now.heap.shape c.args.pass.now.known c.args.object _ c.requires.may.call.may
+
+pub leave_held-requires-clause-room : goal.leave_held-requires-clause-room
+leave_held-requires-clause-room c = room_one c.args.heap.now c.args.pass.now (Exit c.args.object) c.requires.may
 
 pub leave_held-requires-clause-held : goal.leave_held-requires-clause-held
 leave_held-requires-clause-held c = some_by_log c.args.heap.now c.args.pass.now c.requires.may.call.rests c.args.object c.requires.held

@@ -7,16 +7,26 @@ use Rattle.core_world.specs.Trees.Plans.{call_context}
 use Rattle.core_calls.proofs.Runs.{tells}
 use Rattle.core_calls.proofs.wait.WaitCallsSay.{notify_all_says}
 use Rattle.core_calls.specs.Woken.{WakesEach}
+use Rattle.heap_table.specs.Parts.{HasMadeSteps}
 use Rattle.heap_table.specs.Resting.{start_now}
+use Rattle.lock_runtime.proofs.Begins.{object_there, room_one}
 use Rattle.lock_runtime.proofs.Goes.{GoesIfHeld, goes_due, goes_made, goes_rests}
 use Rattle.lock_runtime.proofs.LockedPaths.{notify_all_paths}
 use Rattle.lock_runtime.proofs.Looked.{run_thread}
 use Rattle.lock_runtime.proofs.OwnLocks.{notify_all_goes, owner_tells}
-use Rattle.lock_runtime.proofs.Refused.{differs, tells_nothing, unheld, held}
+use Rattle.lock_runtime.proofs.Refused.{differs, refused, tells_nothing, unheld, held}
 use Rattle.lock_runtime.proofs.StandsCalls.{notify_all_leaves}
 use Rattle.lock_runtime.proofs.Waits.{first_to_notify_all}
 use Rattle.lock_runtime.proofs.waiting.notify_all.Goals as goal
 use Rattle.lock_runtime.proofs.waiting.notify_all.Goals.{After-unfinished-context}
+
+pub returns-then-held-eq0-clause-run : goal.returns-then-held-eq0-clause-run
+returns-then-held-eq0-clause-run c = refused c.args.object _ c.requires.call.rests.is_of (sym c.held.ensures.held ∙ c.if-held-eq0.true)
+
+pub returns-then-held-eq0-clause-says : goal.returns-then-held-eq0-clause-says
+returns-then-held-eq0-clause-says c =
+    let a = c.args in
+    tells (notify_all_says a.heap.now.heap.shape (start_now a.heap.now a.pass.now) a.object a.now) (HasMadeSteps.ran (returns-then-held-eq0-clause-run c))
 
 pub returns-then-held-eq0-clause-owner : goal.returns-then-held-eq0-clause-owner
 returns-then-held-eq0-clause-owner c =
@@ -39,6 +49,12 @@ goes c = record {
 
 pub notify_all_held-requires-clause-due : goal.notify_all_held-requires-clause-due
 notify_all_held-requires-clause-due c = goes_due (goes (goal.at.notify_all_held-requires-clause-due c).After-unfinished-context)
+
+pub notify_all_held-requires-clause-object : goal.notify_all_held-requires-clause-object
+notify_all_held-requires-clause-object c = object_there c.args.heap.now.heap.shape c.args.pass.now.known c.args.object _ c.requires.call.may
+
+pub notify_all_held-requires-clause-room : goal.notify_all_held-requires-clause-room
+notify_all_held-requires-clause-room c = room_one c.args.heap.now c.args.pass.now (NotifyAll c.args.object c.args.now) c.requires
 
 pub returns : goal.returns
 returns c =

@@ -6,14 +6,23 @@ use Rattle.core_world.specs.Trees.Operations.{wait_going}
 use Rattle.core_world.specs.Trees.Plans.{call_context}
 use Rattle.core_calls.proofs.Runs.{tells}
 use Rattle.core_calls.proofs.wait.WaitCallsSay.{wait_says}
+use Rattle.heap_table.specs.Parts.{HasMadeSteps}
 use Rattle.heap_table.specs.Resting.{start_now}
-use Rattle.lock_runtime.proofs.Begins.{first_of}
+use Rattle.lock_runtime.proofs.Begins.{first_of, object_there}
 use Rattle.lock_runtime.proofs.Goes.{GoesIfHeld, goes_due, goes_made, goes_rests}
-use Rattle.lock_runtime.proofs.Refused.{differs, unheld, held}
+use Rattle.lock_runtime.proofs.Refused.{differs, refused, unheld, held}
 use Rattle.lock_runtime.proofs.StandsCalls.{wait_leaves}
 use Rattle.lock_runtime.proofs.Waits.{first_to_wait}
 use Rattle.lock_runtime.proofs.waiting.wait.Goals as goal
 use Rattle.lock_runtime.proofs.waiting.wait.Goals.{After-unfinished-context}
+
+pub returns-then-held-eq0-clause-run : goal.returns-then-held-eq0-clause-run
+returns-then-held-eq0-clause-run c = refused c.args.object _ c.requires.call.rests.is_of (sym c.held.ensures.held ∙ c.if-held-eq0.true)
+
+pub returns-then-held-eq0-clause-says : goal.returns-then-held-eq0-clause-says
+returns-then-held-eq0-clause-says c =
+    let a = c.args in
+    tells (wait_says a.heap.now.heap.shape (start_now a.heap.now a.pass.now) a.object a.now) (HasMadeSteps.ran (returns-then-held-eq0-clause-run c))
 
 pub returns-then-held-eq0-clause-owner : goal.returns-then-held-eq0-clause-owner
 returns-then-held-eq0-clause-owner c =
@@ -33,6 +42,9 @@ goes c = record {
 
 pub wait_held-requires-clause-due : goal.wait_held-requires-clause-due
 wait_held-requires-clause-due c = goes_due (goes (goal.at.wait_held-requires-clause-due c).After-unfinished-context)
+
+pub wait_held-requires-clause-object : goal.wait_held-requires-clause-object
+wait_held-requires-clause-object c = object_there c.args.heap.now.heap.shape c.args.pass.now.known c.args.object _ (first_of _ _ c.requires.call.may)
 
 pub returns : goal.returns
 returns c =
