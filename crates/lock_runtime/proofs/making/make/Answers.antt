@@ -1,10 +1,10 @@
-use Rattle.std.proofs.Common.{◌+◌, refl}
+use Rattle.std.proofs.Common.{◌≡◌, ℕ, ◌+◌, refl, arith}
 use Rattle.plain_monitor.specs.declared.entry.Entry.TheVariants.{New}
 use Rattle.core_world.specs.declared.word_id.WordId.TheVariants.{Prototype, Mark, Class}
 use Rattle.core_world.specs.declared.stage.Stage.TheVariants.{Settled}
 use Rattle.core_world.specs.declared.heap_call.HeapCall.TheVariants.{Create}
-use Rattle.core_world.specs.Trees.CreateSteps.{make_plan, creating, make_steps}
-use Rattle.core_world.specs.Trees.Plans.{load}
+use Rattle.core_world.specs.Trees.CreateSteps.{class_plan, make_plan, creating, make_steps}
+use Rattle.core_world.specs.Trees.Plans.{CallContext, load}
 use Rattle.core_world.specs.Trees.StepTree.{done, ◌>>=◌, ask}
 use Rattle.heap_table.specs.StepPlans.{store_plan, log_store_plan}
 use Rattle.heap_table.proofs.StepsLeft.{AreLeft, all_left, can_make, step_made, all_made, room_after}
@@ -14,20 +14,24 @@ use Rattle.lock_runtime.proofs.making.make.Goals.{After-store}
 pub load-prototype-requires : goal.load-prototype-requires
 load-prototype-requires c = can_make (all_left c.requires.heap c.requires.due) (λ i. load (c.alone.ensures i) (Prototype c.args.class)) refl refl tt
 
+-- the store of the class word, as the code says it
+storing : {e w : CallContext} {word : ℕ} (o class : ℕ) → w ≡ e → word ≡ class + 1 → store_plan w Settled (Class o) word ≡ class_plan e o class
+storing o class same is = λ i. store_plan (same i) Settled (Class o) (is i)
+
 pub store-requires : goal.store-requires
 store-requires c =
     can_make
     (step_made (all_left c.requires.heap c.requires.due) (λ i. load (c.alone.ensures i) (Prototype c.args.class)) refl refl c.load-prototype.ensures)
-    (λ i. store_plan (c.unfinished-context.ensures i) Settled (Class c.args.object) (c.from-word.ensures i + 1)) refl refl tt
+    (storing c.args.object c.args.class c.unfinished-context.ensures (omega arith)) refl refl tt
 
--- the first mark is left
+-- after it the first mark is left
 stored : (c : After-store) → let a = c.args in
     AreLeft a.heap.now (Create a.class) a.pass.now (make_steps a.object a.class) c.store.new.pass
     (ask (make_plan (creating a.object a.class) a.object a.class c.load-prototype.result) >>= (λ _. done a.object))
 stored c =
     step_made
     (step_made (all_left c.requires.heap c.requires.due) (λ i. load (c.alone.ensures i) (Prototype c.args.class)) refl refl c.load-prototype.ensures)
-    (λ i. store_plan (c.unfinished-context.ensures i) Settled (Class c.args.object) (c.from-word.ensures i + 1)) refl refl c.store.ensures
+    (storing c.args.object c.args.class c.unfinished-context.ensures (omega arith)) refl refl c.store.ensures
 
 -- the steps before log nothing
 pub log_store-requires : goal.log_store-requires
