@@ -30,6 +30,10 @@ pub unreachable-requires : goal.unreachable-requires
 unreachable-requires c = never (by_form (goal.at.unreachable-requires c).After-load-word _ (sym c.wait_of_word.ensures ∙ c.in-Some.is))
     (never_resumed c.in-Some.form _ _ _ _ _ c.in_default.not-Waiting c.in_default.not-Notified)
 
+pub unreachable-requires-in-None : goal.unreachable-requires-in-None
+unreachable-requires-in-None c =
+    never (by_form (goal.at.unreachable-requires-in-None c).After-load-word _ (sym c.wait_of_word.ensures ∙ c.in-None.is)) refl
+
 pub returns-in-Waiting : goal.returns-in-Waiting
 returns-in-Waiting c =
     all_made (by_form (goal.at.returns-in-Waiting c).After-load-word _ (sym c.wait_of_word.ensures ∙ c.in-Some.is ∙ ap Some c.in-Waiting.is))

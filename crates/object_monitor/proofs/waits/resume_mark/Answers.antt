@@ -27,3 +27,11 @@ resume_owner-requires-clause-due c =
 pub unreachable-requires : goal.unreachable-requires
 unreachable-requires c = never (by_form (goal.at.unreachable-requires c).After-load-mark _ (sym c.mark_of_word.ensures ∙ c.in-Some.is))
     (never_marked c.in-Some.form _ _ _ _ c.in_default.not-Inflated)
+
+pub unreachable-requires-in-None : goal.unreachable-requires-in-None
+unreachable-requires-in-None c =
+    never (by_form (goal.at.unreachable-requires-in-None c).After-load-mark _ (sym c.mark_of_word.ensures ∙ c.in-None.is)) refl
+
+pub returns : goal.returns
+returns c =
+    (by_form (goal.at.returns c).After-load-mark _ (sym c.mark_of_word.ensures ∙ c.in-Some.is ∙ ap Some c.in-Inflated.is)).whole _ _ c.resume_owner.ensures
