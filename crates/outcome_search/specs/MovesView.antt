@@ -11,8 +11,8 @@ pub record Ways : Type 0 where
   pub steps : ℕ
 
 abbrev pub ways : Inside → Ways
-ways a = record { program = a.program; fuel = a.fuel; steps = a.steps }
+ways a = record { program = a.scratch.value.program; fuel = a.fuel; steps = a.steps }
 
 pub record HasScratch (a : Inside) : Type 0 where
-  pub scratch : IsScratch a.program a.fuel a.machine
+  pub scratch : IsScratch a.scratch.value.program a.fuel a.scratch.value.machine
   pub some : 1 ≤ a.fuel

@@ -3,6 +3,8 @@
 ghost use Rattle.std.specs.Prelude.{◌≡◌, ◌≢◌, ◌≤◌, ◌↔◌, true, Err, IfOk};
 ghost use Rattle.std.specs.List.{list_any};
 ghost use Rattle.every_outcome.specs.NoHash.{is_hash_code};
+ghost use Rattle.outcome_search.specs.Keys.{IsKey};
+ghost use Rattle.outcome_search.specs.NextWords.{first_key};
 ghost use Rattle.outcome_search.specs.Outcomes.{has_hash, IsCountedBy, IsCounted};
 ghost use Rattle.outcome_search.specs.declared.find.OutcomeError.TheVariants.{Hash};
 
@@ -80,9 +82,23 @@ fn find_with<C: Course>(
         moves,
         of: PhantomData,
     };
-    let found = search(alloc, &mut moves, first, limit)?;
-    let mut moves = moves.moves;
-    let outcomes = count_ends(&mut moves, &found)?;
+    find_by(alloc, &mut moves, first, limit)
+}
+
+/// Finds the ends by these moves, from their first key on.
+fn find_by<C: Course>(
+    alloc: Global,
+    moves: &mut MovesOf<C>,
+    first: Vec<u64>,
+    limit: usize,
+) -> Result<(Outcomes, Found), SearchError>
+    requires first { first.items ≡ first_key C.ways.program C.ways.fuel C.ways.steps }
+    requires key { IsKey C.ways.program C.ways.fuel first.items }
+    requires limit { 1 ≤ limit }
+    ensures { IfOk result (λ r. IsCountedBy C.ways.program C.ways.fuel C.ways.steps limit r.1 r.0) }
+{
+    let found = search(alloc, moves, first, limit)?;
+    let outcomes = count_ends(&mut moves.moves, &found)?;
     Ok((outcomes, found))
 }
 

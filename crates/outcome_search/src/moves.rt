@@ -1,15 +1,14 @@
 //! Where the machines of a program lead, as keys of a search.
 
-ghost use Rattle.std.specs.Prelude.{◌≡◌, ◌<◌, ◌≤◌, length, IfOk, IfSome, option_map};
+ghost use Rattle.std.specs.Prelude.{◌≡◌, ◌<◌, ◌≤◌, length, IfOk, IfSome, OnOk, Some, None, option_map};
 ghost use Rattle.every_outcome.specs.Fuel.{is_spent, refuelled};
 ghost use Rattle.plain_machine.specs.Machine.{new_machine};
-ghost use Rattle.plain_machine.specs.Sound.{IsSound};
 ghost use Rattle.machine_words.specs.MachineWords.{words_of, machine_of};
 ghost use Rattle.machine_words.specs.Untouched.{IsUntouched};
 ghost use Rattle.machine_laws.specs.Reached.{IsReached};
 ghost use Rattle.outcome_search.specs.Settled.{settled};
 ghost use Rattle.outcome_search.specs.Ends.{end_of};
-ghost use Rattle.outcome_search.specs.Keys.{IsFound, IsKept, IsKey};
+ghost use Rattle.outcome_search.specs.Keys.{IsFound, IsKept, IsKey, IsScratch};
 ghost use Rattle.outcome_search.specs.NextWords.{is_any_spent, first_key, next_of, next_key};
 
 use crate::alone::{make_next, settle};
@@ -22,13 +21,21 @@ use state_search::{Moves, SearchError};
 use std::alloc::Global;
 use std::marker::Model;
 
+/// A program, and a machine of it to load others into, where there is one.
+#[derive(Drop)]
+struct Scratch {
+    program: Program,
+    machine: Option<Machine>,
+}
+
 /// The machines of a program, each told by its words, and the entries that lead from each to others, where all threads have the same fuel
 /// again after each entry, and entries that go alone are made at once, so many one after the other.
+///
+/// The program and the machine lie in a box, as the proof of a function lists at each of its steps all words that it holds itself.
 #[derive(Drop)]
 pub struct MachineMoves {
     alloc: Global,
-    program: Program,
-    machine: Option<Machine>,
+    scratch: Box<Scratch>,
     fuel: u32,
     steps: u32,
 }
@@ -136,13 +143,11 @@ impl MachineMoves {
         ensures first { IfOk result (λ r. r.1.items ≡ first_key program.now fuel steps) }
         ensures key { IfOk result (λ r. IsKey program.now fuel r.1.items) }
     {
-        let own = program.try_clone(alloc)?;
-        let machine = first_machine(alloc, program, fuel, steps)?;
-        let words = words_of(alloc, &machine, 0)?;
+        let mut scratch = empty_scratch(alloc, program)?;
+        let words = fill(alloc, &mut scratch, fuel, steps)?;
         let moves = MachineMoves {
             alloc,
-            program: own,
-            machine: Some(machine),
+            scratch,
             fuel,
             steps,
         };
@@ -158,12 +163,7 @@ impl MachineMoves {
         ensures again { IfOk result (λ to. IfSome to (λ v. IsKey self.old.program self.old.fuel v.items)) }
         ensures same { self.new ≡ self.old }
     {
-        let Some(machine) = self.machine.take() else {
-            return Err(SearchError::NoState);
-        };
-        let (machine, to) = lead(self.alloc, machine, key, t, self.fuel, self.steps)?;
-        self.machine = Some(machine);
-        Ok(to)
+        lead(self.alloc, &mut self.scratch, key, t, self.fuel, self.steps)
     }
 
     /// How the machine of a key ends; `None` where it goes on. After an error each later call fails too.
@@ -172,80 +172,149 @@ impl MachineMoves {
         ensures end { IfOk result (λ e. e ≡ end_of (machine_of self.old.program self.old.fuel key.now)) }
         ensures same { self.new ≡ self.old }
     {
-        let Some(machine) = self.machine.take() else {
-            return Err(SearchError::NoState);
-        };
-        let (machine, end) = look_at(machine, key, self.fuel)?;
-        self.machine = Some(machine);
-        Ok(end)
+        look_at(&mut self.scratch, key, self.fuel)
     }
 }
 
-/// Where the program's first machine comes to by entries that go alone.
-fn first_machine(
-    alloc: Global,
-    program: &Program,
-    fuel: u32,
-    steps: u32,
-) -> Result<Machine, NoMemory>
-    requires { 1 ≤ fuel }
-    ensures settled { IfOk result (λ m. m ≡ settled fuel steps (refuelled fuel (new_machine program.now fuel))) }
-    ensures kept { IfOk result (λ m. IsKept program.now fuel m) }
+/// The value in a box.
+pub(crate) fn boxed<T: Drop>(alloc: Global, value: T) -> Result<Box<T>, NoMemory>
+    ensures { IfOk result (λ b. b.value ≡ value) }
 {
-    let mut machine = Machine::new(alloc, program, fuel)?;
-    machine.is_sound();
-    machine.refuel(fuel);
-    settle(&mut machine, fuel, steps);
-    machine.is_sound();
-    Ok(machine)
+    match Box::new(alloc, value) {
+        Ok(boxed) => Ok(boxed),
+        Err(_) => Err(NoMemory),
+    }
 }
 
-/// The machine of a key, made of one that is at hand.
-fn machine_of(machine: Machine, key: &[u64], fuel: u32) -> Result<Machine, SearchError>
-    requires room { IsReached machine }
-    requires untouched { IsUntouched machine }
-    requires sound { IsSound (machine_of machine.program fuel key.now) }
-    ensures { IfOk result (λ m. m ≡ machine_of machine.program fuel key.now) }
+/// A copy of the program, with no machine.
+fn empty_scratch(alloc: Global, program: &Program) -> Result<Box<Scratch>, NoMemory>
+    ensures { IfOk result (λ b. b.value ≡ record { program = program.now; machine = None }) }
 {
+    let program = program.try_clone(alloc)?;
+    boxed(
+        alloc,
+        Scratch {
+            program,
+            machine: None,
+        },
+    )
+}
+
+/// The program's first machine, which is at hand from then on where nothing fails.
+fn new_machine(alloc: Global, scratch: &mut Scratch, fuel: u32) -> Result<(), NoMemory>
+    ensures program { scratch.new.program ≡ scratch.old.program }
+    ensures machine { OnOk result (scratch.new.machine ≡ Some (new_machine scratch.old.program fuel)) }
+{
+    let machine = Machine::new(alloc, &scratch.program, fuel)?;
+    scratch.machine = Some(machine);
+    Ok(())
+}
+
+/// Where the program's first machine comes to by entries that go alone: its words. It is at hand from then on, where nothing fails.
+fn fill(alloc: Global, scratch: &mut Scratch, fuel: u32, steps: u32) -> Result<Vec<u64>, NoMemory>
+    requires { 1 ≤ fuel }
+    ensures program { scratch.new.program ≡ scratch.old.program }
+    ensures kept { OnOk result (IsScratch scratch.old.program fuel scratch.new.machine) }
+    ensures first { IfOk result (λ words. words.items ≡ first_key scratch.old.program fuel steps) }
+    ensures key { IfOk result (λ words. IsKey scratch.old.program fuel words.items) }
+{
+    new_machine(alloc, scratch, fuel)?;
+    let Some(machine) = &mut scratch.machine else {
+        return Err(NoMemory);
+    };
+    settle_first(machine, fuel, steps);
+    let words = words_of(alloc, machine, 0)?;
+    Ok(words)
+}
+
+/// Where the first machine comes to by entries that go alone.
+fn settle_first(machine: &mut Machine, fuel: u32, steps: u32)
+    requires some { 1 ≤ fuel }
+    requires first { machine.old ≡ new_machine machine.old.program fuel }
+    ensures settled { machine.new ≡ settled fuel steps (refuelled fuel machine.old) }
+    ensures kept { IsKept machine.old.program fuel machine.new }
+{
+    machine.is_sound();
+    machine.refuel(fuel);
+    settle(machine, fuel, steps);
+    machine.is_sound();
+}
+
+/// Makes the machine that is at hand that of a key. After an error there is none.
+fn load_key(scratch: &mut Scratch, key: &[u64], fuel: u32) -> Result<(), SearchError>
+    requires kept { IsScratch scratch.old.program fuel scratch.old.machine }
+    requires key { IsKey scratch.old.program fuel key.now }
+    ensures program { scratch.new.program ≡ scratch.old.program }
+    ensures kept { IsScratch scratch.old.program fuel scratch.new.machine }
+    ensures found { OnOk result (scratch.new.machine ≡ Some (machine_of scratch.old.program fuel key.now)) }
+{
+    let Some(machine) = scratch.machine.take() else {
+        return Err(SearchError::NoState);
+    };
     match load(machine, key, fuel) {
-        Ok(found) => Ok(found),
+        Ok(found) => {
+            scratch.machine = Some(found);
+            Ok(())
+        }
         Err(error) => Err(search_error(error)),
     }
 }
 
-/// Where a key leads to by the next entry of thread t, if it has one; and the machine that was made for it.
+/// No machine is at hand.
+fn clear(scratch: &mut Scratch)
+    ensures { scratch.new ≡ record scratch.old { machine = None } }
+{
+    scratch.machine = None;
+}
+
+/// Where a key leads to by the next entry of thread t, if it has one. After an error no machine is at hand.
 fn lead(
     alloc: Global,
-    machine: Machine,
+    scratch: &mut Scratch,
     key: &[u64],
     t: u32,
     fuel: u32,
     steps: u32,
-) -> Result<(Machine, Option<Vec<u64>>), SearchError>
+) -> Result<Option<Vec<u64>>, SearchError>
     requires some { 1 ≤ fuel }
-    requires t { t < length machine.program.threads }
-    requires kept { IsKept machine.program fuel machine }
-    requires key { IsKey machine.program fuel key.now }
-    ensures kept { IfOk result (λ r. IsKept machine.program fuel r.0) }
-    ensures next { IfOk result (λ r. option_map (λ v. v.items) r.1 ≡ next_key machine.program fuel steps key.now t) }
-    ensures again { IfOk result (λ r. IfSome r.1 (λ v. IsKey machine.program fuel v.items)) }
+    requires t { t < length scratch.old.program.threads }
+    requires kept { IsScratch scratch.old.program fuel scratch.old.machine }
+    requires key { IsKey scratch.old.program fuel key.now }
+    ensures program { scratch.new.program ≡ scratch.old.program }
+    ensures kept { IsScratch scratch.old.program fuel scratch.new.machine }
+    ensures next { IfOk result (λ to. option_map (λ v. v.items) to
+        ≡ next_key scratch.old.program fuel steps key.now t) }
+    ensures again { IfOk result (λ to. IfSome to (λ v. IsKey scratch.old.program fuel v.items)) }
 {
-    let mut found = machine_of(machine, key, fuel)?;
-    let to = step(alloc, &mut found, t, fuel, steps, key.len())?;
-    found.is_sound();
-    Ok((found, to))
+    load_key(scratch, key, fuel)?;
+    let Some(machine) = &mut scratch.machine else {
+        return Err(SearchError::NoState);
+    };
+    match step(alloc, machine, t, fuel, steps, key.len()) {
+        Ok(to) => {
+            machine.is_sound();
+            Ok(to)
+        }
+        Err(NoMemory) => {
+            clear(scratch);
+            Err(SearchError::NoMemory)
+        }
+    }
 }
 
-/// How the machine of a key ends; and the machine that was made for it.
-fn look_at(machine: Machine, key: &[u64], fuel: u32) -> Result<(Machine, Option<End>), SearchError>
-    requires kept { IsKept machine.program fuel machine }
-    requires key { IsKey machine.program fuel key.now }
-    ensures kept { IfOk result (λ r. IsKept machine.program fuel r.0) }
-    ensures end { IfOk result (λ r. r.1 ≡ end_of (machine_of machine.program fuel key.now)) }
+/// How the machine of a key ends. After an error no machine is at hand.
+fn look_at(scratch: &mut Scratch, key: &[u64], fuel: u32) -> Result<Option<End>, SearchError>
+    requires kept { IsScratch scratch.old.program fuel scratch.old.machine }
+    requires key { IsKey scratch.old.program fuel key.now }
+    ensures program { scratch.new.program ≡ scratch.old.program }
+    ensures kept { IsScratch scratch.old.program fuel scratch.new.machine }
+    ensures end { IfOk result (λ e. e ≡ end_of (machine_of scratch.old.program fuel key.now)) }
 {
-    let found = machine_of(machine, key, fuel)?;
-    let end = end_of(&found);
-    Ok((found, end))
+    load_key(scratch, key, fuel)?;
+    match &scratch.machine {
+        Some(machine) => Ok(end_of(machine)),
+        None => Err(SearchError::NoState),
+    }
 }
 
 impl Moves for MachineMoves {
@@ -256,7 +325,7 @@ impl Moves for MachineMoves {
     ghost choices = { λ m. length m.program.threads };
 
     fn choices(&self) -> u32 {
-        self.program.threads.items().len() as u32
+        self.scratch.program.threads.items().len() as u32
     }
 
     fn next(&mut self, key: &[u64], choice: u32) -> Result<Option<Vec<u64>>, SearchError> {

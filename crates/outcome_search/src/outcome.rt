@@ -80,7 +80,8 @@ fn uncounted(found: &Found) -> Outcomes
 pub(crate) fn count_ends(moves: &mut MachineMoves, found: &Found) -> Result<Outcomes, SearchError>
     requires gone { found.now.gone ≤ length found.now.keys }
     requires keys { AreKeys (IsKey moves.old.program moves.old.fuel) found.now.keys }
-    ensures { IfOk result (λ o. o
+    ensures same { moves.new ≡ moves.old }
+    ensures counted { IfOk result (λ o. o
         ≡ counted (uncounted found.now) 0 (ends_of moves.old.program moves.old.fuel found.now.keys)) }
 {
     let mut outcomes = uncounted(found);

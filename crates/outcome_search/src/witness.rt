@@ -1,12 +1,15 @@
 //! Entries that lead to an end which a search has found: what a run may log that ends so.
 
 ghost use Rattle.std.specs.Prelude.{◌≡◌, ◌<◌, ◌++◌, ◌∷◌, [], length, IfOk, IfSome, OnOk};
+ghost use Rattle.plain_monitor.specs.Limits.{most_fuel};
+ghost use Rattle.plain_machine.specs.Machine.{new_machine};
 ghost use Rattle.outcome_search.specs.Witness.{IsWitness};
 ghost use Rattle.outcome_search.specs.inner.Trails.{LeadsOn, stamped};
 
 use crate::alone::{goes_alone, next_entry, owns};
 use crate::ends::{End, end_of};
 use crate::find::STEPS;
+use crate::moves::boxed;
 use object_program::Program;
 use plain_machine::Machine;
 use plain_monitor::limits::FUEL;
@@ -31,7 +34,7 @@ pub fn find_witness(
 ) -> Result<Option<Vec<(u32, Logged)>>, NoMemory>
     ensures { IfOk result (λ found. IfSome found (λ entries. IsWitness program.now end entries.items)) }
 {
-    let mut machine = Machine::new(alloc, program, FUEL)?;
+    let mut machine = first_machine(alloc, program)?;
     let mut entries = Vec::new(alloc);
     log_alone(&mut machine, &mut entries)?;
     for choice in choices.iter().rev() {
@@ -43,6 +46,14 @@ pub fn find_witness(
     } else {
         Ok(None)
     }
+}
+
+/// The program's first machine, in a box as that of `MachineMoves` is.
+fn first_machine(alloc: Global, program: &Program) -> Result<Box<Machine>, NoMemory>
+    ensures { IfOk result (λ b. b.value ≡ new_machine program.now most_fuel) }
+{
+    let machine = Machine::new(alloc, program, FUEL)?;
+    boxed(alloc, machine)
 }
 
 /// The entry with the path that fits it where it is an enter: a search doesn't tell paths, and any is legal.

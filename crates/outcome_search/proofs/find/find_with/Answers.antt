@@ -1,20 +1,11 @@
-use Rattle.std.proofs.Common.{◌≡◌, ℕ, List, length, ap, ◌∙◌, subst}
-use Rattle.state_search.specs.Search.{IsSearch}
+use Rattle.std.proofs.Common.{ap, ◌∙◌, subst}
+use Rattle.outcome_search.specs.Keys.{IsKey}
 use Rattle.outcome_search.specs.MovesView.{Ways}
-use Rattle.outcome_search.specs.NextWords.{first_key, next_key}
-use Rattle.outcome_search.specs.Outcomes.{ends_of}
-use Rattle.outcome_search.specs.inner.Counting.{uncounted, counted}
-use Rattle.outcome_search.proofs.Counting.{is_counted}
+use Rattle.outcome_search.specs.NextWords.{first_key}
 use Rattle.outcome_search.proofs.find.find_with.Goals as goal
 
-pub returns : goal.returns
-returns g c =
-    let w : Ways = g.C.Course.ways in
-    let f = c.in_ok-found.found in
-    let first : c.in_ok-moves.first.items ≡ first_key w.program w.fuel w.steps =
-    c.in_ok-moves.ensures.first ∙ ap (λ (z : Ways). first_key z.program z.fuel z.steps) c.requires.ways in
-    let search : IsSearch (next_key w.program w.fuel w.steps) (length w.program.threads) (first_key w.program w.fuel w.steps) c.args.limit f =
-    subst (λ (key : List ℕ). IsSearch (next_key w.program w.fuel w.steps) (length w.program.threads) key c.args.limit f) first c.in_ok-found.ensures.found in
-    let same = c.search.new.moves.same in
-    is_counted w.program w.fuel w.steps c.args.limit f c.in_ok-outcomes.outcomes search
-    (c.in_ok-outcomes.ensures ∙ ap (λ (z : Ways). counted (uncounted f) 0 (ends_of z.program z.fuel f.keys)) same)
+pub find_by-requires-clause-first : goal.find_by-requires-clause-first
+find_by-requires-clause-first g c = c.in_ok-moves.ensures.first ∙ ap (λ (w : Ways). first_key w.program w.fuel w.steps) c.requires.ways
+
+pub find_by-requires-clause-key : goal.find_by-requires-clause-key
+find_by-requires-clause-key g c = subst (λ (w : Ways). IsKey w.program w.fuel c.in_ok-moves.first.items) c.requires.ways c.in_ok-moves.ensures.key

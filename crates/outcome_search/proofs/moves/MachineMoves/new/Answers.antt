@@ -1,25 +1,28 @@
 use Rattle.std.proofs.Common.{sym, ap, ◌∙◌, subst}
 use Rattle.object_program.specs.Program.{ProgramText}
-use Rattle.machine_words.specs.MachineWords.{words_of}
-use Rattle.outcome_search.specs.Keys.{IsKept}
+use Rattle.outcome_search.specs.declared.moves.Scratch.{Scratch}
+use Rattle.outcome_search.specs.Keys.{IsKey, IsScratch}
+use Rattle.outcome_search.specs.NextWords.{first_key}
 use Rattle.outcome_search.proofs.moves.MachineMoves.new.Goals as goal
-
-pub words_of-requires-clause-reached : goal.words_of-requires-clause-reached
-words_of-requires-clause-reached c = c.in_ok-machine.ensures.kept.0.reached
-
-pub words_of-requires-clause-untouched : goal.words_of-requires-clause-untouched
-words_of-requires-clause-untouched c = c.in_ok-machine.ensures.kept.0.untouched
 
 pub invariant_of-moves : goal.invariant_of-moves
 invariant_of-moves c =
     record {
-      scratch = subst (λ (p : ProgramText). IsKept p c.args.fuel c.in_ok-machine.machine) (sym c.in_ok-own.ensures) c.in_ok-machine.ensures.kept;
+      scratch = subst (λ (p : ProgramText). IsScratch p c.args.fuel c.fill.new.scratch.machine) (sym c.fill.ensures.program) c.in_ok-words.ensures.kept;
       some = c.requires;
     }
 
+pub returns-clause-ways : goal.returns-clause-ways
+returns-clause-ways c =
+    let is = ap (λ (z : Scratch). z.program) (c.deref_mut.ensures.value ∙ c.in_ok-scratch.ensures) in
+    ap (λ (p : ProgramText). record { program = p; fuel = c.args.fuel; steps = c.args.steps }) (c.fill.ensures.program ∙ is)
+
 pub returns-clause-first : goal.returns-clause-first
-returns-clause-first c = c.in_ok-words.ensures ∙ ap words_of c.in_ok-machine.ensures.settled
+returns-clause-first c =
+    let is = ap (λ (z : Scratch). z.program) (c.deref_mut.ensures.value ∙ c.in_ok-scratch.ensures) in
+    c.in_ok-words.ensures.first ∙ ap (λ (p : ProgramText). first_key p c.args.fuel c.args.steps) is
 
 pub returns-clause-key : goal.returns-clause-key
 returns-clause-key c =
-    record { machine = c.in_ok-machine.machine; kept = c.in_ok-machine.ensures.kept; words = sym c.in_ok-words.ensures }
+    let is = ap (λ (z : Scratch). z.program) (c.deref_mut.ensures.value ∙ c.in_ok-scratch.ensures) in
+    subst (λ (p : ProgramText). IsKey p c.args.fuel c.in_ok-words.words.items) is c.in_ok-words.ensures.key
