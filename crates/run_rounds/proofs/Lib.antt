@@ -7,3 +7,5 @@ pub mod Numbered
 pub mod Ending
 pub mod Over
 pub mod Closing
+mod Pushed
+mod Seats

@@ -1,5 +1,5 @@
 -- Runners in the slots of a pool.
-use Rattle.std.proofs.Common.{◌≡◌, ℕ, true, false, Bool, List, Some, length, sym, subst, ⊎_elim, inl, inr}
+use Rattle.std.proofs.Common.{◌≡◌, ℕ, true, false, Bool, List, [], ◌∷◌, Some, length, sym, subst, ⊎_elim, inl, inr}
 use Rattle.std.specs.Prelude.{slice_get}
 use Rattle.heap_table.specs.Seen.{HeapSeen}
 use Rattle.object_program.specs.Program.{ProgramText}
@@ -8,12 +8,15 @@ use Rattle.thread_frame.specs.Frames.{has_ended}
 use Rattle.thread_interp.specs.Runners.{RunnerSeen}
 use Rattle.turn_pool.specs.declared.word.Word.{Word}
 use Rattle.turn_pool.specs.declared.word.Word.TheVariants.{Ready, Ended, Stopped}
-use Rattle.turn_pool.specs.Pool.{EndsOver}
+use Rattle.turn_pool.specs.declared.rule.SeatView.{SeatView}
+use Rattle.turn_pool.specs.Pool.{EndsOver, seat_view}
+use Rattle.turn_pool.specs.Table.{Me, rest}
 use Rattle.run_rounds.specs.Rounds.{IsRunnerAt, AreRunners, AreTimed}
 use Rattle.run_rounds.specs.inner.Ends.{AreOver, AreDone}
 use Rattle.run_rounds.specs.inner.Slots.{IsCourse, MayLie, StandsUnder}
 use Rattle.run_rounds.specs.inner.Turns.{HasGoneOn}
 use Rattle.run_rounds.proofs.Lists.{all_pass}
+use Rattle.run_rounds.proofs.Seats.{same_held}
 use Rattle.run_rounds.proofs.Stays.{stays_at}
 
 -- a course is that of the call
@@ -29,6 +32,14 @@ pub as_course : (ch : HeapSeen) (cp : ProgramText) (cf ct : ℕ) (h : HeapSeen) 
     (r : RunnerSeen) → IsCourse ch cp cf ct h p fuel tick → MayLie h p fuel tick w i r → MayLie ch cp cf ct w i r
 as_course ch cp cf ct h p fuel tick w i r is lies = as_called h p fuel tick ch cp cf ct w i r
     (record { heap = sym is.heap; program = sym is.program; fuel_is = sym is.fuel_is; tick_is = sym is.tick_is }) lies
+
+-- what a worker holds that took the runner of this place
+pub lies_held : {ch : HeapSeen} {cp : ProgramText} {cf ct : ℕ} {h : HeapSeen} {p : ProgramText} {fuel tick i : ℕ} {m : Me RunnerSeen SeatView}
+    {x : RunnerSeen} → IsCourse ch cp cf ct h p fuel tick
+    → ((r : RunnerSeen) × MayLie ch cp cf ct Ready i r × (m ≡ (seat_view 1 (Some i) false, (i, r) ∷ []))) → m.1 ≡ (i, x) ∷ rest m.1
+    → MayLie h p fuel tick Ready i x
+lies_held {ch} {cp} {cf} {ct} {h} {p} {fuel} {tick} {i} {m} {x} is t value =
+    subst (λ (r : RunnerSeen). MayLie h p fuel tick Ready i r) (same_held m i t.0 x t.2 value) (as_called ch cp cf ct h p fuel tick Ready i t.0 is t.1)
 
 -- after turns it may lie in its slot again
 pub lies_on : (h : HeapSeen) (p : ProgramText) (fuel tick : ℕ) (u w : Word) (i : ℕ) (r q : RunnerSeen) → MayLie h p fuel tick u i r

@@ -1,11 +1,34 @@
-use Rattle.std.proofs.Common.{◌≡◌, ℕ, List, [], ◌∷◌, get_or, false, sym, ap, ◌∙◌, subst, arith}
+use Rattle.std.proofs.Common.{◌≡◌, [], ◌∷◌, false, ap, arith}
 use Rattle.turn_pool.specs.Table.{Me, rest}
 use Rattle.thread_interp.specs.Runners.{RunnerSeen}
 use Rattle.turn_pool.specs.declared.rule.SeatView.{SeatView}
 use Rattle.turn_pool.specs.declared.word.Word.TheVariants.{Ready}
-use Rattle.run_rounds.specs.inner.Slots.{MayLie}
-use Rattle.run_rounds.proofs.Slotted.{as_called, as_course, lies_on}
+use Rattle.run_rounds.proofs.Seats.{first_held, free_again}
+use Rattle.run_rounds.proofs.Slotted.{as_course, lies_held, lies_on}
 use Rattle.run_rounds.proofs.turns.give_turn.Goals as goal
+
+pub slot_mut-runner-requires : goal.slot_mut-runner-requires
+slot_mut-runner-requires g c = let t = c.requires.held in (c.requires.table, (t.0, first_held c.args.mine.now.me c.args.place t.0 t.2))
+
+pub turn_unless_ended-outcome-requires-clause-heap : goal.turn_unless_ended-outcome-requires-clause-heap
+turn_unless_ended-outcome-requires-clause-heap g c = c.requires.heap
+
+pub turn_unless_ended-outcome-requires-clause-runner : goal.turn_unless_ended-outcome-requires-clause-runner
+turn_unless_ended-outcome-requires-clause-runner g c =
+    (lies_held c.requires.course c.requires.held c.slot_mut-runner.ensures.value).at.runner
+
+pub turn_unless_ended-outcome-requires-clause-unchecked : goal.turn_unless_ended-outcome-requires-clause-unchecked
+turn_unless_ended-outcome-requires-clause-unchecked g c =
+    (lies_held c.requires.course c.requires.held c.slot_mut-runner.ensures.value).at.unchecked
+
+pub turn_unless_ended-outcome-requires-clause-quantum : goal.turn_unless_ended-outcome-requires-clause-quantum
+turn_unless_ended-outcome-requires-clause-quantum g c = c.requires.quantum
+
+pub give-requires-clause-table : goal.give-requires-clause-table
+give-requires-clause-table g c = c.requires.table
+
+pub give-requires-clause-place : goal.give-requires-clause-place
+give-requires-clause-place g c = c.requires.place
 
 pub give-requires-clause-knows : goal.give-requires-clause-knows
 give-requires-clause-knows g c =
@@ -13,14 +36,9 @@ give-requires-clause-knows g c =
     let run = c.args.work.now.run in
     let h = run.heap.now in
     let p = run.program.now in
-    let runner = c.slot_mut-runner.result.now in
-    let same : t.0 ≡ runner =
-    ap (λ (l : List (ℕ × RunnerSeen)). (get_or l 0 (0, t.0)).1) (sym (ap (λ (m : Me RunnerSeen SeatView). m.1) t.2) ∙ c.slot_mut-runner.ensures.value) in
     let after = c.turn_unless_ended-outcome.new.runner in
     let none-left : rest c.args.mine.now.me.1 ≡ [] = ap (λ (m : Me RunnerSeen SeatView). rest m.1) t.2 in
-    let lies = as_called g.C.Course.heap g.C.Course.program g.C.Course.fuel g.C.Course.tick h p run.fuel run.tick
-    Ready c.args.place t.0 c.requires.course t.1 in
-    let now = subst (λ (r : RunnerSeen). MayLie h p run.fuel run.tick Ready c.args.place r) same lies in (
+    let lies = lies_held c.requires.course t c.slot_mut-runner.ensures.value in (
       1,
       false,
       after,
@@ -29,5 +47,13 @@ give-requires-clause-knows g c =
       as_course g.C.Course.heap g.C.Course.program g.C.Course.fuel g.C.Course.tick h p run.fuel run.tick
           c.word_after_turn-word.result c.args.place after c.requires.course
           (lies_on h p run.fuel run.tick Ready c.word_after_turn-word.result
-          c.args.place runner after now c.turn_unless_ended-outcome.ensures.gone c.word_after_turn-word.ensures),
+          c.args.place c.slot_mut-runner.result.now after lies c.turn_unless_ended-outcome.ensures.gone c.word_after_turn-word.ensures),
     )
+
+pub returns-clause-table : goal.returns-clause-table
+returns-clause-table g c = c.give.ensures.table
+
+pub returns-clause-free : goal.returns-clause-free
+returns-clause-free g c =
+    let t = c.requires.held in
+    free_again c.args.mine.now.me c.give.new.seat.me c.args.place t.0 t.2 c.give.ensures.given
