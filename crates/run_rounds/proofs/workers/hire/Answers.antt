@@ -1,7 +1,7 @@
-use Rattle.std.proofs.Common.{◌≡◌, ◌+◌, ◌-◌, [], All, None, false, sym, ap, ◌∙◌, subst, arith}
-use Rattle.std.proofs.lemmas.List.Elements.{All-push}
+use Rattle.std.proofs.Common.{◌≡◌, ◌+◌, ◌-◌, [], None, false, ap, ◌∙◌, arith}
 use Rattle.turn_pool.specs.Pool.{seat_view, all_parts}
 use Rattle.run_rounds.specs.declared.workers.Worker.{Worker}
+use Rattle.run_rounds.proofs.Pushed.{all_with}
 use Rattle.run_rounds.proofs.Seats.{parts_left}
 use Rattle.run_rounds.proofs.workers.hire.Goals as goal
 
@@ -16,18 +16,17 @@ hire-requires-clause-knows g c =
 pub loop-i-preserved : goal.loop-i-preserved
 loop-i-preserved g c =
     let inv = c.loop-i.invariant in
-    let hired = c.hire.ensures in
     let pushed = c.push_reserved.ensures in
     let table = c.args.pool.now.slots.shared.table_id in
     let room = inv.room in
     let capacity = pushed.capacity in
-    let Hired : Worker → Type 0 = λ w. (w.seat.table_id ≡ table) × (w.seat.me ≡ (seat_view 1 None false, [])) in
     let less : all_parts - c.loop-i.i - 1 ≡ all_parts - (c.loop-i.i + 1) = omega arith in
     record {
-      table = hired.seat.0 ∙ inv.table;
-      len = pushed.len ∙ ap (λ n. n + 1) inv.len;
+      table = c.hire.ensures.seat.0 ∙ c.loop-i.invariant.table;
+      len = c.push_reserved.ensures.len ∙ ap (λ n. n + 1) c.loop-i.invariant.len;
       room = omega (arith, room, capacity);
-      free = parts_left c.loop-i.own.me c.hire.new.seat.me (all_parts - c.loop-i.i) (all_parts - (c.loop-i.i + 1)) inv.free hired.seat.1 less;
-      all = subst (All Hired) (sym pushed.items)
-          (All-push Hired c.loop-i.workers.items (record { seat = c.hire.result }) inv.all (hired.worker.0 ∙ inv.table ∙ c.requires.table, hired.worker.1));
+      free = parts_left c.loop-i.own.me c.hire.new.seat.me (all_parts - c.loop-i.i) (all_parts - (c.loop-i.i + 1)) inv.free c.hire.ensures.seat.1 less;
+      all = all_with (λ (w : Worker). (w.seat.table_id ≡ table) × (w.seat.me ≡ (seat_view 1 None false, []))) c.loop-i.workers.items
+          c.push_reserved.new.self.items (record { seat = c.hire.result }) pushed.items inv.all
+          (c.hire.ensures.worker.0 ∙ c.loop-i.invariant.table ∙ c.requires.table, c.hire.ensures.worker.1);
     }
