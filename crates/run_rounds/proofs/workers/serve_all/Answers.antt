@@ -47,3 +47,33 @@ returns g c =
     let x = c.end.ensures.are i r e in
     (x.0, as_called g.C.Course.heap g.C.Course.program g.C.Course.fuel g.C.Course.tick h p terms.fuel terms.tick x.0 i r c.requires.course x.1))
     (over_as_called g.C.Course.heap g.C.Course.program g.C.Course.fuel g.C.Course.tick h p terms.fuel terms.tick rs c.requires.course over)
+
+pub new-requires-clause-few : goal.new-requires-clause-few
+new-requires-clause-few g c = c.requires.few
+
+pub hire-seats-requires-clause-few : goal.hire-seats-requires-clause-few
+hire-seats-requires-clause-few g c = c.requires.workers.1
+
+pub hire-seats-requires-clause-table : goal.hire-seats-requires-clause-table
+hire-seats-requires-clause-table g c = c.in-Ok.ensures.ok.1
+
+pub hire-seats-requires-clause-free : goal.hire-seats-requires-clause-free
+hire-seats-requires-clause-free g c = c.in-Ok.ensures.ok.2
+
+pub dismiss-requires-clause-table : goal.dismiss-requires-clause-table
+dismiss-requires-clause-table g c = c.hire-seats.ensures.table ∙ c.in-Ok.ensures.ok.1
+
+pub end-requires-clause-table : goal.end-requires-clause-table
+end-requires-clause-table g c = c.dismiss.ensures.table ∙ c.hire-seats.ensures.table ∙ c.in-Ok.ensures.ok.1
+
+pub end-requires-clause-whole : goal.end-requires-clause-whole
+end-requires-clause-whole g c = (true, c.dismiss.ensures.over)
+
+pub end-requires-clause-empty : goal.end-requires-clause-empty
+end-requires-clause-empty g c = c.requires.room.0
+
+pub end-requires-clause-room : goal.end-requires-clause-room
+end-requires-clause-room g c =
+    let slots = c.in-Ok.ensures.ok.0 in
+    let room = c.requires.room.1 in
+    omega (arith, slots, room)
