@@ -90,3 +90,9 @@ returns g c =
     } in
     has_run c.args.heap p terms.fuel rs done.runners c.requires.program many c.close.result
     (subst (λ (ps : List PassSeen). IsClosed c.args.heap ps c.close.result) same closed) laws done.over.0 done.over.1 terms.tick done.timed
+
+pub serve_until_over-requires-clause-quantum : goal.serve_until_over-requires-clause-quantum
+serve_until_over-requires-clause-quantum g c κs within = c.requires.quantum
+
+pub serve_until_over-requires-clause-program : goal.serve_until_over-requires-clause-program
+serve_until_over-requires-clause-program g c κs within = c.requires.program
