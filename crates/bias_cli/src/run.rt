@@ -12,6 +12,7 @@ ghost use Rattle.program_syntax.specs.Text.{most_bytes};
 ghost use Rattle.bias_cli.specs.Seen.{source_seen, sink_seen};
 ghost use Rattle.bias_cli.specs.Finish.{most_asked, Meets, Runs, run_due, IsGivenUp, IsFinish, IsWritten, TakesAtMost};
 ghost use Rattle.plain_machine.specs.Legal.{IsLegal};
+ghost use Rattle.program_run.specs.Ran.{IsRan};
 ghost use Rattle.bias_cli.specs.inner.Briefly.{IsToldBy, IsRunBy, IsReportBy, IsShownBy, lines_by, status_by};
 
 use crate::blocks::run_blocks_of;
@@ -25,7 +26,6 @@ use crate::refusal::refusal_line;
 use crate::report::report_where;
 use crate::text::{status_by, write_text};
 use cli_args::{Command, Options, WordsFault, read_words};
-use heap_table::Closed;
 use lock_journal::{RunRecord, have_ended, replay};
 use object_program::Program;
 use plain_machine::Machine;
@@ -141,12 +141,11 @@ pub(crate) fn run_and_write<R: Threads + Wait + Sync, K: Sink, C: Clock + Sync, 
     }
 }
 
-/// A run that is over: its record, the closed heap, the machine under the record where the logs alone don't tell what is to be written, and
-/// the lines of its report, none where none is asked for.
+/// A run that is over: what it left, the machine under its record where the logs alone don't tell what is to be written, and the lines of its
+/// report, none where none is asked for.
 #[derive(Drop)]
 struct Done {
-    run: RunRecord,
-    closed: Closed,
+    ran: Box<Ran>,
     machine: Option<Machine>,
     report: Vec<List<u8>>,
 }
@@ -161,23 +160,38 @@ fn run_of<R: Threads + Wait + Sync, C: Clock + Sync, G: Gate + Sync>(
     gate: &G,
 ) -> Result<Done, NoMemory>
     requires { IsRunnable options.now }
-    ensures run { IfOk result (λ done. IsRunBy options.now program done.run done.closed done.machine) }
-    ensures shown { IfOk result (λ done. IsShownBy done.run done.machine) }
-    ensures reported { IfOk result (λ done. IsReportBy options.now.report done.run done.machine done.report.items) }
+    ensures run { IfOk result (λ done. IsRunBy options.now program done.ran.value.record done.ran.value.closed done.machine) }
+    ensures shown { IfOk result (λ done. IsShownBy done.ran.value.record done.machine) }
+    ensures reported { IfOk result (λ done. IsReportBy options.now.report done.ran.value.record done.machine done.report.items) }
 {
-    let settings = settings_of(options);
-    let Ran {
-        record: run,
-        closed,
-    } = run_program(rt, alloc, program, &settings, clock, gate)?;
-    let machine = machine_where(alloc, options, &run)?;
-    let report = report_by(alloc, options.report, &run, &machine)?;
+    let ran = ran_by(rt, alloc, options, program, clock, gate)?;
+    let machine = machine_where(alloc, options, &ran.record)?;
+    let report = report_by(alloc, options.report, &ran.record, &machine)?;
     Ok(Done {
-        run,
-        closed,
+        ran,
         machine,
         report,
     })
+}
+
+/// What a run of the program leaves. It lies in a box, as the proof of a function lists at each of its steps all words that it holds itself.
+fn ran_by<R: Threads + Wait + Sync, C: Clock + Sync, G: Gate + Sync>(
+    rt: &R,
+    alloc: Global,
+    options: &Options,
+    program: Program,
+    clock: &C,
+    gate: &G,
+) -> Result<Box<Ran>, NoMemory>
+    requires { IsRunnable options.now }
+    ensures { IfOk result (λ ran. IsRan (settings_of options.now) program ran.value.record ran.value.closed) }
+{
+    let settings = settings_of(options);
+    let ran = run_program(rt, alloc, program, &settings, clock, gate)?;
+    match Box::new(alloc, ran) {
+        Ok(ran) => Ok(ran),
+        Err(_) => Err(NoMemory),
+    }
 }
 
 /// The machine under the record, where the logs alone don't tell what is to be written: a log doesn't end with its thread's ending, a
@@ -234,18 +248,21 @@ fn settings_of(options: &Options) -> Settings
 
 /// Writes the text of a run that is over.
 fn write_run<K: Sink>(sink: &mut K, options: &Options, done: Done) -> Finish
-    requires shown { IsShownBy done.run done.machine }
-    requires reported { IsReportBy options.now.report done.run done.machine done.report.items }
-    ensures { (p : ProgramText) → IsRunBy options.now p done.run done.closed done.machine
+    requires shown { IsShownBy done.ran.value.record done.machine }
+    requires reported { IsReportBy options.now.report done.ran.value.record done.machine done.report.items }
+    ensures { (p : ProgramText) → IsRunBy options.now p done.ran.value.record done.ran.value.closed done.machine
         → Meets (sink_seen K.Sink sink.old) (sink_seen K.Sink sink.new) result (Runs options.now p) }
 {
     let Done {
-        run,
-        closed,
+        ran,
         machine,
         report,
     } = done;
-    let status = write_done(sink, options, &run, &machine, &report);
+    let status = write_done(sink, options, &ran.record, &machine, &report);
+    let Ran {
+        record: run,
+        closed,
+    } = Box::into_inner(ran);
     Finish {
         status,
         run: Some(run),

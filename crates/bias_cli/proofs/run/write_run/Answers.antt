@@ -1,19 +1,20 @@
-use Rattle.std.proofs.Common.{refl}
+use Rattle.std.proofs.Common.{ap, Some}
+use Rattle.program_run.specs.declared.settings.Ran.{Ran}
 use Rattle.bias_cli.proofs.Briefly.{is_under}
 use Rattle.bias_cli.proofs.run.write_run.Goals as goal
 
 pub returns : goal.returns
 returns g c p is =
-    let under = is_under c.args.options.now p c.args.done.run c.args.done.closed c.args.done.machine c.args.done.report.items is c.requires.reported in (
-      c.args.done.run,
-      c.args.done.closed,
-      refl,
-      refl,
+    let under = is_under c.args.options.now p c.args.done.ran.value.record c.args.done.ran.value.closed c.args.done.machine c.args.done.report.items is c.requires.reported in (
+      c.args.done.ran.value.record,
+      c.args.done.ran.value.closed,
+      ap (λ (r : Ran). Some r.record) c.into_inner-run.ensures,
+      ap (λ (r : Ran). Some r.closed) c.into_inner-run.ensures,
       record {
         machine = under.machine;
         run = under.run;
         report = c.args.done.report.items;
         reported = under.reported;
-        written = rw (c.deref.ensures.value, under.status, under.lines) at c.write_done-status.ensures;
+        written = rw (c.deref.ensures, c.deref-2.ensures.value, under.status, under.lines) at c.write_done-status.ensures;
       },
     )
