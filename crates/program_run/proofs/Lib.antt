@@ -1,4 +1,5 @@
 pub mod SameCopies
+pub mod Pushed
 pub mod Shaped
 pub mod LinesBelow
 pub mod Cut

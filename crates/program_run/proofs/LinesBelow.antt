@@ -1,5 +1,5 @@
 -- The lines of classes, one after another, and the sums of one.
-use Rattle.std.proofs.Common.{◌≡◌, ℕ, zero, suc, ◌+◌, ◌<◌, List, [], ◌∷◌, ◌++◌, length, get_or, take, Some, refl, sym, ap, ◌∙◌, arith, inl, inr}
+use Rattle.std.proofs.Common.{◌≡◌, ℕ, zero, suc, ◌+◌, ◌<◌, List, [], ◌∷◌, ◌++◌, length, get_or, take, Some, refl, sym, ap, ◌∙◌, add-one, arith, inl, inr}
 use Rattle.std.specs.Prelude.{◌⊎◌, slice_get}
 use Rattle.std.proofs.lemmas.List.Sums.{sum_by_more}
 use Rattle.std.proofs.lemmas.Option.{none-some, same_Some}
@@ -37,6 +37,11 @@ lines_many c (suc n) = pushed_many (lines_below c n) (line_of c n) ∙ ap suc (l
     pushed_many : {A : Type 0} (xs : List A) (x : A) → length (xs ++ x ∷ []) ≡ suc (length xs)
     pushed_many [] x = refl
     pushed_many (y ∷ xs) x = ap suc (pushed_many xs x)
+
+-- the lines of one class more
+pub line_more : (c : ClosedSeen) (n : ℕ) (before after : List ClassLine) (line : ClassLine) → before ≡ lines_below c n → after ≡ before ++ line ∷ []
+    → line ≡ line_of c n → after ≡ lines_below c (n + 1)
+line_more c n before after line are pushed is = pushed ∙ (λ i. are i ++ is i ∷ []) ∙ sym (ap (lines_below c) (add-one n))
 
 -- what stands in a list and one more
 pushed_at : {A : Type 0} (xs : List A) (x y : A) (k : ℕ) → slice_get (xs ++ x ∷ []) k ≡ Some y

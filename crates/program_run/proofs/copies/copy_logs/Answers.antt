@@ -5,6 +5,14 @@ use Rattle.plain_monitor.specs.declared.entry.Logged.{Logged}
 use Rattle.program_run.proofs.SameCopies.{same_copies}
 use Rattle.program_run.proofs.copies.copy_logs.Goals as goal
 
+pub for_each_mut-requires-clause-threads : goal.for_each_mut-requires-clause-threads
+for_each_mut-requires-clause-threads g c = let some = c.requires in λ κs lives. omega (arith, some)
+
+pub for_each_mut-requires-clause-accepts : goal.for_each_mut-requires-clause-accepts
+for_each_mut-requires-clause-accepts g c = λ κs lives i copy within at.
+    let places : length c.as_mut_slice.result.now ≡ length c.args.logs.now = ap length c.as_mut_slice.ensures.value ∙ c.in_ok-copies.ensures in
+    omega (arith, within, places)
+
 pub returns : goal.returns
 returns g c =
     let logs : List (List Logged) = c.args.logs.now in
