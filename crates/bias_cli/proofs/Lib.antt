@@ -15,3 +15,4 @@ pub mod Briefly
 pub mod RunsFound
 pub mod Journals
 pub mod Searched
+mod Told

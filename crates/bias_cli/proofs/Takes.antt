@@ -1,8 +1,8 @@
 -- Taking bytes from a source and putting them into a sink, piece by piece.
 use Rattle.std.proofs.Common.{◌≡◌, ℕ, zero, suc, ◌+◌, ◌-◌, ◌≤◌, List, [], ◌∷◌, ◌++◌, length, take, drop, refl}
-use Rattle.std.proofs.Common.{ap, sym, ◌∙◌, arith, append_assoc, zero-add, Option, Some, length-drop}
-use Rattle.std.proofs.lemmas.List.{take-append-drop, drop-drop, take_all, drop_all}
-use Rattle.run_io.specs.Source.{IsAtEnd}
+use Rattle.std.proofs.Common.{ap, sym, ◌∙◌, arith, append_assoc, zero-add, Option, Some, length-append, length-drop}
+use Rattle.std.proofs.lemmas.List.{take-append-drop, take-append-le, length-take-le, drop-drop, take_all, drop_all}
+use Rattle.run_io.specs.Source.{Gives, IsAtEnd}
 use Rattle.run_io.specs.Sink.{Appends}
 use Rattle.bias_cli.specs.Input.{TookFirst, Took, TookSome}
 use Rattle.bias_cli.specs.inner.Input.{TookMore}
@@ -45,3 +45,22 @@ wrote_front n h0 h1 h2 piece first kept = (take n piece, drop n piece, sym (take
 pub took_some : (n most : ℕ) (l0 l1 l2 : Option (List ℕ)) (bs : List ℕ) → n ≤ most → TookFirst n l0 l1 bs → TookSome (most - n) l1 l2 → TookSome most l0 l2
 took_some n most l0 l1 l2 bs within first some left e =
     let more = some (drop n left) (first left e).1 in (n + more.0, omega (arith, more.1), more.2 ∙ ap Some (drop-drop more.0 n left))
+
+-- the first elements of the front of a buffer
+pub in_buffer : (n : ℕ) (front rest : List ℕ) → n ≤ length front → n ≤ length (front ++ rest)
+in_buffer n front rest within = let parts = length-append front rest in omega (arith, parts, within)
+
+pub front_length : (n : ℕ) (front rest : List ℕ) → n ≤ length front → length (take n (front ++ rest)) ≡ n
+front_length n front rest within = ap length (take-append-le n front rest within) ∙ length-take-le n front within
+
+-- what a read gave, where it stands at the front of a buffer and was put after the bytes
+pub took_behind : (n : ℕ) (l0 l1 : Option (List ℕ)) (front rest bs cs : List ℕ) → n ≤ length front → Gives l0 l1 front n
+    → cs ≡ bs ++ take n (front ++ rest) → TookMore n l0 l1 bs cs
+took_behind n l0 l1 front rest bs cs within given are left e =
+    let a = given left e in (are ∙ ap (λ xs. bs ++ xs) (take-append-le n front rest within ∙ a.0), a.1)
+
+pub took_within : (n room : ℕ) (l0 l1 : Option (List ℕ)) (front : List ℕ) → n ≤ room → Gives l0 l1 front n → TookSome room l0 l1
+took_within n room l0 l1 front within given left e = (n, within, (given left e).1)
+
+pub took_none : (room : ℕ) (l0 l1 : Option (List ℕ)) → l1 ≡ l0 → TookSome room l0 l1
+took_none room l0 l1 kept left e = (0, omega arith, kept ∙ e)
