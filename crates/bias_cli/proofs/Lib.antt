@@ -16,3 +16,4 @@ pub mod RunsFound
 pub mod Journals
 pub mod Searched
 mod Told
+mod Gathered

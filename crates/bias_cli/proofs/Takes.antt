@@ -1,6 +1,6 @@
 -- Taking bytes from a source and putting them into a sink, piece by piece.
 use Rattle.std.proofs.Common.{◌≡◌, ℕ, zero, suc, ◌+◌, ◌-◌, ◌≤◌, List, [], ◌∷◌, ◌++◌, length, take, drop, refl}
-use Rattle.std.proofs.Common.{ap, sym, ◌∙◌, arith, append_assoc, zero-add, Option, Some, length-append, length-drop}
+use Rattle.std.proofs.Common.{ap, sym, subst, ◌∙◌, arith, append_assoc, zero-add, Option, Some, length-append, length-drop}
 use Rattle.std.proofs.lemmas.List.{take-append-drop, take-append-le, length-take-le, drop-drop, take_all, drop_all}
 use Rattle.run_io.specs.Source.{Gives, IsAtEnd}
 use Rattle.run_io.specs.Sink.{Appends}
@@ -12,6 +12,9 @@ take_joined : (n m : ℕ) (xs : List ℕ) → take (n + m) xs ≡ take n xs ++ t
 take_joined zero m xs = rw zero-add refl
 take_joined (suc n) m [] = take_all (suc n + m) [] (omega arith) ∙ sym (take_all m [] (omega arith))
 take_joined (suc n) m (x ∷ xs) = let e : suc n + m ≡ suc (n + m) = omega arith in rw e (ap (λ ys. x ∷ ys) (take_joined n m xs))
+
+pub took_nothing : (n : ℕ) (l : Option (List ℕ)) (bs : List ℕ) → n ≡ 0 → bs ≡ [] → TookFirst n l l bs
+took_nothing n l bs none empty = subst (λ m. TookFirst m l l bs) (sym none) (λ left e. (empty, e))
 
 pub took_more : (n m : ℕ) (l0 l1 l2 : Option (List ℕ)) (bs cs : List ℕ) → TookFirst n l0 l1 bs → TookMore m l1 l2 bs cs → TookFirst (n + m) l0 l2 cs
 took_more n m l0 l1 l2 bs cs first more left e =

@@ -1,7 +1,33 @@
 use Rattle.std.proofs.Common.{◌≡◌, ◌+◌, vec_len, arith}
-use Rattle.bias_cli.proofs.Takes.{took_more, took_some, took_to_end}
+use Rattle.bias_cli.proofs.Takes.{took_nothing, took_more, took_some, took_to_end}
 use Rattle.bias_cli.proofs.input.read_text.Goals as goal
 use Rattle.bias_cli.proofs.input.read_text.Goals.{else-loop-source-test, then-loop-source-test+in_ok-read_piece+then-branch-eq0}
+
+pub loop-source-init : goal.loop-source-init
+loop-source-init g c =
+    let none = c.new-bytes.ensures.len in
+    record {
+      counted = omega arith;
+      most = omega (arith, none);
+      took = took_nothing (vec_len c.new-bytes.result) (g.S.Source.left c.args.source.now) c.new-bytes.result.items none c.new-bytes.ensures.items;
+    }
+
+pub read_piece-requires-clause-limit : goal.read_piece-requires-clause-limit
+read_piece-requires-clause-limit g c = c.requires
+
+pub read_piece-requires-clause-room : goal.read_piece-requires-clause-room
+read_piece-requires-clause-room g c =
+    let len = c.len.ensures in
+    let more = c.loop-source-test.true in
+    omega (arith, len, more)
+
+pub loop-source-smaller : goal.loop-source-smaller
+loop-source-smaller g c =
+    let len = c.len.ensures in
+    let room = c.loop-source-test.true in
+    let more = c.in_ok-read_piece.ensures.more in
+    let some = c.if-branch-eq0.false in
+    omega (arith, len, room, more, some)
 
 pub loop-source-preserved : goal.loop-source-preserved
 loop-source-preserved g c =
@@ -11,6 +37,9 @@ loop-source-preserved g c =
       most = omega (arith, c.in_ok-read_piece.ensures.most);
       took = rw c.in_ok-read_piece.ensures.more all;
     }
+
+pub returns-clause-fault : goal.returns-clause-fault
+returns-clause-fault g c = λ e. absurd (cc e)
 
 pub returns-clause-took : goal.returns-clause-took
 returns-clause-took g c =
@@ -23,6 +52,12 @@ returns-clause-took g c =
           rw (w.source-is, w.bytes-is) (took_to_end _ c.args.most _ _ _ _ _ (omega (arith, c.loop-source.invariant.most))
           c.loop-source.invariant.took (rw none at w.in_ok-read_piece.ensures.took) (w.in_ok-read_piece.ensures.ended none))
     ]
+
+pub returns-in_err-read_piece-clause-counted : goal.returns-in_err-read_piece-clause-counted
+returns-in_err-read_piece-clause-counted g c =
+    let before = c.loop-source.invariant.counted in
+    let more = c.read_piece.ensures.counted in
+    omega (arith, before, more)
 
 pub returns-in_err-read_piece-clause-some : goal.returns-in_err-read_piece-clause-some
 returns-in_err-read_piece-clause-some g c =
