@@ -41,6 +41,13 @@ loop-source-preserved g c =
 pub returns-clause-fault : goal.returns-clause-fault
 returns-clause-fault g c = λ e. absurd (cc e)
 
+pub returns-clause-counted : goal.returns-clause-counted
+returns-clause-counted g c =
+    elim c.loop-source-test.branch [
+      | else-loop-source-test w ↦ rw w.source-is c.loop-source.invariant.counted
+      | then-loop-source-test+in_ok-read_piece+then-branch-eq0 w ↦ rw w.source-is (omega (arith, c.loop-source.invariant.counted, w.in_ok-read_piece.ensures.counted))
+    ]
+
 pub returns-clause-took : goal.returns-clause-took
 returns-clause-took g c =
     elim c.loop-source-test.branch [
@@ -61,4 +68,12 @@ returns-in_err-read_piece-clause-counted g c =
 
 pub returns-in_err-read_piece-clause-some : goal.returns-in_err-read_piece-clause-some
 returns-in_err-read_piece-clause-some g c =
-    took_some _ (c.args.most + 1) _ _ _ _ (omega (arith, c.loop-source.invariant.most)) c.loop-source.invariant.took c.read_piece.ensures.some
+    took_some _ (c.args.most + 1) _ _ _ _ c.loop-source.invariant.most c.loop-source.invariant.took c.read_piece.ensures.some
+
+pub returns-clause-some : goal.returns-clause-some
+returns-clause-some g c =
+    elim c.loop-source-test.branch [
+      | else-loop-source-test w ↦ rw w.source-is (λ left e. (vec_len c.loop-source.bytes, c.loop-source.invariant.most, (c.loop-source.invariant.took left e).1))
+      | then-loop-source-test+in_ok-read_piece+then-branch-eq0 w ↦
+          rw w.source-is (took_some _ (c.args.most + 1) _ _ _ _ c.loop-source.invariant.most c.loop-source.invariant.took w.in_ok-read_piece.ensures.some)
+    ]
