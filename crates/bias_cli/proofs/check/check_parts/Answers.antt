@@ -26,8 +26,8 @@ returns-in_default g c =
     let a = c.args in
     let s = g.K.Sink in
     elim c.in-Err.ensures.err [
-      | inl is ↦ inr (told (sink_seen s a.sink.now) (sink_seen s c.finish_with.new.sink) c.finish_with.result 3 _ (refusal_text c.in-Err.error) c.bytes.result.now
-          c.finish_with.ensures.left c.finish_with.ensures.written (c.bytes.ensures.text ∙ c.refusal_line.ensures)
+      | inl is ↦ inr (told (sink_seen s a.sink.now) (sink_seen s c.finish_with.new.sink) c.finish_with.result 3 _ (refusal_text c.in-Err.error)
+          c.bytes.result.now c.finish_with.ensures.left c.finish_with.ensures.written (c.bytes.ensures.text ∙ c.refusal_line.ensures)
           (ap (journal_due a.fuel a.start (lines_of a.parts.journal.now)) is))
       | inr wanting ↦ absurd (c.in_default.not-NoMemory (ap (λ (e : ProgramError). e.why) wanting))
     ]

@@ -43,9 +43,10 @@ returns-clause-fault g c = λ e. absurd (cc e)
 
 pub returns-clause-counted : goal.returns-clause-counted
 returns-clause-counted g c =
+    let before = c.loop-source.invariant.counted in
     elim c.loop-source-test.branch [
-      | else-loop-source-test w ↦ rw w.source-is c.loop-source.invariant.counted
-      | then-loop-source-test+in_ok-read_piece+then-branch-eq0 w ↦ rw w.source-is (omega (arith, c.loop-source.invariant.counted, w.in_ok-read_piece.ensures.counted))
+      | else-loop-source-test w ↦ rw w.source-is before
+      | then-loop-source-test+in_ok-read_piece+then-branch-eq0 w ↦ rw w.source-is (omega (arith, before, w.in_ok-read_piece.ensures.counted))
     ]
 
 pub returns-clause-took : goal.returns-clause-took
@@ -72,8 +73,9 @@ returns-in_err-read_piece-clause-some g c =
 
 pub returns-clause-some : goal.returns-clause-some
 returns-clause-some g c =
+    let inv = c.loop-source.invariant in
     elim c.loop-source-test.branch [
-      | else-loop-source-test w ↦ rw w.source-is (λ left e. (vec_len c.loop-source.bytes, c.loop-source.invariant.most, (c.loop-source.invariant.took left e).1))
+      | else-loop-source-test w ↦ rw w.source-is (λ left e. (vec_len c.loop-source.bytes, inv.most, (inv.took left e).1))
       | then-loop-source-test+in_ok-read_piece+then-branch-eq0 w ↦
-          rw w.source-is (took_some _ (c.args.most + 1) _ _ _ _ c.loop-source.invariant.most c.loop-source.invariant.took w.in_ok-read_piece.ensures.some)
+          rw w.source-is (took_some _ (c.args.most + 1) _ _ _ _ inv.most inv.took w.in_ok-read_piece.ensures.some)
     ]

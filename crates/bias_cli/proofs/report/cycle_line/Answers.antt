@@ -22,6 +22,7 @@ loop-link-preserved c =
 pub returns : goal.returns
 returns c =
     let text = link_text c.args.program.now in
-    let put = all_put text c.items-link-items.result.now _ c.loop-link.link-index c.loop-link.line.items c.loop-link.invariant.gathered c.loop-link-test.false in
+    let inv = c.loop-link.invariant in
+    let put = all_put text c.items-link-items.result.now _ c.loop-link.link-index c.loop-link.line.items inv.gathered c.loop-link-test.false in
     c.in_ok-push_bytes-2.ensures ∙ ap (λ l. l ++ newline) put
-    ∙ ap (λ (links : List Link). (codes "cycle" ++ flat_map text links) ++ newline) c.loop-link.invariant.items
+    ∙ ap (λ (links : List Link). (codes "cycle" ++ flat_map text links) ++ newline) inv.items
