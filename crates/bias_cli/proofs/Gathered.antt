@@ -1,12 +1,7 @@
 -- What is gathered of the elements of a list, one after the other: so far, with what is still to come, it is the whole.
-use Rattle.std.proofs.Common.{◌≡◌, ℕ, ◌+◌, ◌<◌, ◌≤◌, Bool, true, List, [], ◌∷◌, ◌++◌, length, drop, get_or, map, sym, ap, ◌∙◌, append_assoc, append-nil}
-use Rattle.std.specs.Prelude.{if◌then◌else◌}
+use Rattle.std.proofs.Common.{◌≡◌, ℕ, ◌+◌, ◌<◌, ◌≤◌, List, [], ◌∷◌, ◌++◌, length, drop, get_or, map, sym, ap, ◌∙◌, append_assoc, append-nil}
 use Rattle.std.specs.List.{flat_map}
 use Rattle.std.proofs.lemmas.List.{drop_all, drop_more}
-
--- a push that succeeded
-pub added : {A : Type 0} (ys zs : List A) (y : A) (ok : Bool) → true ≡ ok → zs ≡ (if ok then ys ++ y ∷ [] else ys) → zs ≡ ys ++ y ∷ []
-added ys zs y ok is are = are ∙ ap (λ b. if b then ys ++ y ∷ [] else ys) (sym is)
 
 module _ {A B : Type 0} (f : A → B) (xs : List A) (whole : List B) (i : ℕ) where
   pub one_more : (d : A) (y : B) (ys zs : List B) → ys ++ map f (drop i xs) ≡ whole → i < length xs → zs ≡ ys ++ y ∷ [] → y ≡ f (get_or xs i d)

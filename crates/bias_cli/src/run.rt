@@ -188,10 +188,7 @@ fn ran_by<R: Threads + Wait + Sync, C: Clock + Sync, G: Gate + Sync>(
 {
     let settings = settings_of(options);
     let ran = run_program(rt, alloc, program, &settings, clock, gate)?;
-    match Box::new(alloc, ran) {
-        Ok(ran) => Ok(ran),
-        Err(_) => Err(NoMemory),
-    }
+    Box::new(alloc, ran).map_err(|_| NoMemory)
 }
 
 /// The machine under the record, where the logs alone don't tell what is to be written: a log doesn't end with its thread's ending, a

@@ -144,7 +144,7 @@ impl MachineMoves {
         ensures key { IfOk result (λ r. IsKey program.now fuel r.1.items) }
     {
         let mut scratch = empty_scratch(alloc, program)?;
-        let words = fill(alloc, &mut scratch, fuel, steps)?;
+        let words = first_key(alloc, &mut scratch, fuel, steps)?;
         let moves = MachineMoves {
             alloc,
             scratch,
@@ -163,7 +163,7 @@ impl MachineMoves {
         ensures again { IfOk result (λ to. IfSome to (λ v. IsKey self.old.program self.old.fuel v.items)) }
         ensures same { self.new ≡ self.old }
     {
-        lead(self.alloc, &mut self.scratch, key, t, self.fuel, self.steps)
+        next_key(self.alloc, &mut self.scratch, key, t, self.fuel, self.steps)
     }
 
     /// How the machine of a key ends; `None` where it goes on. After an error each later call fails too.
@@ -172,7 +172,7 @@ impl MachineMoves {
         ensures end { IfOk result (λ e. e ≡ end_of (machine_of self.old.program self.old.fuel key.now)) }
         ensures same { self.new ≡ self.old }
     {
-        look_at(&mut self.scratch, key, self.fuel)
+        end_of_key(&mut self.scratch, key, self.fuel)
     }
 }
 
@@ -180,10 +180,7 @@ impl MachineMoves {
 pub(crate) fn boxed<T: Drop>(alloc: Global, value: T) -> Result<Box<T>, NoMemory>
     ensures { IfOk result (λ b. b.value ≡ value) }
 {
-    match Box::new(alloc, value) {
-        Ok(boxed) => Ok(boxed),
-        Err(_) => Err(NoMemory),
-    }
+    Box::new(alloc, value).map_err(|_| NoMemory)
 }
 
 /// A copy of the program, with no machine.
@@ -200,8 +197,8 @@ fn empty_scratch(alloc: Global, program: &Program) -> Result<Box<Scratch>, NoMem
     )
 }
 
-/// The program's first machine, which is at hand from then on where nothing fails.
-fn new_machine(alloc: Global, scratch: &mut Scratch, fuel: u32) -> Result<(), NoMemory>
+/// Makes the program's first machine, which is at hand from then on where nothing fails.
+fn make_machine(alloc: Global, scratch: &mut Scratch, fuel: u32) -> Result<(), NoMemory>
     ensures program { scratch.new.program ≡ scratch.old.program }
     ensures machine { OnOk result (scratch.new.machine ≡ Some (new_machine scratch.old.program fuel)) }
 {
@@ -210,17 +207,23 @@ fn new_machine(alloc: Global, scratch: &mut Scratch, fuel: u32) -> Result<(), No
     Ok(())
 }
 
-/// Where the program's first machine comes to by entries that go alone: its words. It is at hand from then on, where nothing fails.
-fn fill(alloc: Global, scratch: &mut Scratch, fuel: u32, steps: u32) -> Result<Vec<u64>, NoMemory>
+/// The key of the program's first machine, once it has come to where entries that go alone lead. It is at hand from then on, where nothing
+/// fails.
+fn first_key(
+    alloc: Global,
+    scratch: &mut Scratch,
+    fuel: u32,
+    steps: u32,
+) -> Result<Vec<u64>, NoMemory>
     requires { 1 ≤ fuel }
     ensures program { scratch.new.program ≡ scratch.old.program }
     ensures kept { OnOk result (IsScratch scratch.old.program fuel scratch.new.machine) }
     ensures first { IfOk result (λ words. words.items ≡ first_key scratch.old.program fuel steps) }
     ensures key { IfOk result (λ words. IsKey scratch.old.program fuel words.items) }
 {
-    new_machine(alloc, scratch, fuel)?;
+    make_machine(alloc, scratch, fuel)?;
     let Some(machine) = &mut scratch.machine else {
-        return Err(NoMemory);
+        unreachable!()
     };
     settle_first(machine, fuel, steps);
     let words = words_of(alloc, machine, 0)?;
@@ -260,15 +263,15 @@ fn load_key(scratch: &mut Scratch, key: &[u64], fuel: u32) -> Result<(), SearchE
     }
 }
 
-/// No machine is at hand.
-fn clear(scratch: &mut Scratch)
+/// No machine is at hand from now on.
+fn drop_machine(scratch: &mut Scratch)
     ensures { scratch.new ≡ record scratch.old { machine = None } }
 {
     scratch.machine = None;
 }
 
 /// Where a key leads to by the next entry of thread t, if it has one. After an error no machine is at hand.
-fn lead(
+fn next_key(
     alloc: Global,
     scratch: &mut Scratch,
     key: &[u64],
@@ -288,7 +291,7 @@ fn lead(
 {
     load_key(scratch, key, fuel)?;
     let Some(machine) = &mut scratch.machine else {
-        return Err(SearchError::NoState);
+        unreachable!()
     };
     match step(alloc, machine, t, fuel, steps, key.len()) {
         Ok(to) => {
@@ -296,14 +299,18 @@ fn lead(
             Ok(to)
         }
         Err(NoMemory) => {
-            clear(scratch);
+            drop_machine(scratch);
             Err(SearchError::NoMemory)
         }
     }
 }
 
 /// How the machine of a key ends. After an error no machine is at hand.
-fn look_at(scratch: &mut Scratch, key: &[u64], fuel: u32) -> Result<Option<End>, SearchError>
+fn end_of_key(
+    scratch: &mut Scratch,
+    key: &[u64],
+    fuel: u32,
+) -> Result<Option<End>, SearchError>
     requires kept { IsScratch scratch.old.program fuel scratch.old.machine }
     requires key { IsKey scratch.old.program fuel key.now }
     ensures program { scratch.new.program ≡ scratch.old.program }
@@ -313,7 +320,7 @@ fn look_at(scratch: &mut Scratch, key: &[u64], fuel: u32) -> Result<Option<End>,
     load_key(scratch, key, fuel)?;
     match &scratch.machine {
         Some(machine) => Ok(end_of(machine)),
-        None => Err(SearchError::NoState),
+        None => unreachable!(),
     }
 }
 

@@ -7,5 +7,5 @@ pub mod Numbered
 pub mod Ending
 pub mod Over
 pub mod Closing
-mod Pushed
+pub mod Pushed
 mod Seats

@@ -1,5 +1,5 @@
 -- Runners in the slots of a pool.
-use Rattle.std.proofs.Common.{◌≡◌, ℕ, true, false, Bool, List, [], ◌∷◌, Some, length, sym, subst, ⊎_elim, inl, inr}
+use Rattle.std.proofs.Common.{◌≡◌, ℕ, ◌<◌, true, false, Bool, List, [], ◌∷◌, Some, length, sym, ap, subst, arith, ⊎_elim, inl, inr}
 use Rattle.std.specs.Prelude.{slice_get}
 use Rattle.heap_table.specs.Seen.{HeapSeen}
 use Rattle.object_program.specs.Program.{ProgramText}
@@ -49,6 +49,23 @@ lies_on h p fuel tick u w i r q lies gone stands = record {
   timed = gone.timed lies.timed;
   stands = stands;
 }
+
+-- and who gave it turns may give it back
+pub gives_back : {ch : HeapSeen} {cp : ProgramText} {cf ct : ℕ} {h : HeapSeen} {p : ProgramText} {fuel tick i : ℕ} {m : Me RunnerSeen SeatView}
+    {x y : RunnerSeen} {w : Word} → IsCourse ch cp cf ct h p fuel tick
+    → ((r : RunnerSeen) × MayLie ch cp cf ct Ready i r × (m ≡ (seat_view 1 (Some i) false, (i, r) ∷ []))) → m.1 ≡ (i, x) ∷ rest m.1
+    → HasGoneOn h p tick x y → StandsUnder w y
+    → (parts : ℕ) × (over : Bool) × (r : RunnerSeen) × (0 < parts) × ((m.0, (i, y) ∷ rest m.1) ≡ (seat_view parts (Some i) over, (i, r) ∷ []))
+    × MayLie ch cp cf ct w i r
+gives_back {ch} {cp} {cf} {ct} {h} {p} {fuel} {tick} {i} {m} {x} {y} {w} is t value gone stands =
+    let none-left : rest m.1 ≡ [] = ap (λ (n : Me RunnerSeen SeatView). rest n.1) t.2 in (
+      1,
+      false,
+      y,
+      omega arith,
+      (λ j. ((t.2 j).0, (i, y) ∷ none-left j)),
+      as_course ch cp cf ct h p fuel tick w i y is (lies_on h p fuel tick Ready w i x y (lies_held is t value) gone stands),
+    )
 
 pub over_as_called : (ch : HeapSeen) (cp : ProgramText) (cf ct : ℕ) (h : HeapSeen) (p : ProgramText) (fuel tick : ℕ) (rs : List RunnerSeen)
     → IsCourse ch cp cf ct h p fuel tick → EndsOver (MayLie ch cp cf ct) rs → EndsOver (MayLie h p fuel tick) rs

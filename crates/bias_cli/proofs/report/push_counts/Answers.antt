@@ -1,6 +1,7 @@
 use Rattle.std.proofs.Common.{refl, ap, ◌∙◌}
+use Rattle.program_run.proofs.Pushed.{pushed_well}
 use Rattle.bias_cli.specs.Report.{count_line}
-use Rattle.bias_cli.proofs.Gathered.{added, one_more, all_in}
+use Rattle.bias_cli.proofs.Gathered.{one_more, all_in}
 use Rattle.bias_cli.proofs.report.push_counts.Goals as goal
 
 pub loop-count-init : goal.loop-count-init
@@ -15,7 +16,7 @@ loop-count-preserved c =
     let before = c.loop-count.lines.items in
     let after = c.push.new.self.items in
     one_more (count_line a.program.now) a.counts.now _ c.loop-count.count-index c.count-item.result c.of.result before after
-    c.loop-count.invariant c.loop-count-test.true (added before after c.of.result _ c.in_ok-map_err.ensures.variant c.push.ensures.items)
+    c.loop-count.invariant c.loop-count-test.true (pushed_well _ before after c.of.result c.push.ensures.items c.in_ok-map_err.ensures.variant)
     (c.of.ensures ∙ c.in_ok-line.ensures ∙ ap (count_line a.program.now) c.count-item.is)
 
 pub returns : goal.returns

@@ -5,15 +5,17 @@ use Rattle.bias_cli.proofs.run.write_run.Goals as goal
 
 pub returns : goal.returns
 returns g c p is =
-    let under = is_under c.args.options.now p c.args.done.ran.value.record c.args.done.ran.value.closed c.args.done.machine c.args.done.report.items is c.requires.reported in (
-      c.args.done.ran.value.record,
-      c.args.done.ran.value.closed,
+    let done = c.args.done in
+    let ran = done.ran.value in
+    let under = is_under c.args.options.now p ran.record ran.closed done.machine done.report.items is c.requires.reported in (
+      ran.record,
+      ran.closed,
       ap (λ (r : Ran). Some r.record) c.into_inner-run.ensures,
       ap (λ (r : Ran). Some r.closed) c.into_inner-run.ensures,
       record {
         machine = under.machine;
         run = under.run;
-        report = c.args.done.report.items;
+        report = done.report.items;
         reported = under.reported;
         written = rw (c.deref.ensures, c.deref-2.ensures.value, under.status, under.lines) at c.write_done-status.ensures;
       },

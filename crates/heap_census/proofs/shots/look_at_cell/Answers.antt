@@ -5,28 +5,27 @@ use Rattle.core_world.specs.declared.word_id.WordId.TheVariants.{Mark}
 use Rattle.core_world.specs.Clauses.WordForms.{IsMark}
 use Rattle.core_world.specs.Trees.LookSteps.{look_at_named}
 use Rattle.core_world.specs.Trees.Plans.{load}
-use Rattle.heap_table.specs.Parts.{IsDueOn, HasMadeSteps}
 use Rattle.heap_table.proofs.Forms.{found_formed}
-use Rattle.heap_table.proofs.Parts.{can, rest_due, stepped}
-use Rattle.heap_census.specs.inner.ShotParts.{cell_at}
+use Rattle.heap_table.proofs.StepsLeft.{AreLeft, all_left, can_make, step_made, left_as}
+use Rattle.heap_census.specs.inner.ShotParts.{cell_at, look_at_cell}
 use Rattle.heap_census.proofs.Later.{load_later, load_settled, later_than}
 use Rattle.heap_census.proofs.shots.look_at_cell.Goals as goal
+use Rattle.heap_census.proofs.shots.look_at_cell.Goals.{In-Some}
 
 pub load-mark-requires : goal.load-mark-requires
-load-mark-requires c =
-    let a = c.args in
-    can a.heap.now a.pass.now a.call.now.task (load a.call.now (Mark a.object)) _ c.requires.due refl c.requires.heap tt refl
+load-mark-requires c = can_make (all_left c.requires.heap c.requires.due) refl refl refl tt
+
+-- the word is loaded, and has a form
+form : (c : In-Some) → read_mark c.load-mark.result ≡ Some c.in-Some.form
+form c = sym c.mark_of_word.ensures ∙ c.in-Some.is
+
+loaded : (c : In-Some) → AreLeft c.args.heap.now c.args.call.now.task c.args.pass.now (look_at_cell c.args.call.now c.args.heap.now.heap.shape c.args.object)
+    c.load-mark.new.pass (look_at_named (Some c.in-Some.form) c.args.call.now c.args.heap.now.heap.shape c.args.object)
+loaded c = left_as (step_made (all_left c.requires.heap c.requires.due) refl refl refl c.load-mark.ensures)
+    (ap (λ (f : Option MarkForm). look_at_named f c.args.call.now c.args.heap.now.heap.shape c.args.object) (form c))
 
 pub look_at_named-requires-clause-due : goal.look_at_named-requires-clause-due
-look_at_named-requires-clause-due c =
-    let a = c.args in
-    let h = a.heap.now in
-    let e = a.call.now in
-    let q = c.load-mark.new.pass in
-    let n = c.load-mark.result in
-    let form : read_mark n ≡ Some c.in-Some.form = sym c.mark_of_word.ensures ∙ c.in-Some.is in
-    let rest = rest_due h a.pass.now e.task (load e (Mark a.object)) _ c.requires.due refl q n c.load-mark.ensures in
-    subst (λ (f : Option MarkForm). IsDueOn h q e.task (look_at_named f e h.heap.shape a.object)) form rest
+look_at_named-requires-clause-due c = (loaded (goal.at.look_at_named-requires-clause-due c).In-Some).due
 
 pub look_at_named-requires-clause-reached : goal.look_at_named-requires-clause-reached
 look_at_named-requires-clause-reached c =
@@ -42,22 +41,14 @@ unreachable-requires c =
     (found_formed h a.pass.now c.load-mark.new.pass (load a.call.now (Mark a.object)) c.load-mark.result c.load-mark.ensures)
 
 pub returns-clause-run : goal.returns-clause-run
-returns-clause-run c =
-    let a = c.args in
-    let h = a.heap.now in
-    let e = a.call.now in
-    let q = c.load-mark.new.pass in
-    let r = c.look_at_named.new.pass in
-    let n = c.load-mark.result in
-    let form : read_mark n ≡ Some c.in-Some.form = sym c.mark_of_word.ensures ∙ c.in-Some.is in
-    stepped h a.pass.now q r (load e (Mark a.object)) _ n tt c.load-mark.ensures refl
-    (subst (λ (f : Option MarkForm). HasMadeSteps h (look_at_named f e h.heap.shape a.object) q r tt) (sym form) c.look_at_named.ensures.run)
+returns-clause-run c = (loaded (goal.at.returns-clause-run c).In-Some).whole _ _ c.look_at_named.ensures.run
 
 pub returns-clause-later : goal.returns-clause-later
 returns-clause-later c =
     let a = c.args in
     later_than a.pass.now.known c.load-mark.new.pass.known c.look_at_named.new.pass.known
-    (load_later a.heap.now a.pass.now c.load-mark.new.pass a.call.now (Mark a.object) c.load-mark.result c.requires.heap c.requires.reached c.load-mark.ensures)
+    (load_later a.heap.now a.pass.now c.load-mark.new.pass a.call.now
+    (Mark a.object) c.load-mark.result c.requires.heap c.requires.reached c.load-mark.ensures)
     c.look_at_named.ensures.later
 
 pub returns-clause-cell : goal.returns-clause-cell
@@ -65,7 +56,7 @@ returns-clause-cell c = λ l later.
     let a = c.args in
     let q = c.load-mark.new.pass in
     let n = c.load-mark.result in
-    let form : read_mark n ≡ Some c.in-Some.form = sym c.mark_of_word.ensures ∙ c.in-Some.is in
     let now = later_than q.known c.look_at_named.new.pass.known l c.look_at_named.ensures.later later in
     let word = load_settled a.heap.now a.pass.now q a.call.now (Mark a.object) n c.requires.heap c.requires.reached c.load-mark.ensures l now in
-    ap (λ (f : Option MarkForm). cell_at f a.heap.now.heap.shape a.object l) (ap read_mark word ∙ form) ∙ c.look_at_named.ensures.cell l later
+    ap (λ (f : Option MarkForm). cell_at f a.heap.now.heap.shape a.object l) (ap read_mark word ∙ form (goal.at.returns-clause-cell c).In-Some)
+    ∙ c.look_at_named.ensures.cell l later

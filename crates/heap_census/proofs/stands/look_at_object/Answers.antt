@@ -1,30 +1,25 @@
-use Rattle.std.proofs.Common.{◌≡◌, refl, sym, ◌∙◌, subst, Option, Some}
+use Rattle.std.proofs.Common.{Option, Some, refl, sym, ap, ◌∙◌, subst}
 use Rattle.mark_word.specs.declared.mark.MarkForm.{MarkForm}
-use Rattle.mark_word.specs.Mark.{read_mark}
 use Rattle.core_world.specs.declared.word_id.WordId.TheVariants.{Mark}
 use Rattle.core_world.specs.Clauses.WordForms.{IsMark}
-use Rattle.core_world.specs.Trees.LookSteps.{look_at_monitor}
+use Rattle.core_world.specs.Trees.LookSteps.{look_at_object, look_at_monitor}
 use Rattle.core_world.specs.Trees.Plans.{load}
-use Rattle.heap_table.specs.Parts.{IsDueOn, HasMadeSteps}
 use Rattle.heap_table.proofs.Forms.{found_formed}
-use Rattle.heap_table.proofs.Parts.{can, rest_due, stepped}
+use Rattle.heap_table.proofs.StepsLeft.{AreLeft, all_left, can_make, step_made, left_as}
 use Rattle.heap_census.proofs.stands.look_at_object.Goals as goal
+use Rattle.heap_census.proofs.stands.look_at_object.Goals.{In-Some}
 
 pub load-mark-requires : goal.load-mark-requires
-load-mark-requires c =
-    let a = c.args in
-    can a.heap.now a.pass.now a.call.now.task (load a.call.now (Mark a.object)) _ c.requires.due refl c.requires.heap tt refl
+load-mark-requires c = can_make (all_left c.requires.heap c.requires.due) refl refl refl tt
+
+-- the word is loaded, and has a form
+loaded : (c : In-Some) → AreLeft c.args.heap.now c.args.call.now.task c.args.pass.now (look_at_object c.args.call.now c.args.thread c.args.object)
+    c.load-mark.new.pass (look_at_monitor (Some c.in-Some.form) c.args.call.now c.args.thread)
+loaded c = left_as (step_made (all_left c.requires.heap c.requires.due) refl refl refl c.load-mark.ensures)
+    (ap (λ (f : Option MarkForm). look_at_monitor f c.args.call.now c.args.thread) (sym c.mark_of_word.ensures ∙ c.in-Some.is))
 
 pub look_at_monitor-requires-clause-due : goal.look_at_monitor-requires-clause-due
-look_at_monitor-requires-clause-due c =
-    let a = c.args in
-    let h = a.heap.now in
-    let e = a.call.now in
-    let q = c.load-mark.new.pass in
-    let mark = c.load-mark.result in
-    let form : read_mark mark ≡ Some c.in-Some.form = sym c.mark_of_word.ensures ∙ c.in-Some.is in
-    let rest = rest_due h a.pass.now e.task (load e (Mark a.object)) _ c.requires.due refl q mark c.load-mark.ensures in
-    subst (λ (f : Option MarkForm). IsDueOn h q e.task (look_at_monitor f e a.thread)) form rest
+look_at_monitor-requires-clause-due c = (loaded (goal.at.look_at_monitor-requires-clause-due c).In-Some).due
 
 pub unreachable-requires : goal.unreachable-requires
 unreachable-requires c =
@@ -34,14 +29,4 @@ unreachable-requires c =
     (found_formed h a.pass.now c.load-mark.new.pass (load a.call.now (Mark a.object)) c.load-mark.result c.load-mark.ensures)
 
 pub returns : goal.returns
-returns c =
-    let a = c.args in
-    let h = a.heap.now in
-    let e = a.call.now in
-    let q = c.load-mark.new.pass in
-    let r = c.look_at_monitor.new.pass in
-    let mark = c.load-mark.result in
-    let x = c.look_at_monitor.result in
-    let form : read_mark mark ≡ Some c.in-Some.form = sym c.mark_of_word.ensures ∙ c.in-Some.is in
-    stepped h a.pass.now q r (load e (Mark a.object)) _ mark x c.load-mark.ensures refl
-    (subst (λ (f : Option MarkForm). HasMadeSteps h (look_at_monitor f e a.thread) q r x) (sym form) c.look_at_monitor.ensures)
+returns c = (loaded (goal.at.returns c).In-Some).whole _ _ c.look_at_monitor.ensures

@@ -1,30 +1,26 @@
-use Rattle.std.proofs.Common.{◌≡◌, refl, sym, ◌∙◌, subst, Option, Some}
+use Rattle.std.proofs.Common.{Option, Some, refl, sym, ap, ◌∙◌, subst}
 use Rattle.mark_word.specs.declared.wait.WaitForm.{WaitForm}
-use Rattle.mark_word.specs.Wait.{read_wait}
 use Rattle.core_world.specs.declared.word_id.WordId.TheVariants.{Waiting}
 use Rattle.core_world.specs.Clauses.WordForms.{IsWait}
 use Rattle.core_world.specs.Trees.LookSteps.{look_at_wait}
 use Rattle.core_world.specs.Trees.Plans.{load}
-use Rattle.heap_table.specs.Parts.{IsDueOn, HasMadeSteps}
 use Rattle.heap_table.proofs.Forms.{found_formed}
-use Rattle.heap_table.proofs.Parts.{can, rest_due, stepped}
+use Rattle.heap_table.proofs.StepsLeft.{AreLeft, all_left, can_make, step_made, left_as}
+use Rattle.heap_census.specs.inner.StandParts.{look_at_thread}
 use Rattle.heap_census.proofs.stands.look_at_thread.Goals as goal
+use Rattle.heap_census.proofs.stands.look_at_thread.Goals.{In-Some}
 
 pub load-word-requires : goal.load-word-requires
-load-word-requires c =
-    let a = c.args in
-    can a.heap.now a.pass.now a.call.now.task (load a.call.now (Waiting a.thread)) _ c.requires.due refl c.requires.heap tt refl
+load-word-requires c = can_make (all_left c.requires.heap c.requires.due) refl refl refl tt
+
+-- the word is loaded, and has a form
+loaded : (c : In-Some) → AreLeft c.args.heap.now c.args.call.now.task c.args.pass.now (look_at_thread c.args.call.now c.args.thread)
+    c.load-word.new.pass (look_at_wait (Some c.in-Some.form) c.args.call.now c.args.thread)
+loaded c = left_as (step_made (all_left c.requires.heap c.requires.due) refl refl refl c.load-word.ensures)
+    (ap (λ (f : Option WaitForm). look_at_wait f c.args.call.now c.args.thread) (sym c.wait_of_word.ensures ∙ c.in-Some.is))
 
 pub look_at_wait-requires-clause-due : goal.look_at_wait-requires-clause-due
-look_at_wait-requires-clause-due c =
-    let a = c.args in
-    let h = a.heap.now in
-    let e = a.call.now in
-    let q = c.load-word.new.pass in
-    let word = c.load-word.result in
-    let form : read_wait word ≡ Some c.in-Some.form = sym c.wait_of_word.ensures ∙ c.in-Some.is in
-    let rest = rest_due h a.pass.now e.task (load e (Waiting a.thread)) _ c.requires.due refl q word c.load-word.ensures in
-    subst (λ (f : Option WaitForm). IsDueOn h q e.task (look_at_wait f e a.thread)) form rest
+look_at_wait-requires-clause-due c = (loaded (goal.at.look_at_wait-requires-clause-due c).In-Some).due
 
 pub unreachable-requires : goal.unreachable-requires
 unreachable-requires c =
@@ -34,14 +30,4 @@ unreachable-requires c =
     (found_formed h a.pass.now c.load-word.new.pass (load a.call.now (Waiting a.thread)) c.load-word.result c.load-word.ensures)
 
 pub returns : goal.returns
-returns c =
-    let a = c.args in
-    let h = a.heap.now in
-    let e = a.call.now in
-    let q = c.load-word.new.pass in
-    let r = c.look_at_wait.new.pass in
-    let word = c.load-word.result in
-    let x = c.look_at_wait.result in
-    let form : read_wait word ≡ Some c.in-Some.form = sym c.wait_of_word.ensures ∙ c.in-Some.is in
-    stepped h a.pass.now q r (load e (Waiting a.thread)) _ word x c.load-word.ensures refl
-    (subst (λ (f : Option WaitForm). HasMadeSteps h (look_at_wait f e a.thread) q r x) (sym form) c.look_at_wait.ensures)
+returns c = (loaded (goal.at.returns c).In-Some).whole _ _ c.look_at_wait.ensures

@@ -1,7 +1,7 @@
-use Rattle.std.proofs.Common.{◌≡◌, length, vec_len, vec_capacity, sym, ap, ◌∙◌, arith}
+use Rattle.std.proofs.Common.{◌≡◌, length, map, vec_len, vec_capacity, sym, ap, ◌∙◌, arith}
 use Rattle.std.proofs.lemmas.List.{length_push}
 use Rattle.thread_interp.specs.Runners.{RunnerSeen}
-use Rattle.run_rounds.proofs.Pushed.{has_room, whole_on, pushed_on, all_pushed}
+use Rattle.run_rounds.proofs.Pushed.{has_room, whole_on, all_before, pushed_on}
 use Rattle.run_rounds.proofs.runs.into_passes.Goals as goal
 
 pub loop-runner-init : goal.loop-runner-init
@@ -20,16 +20,13 @@ loop-runner-init c =
 pub push_reserved-requires : goal.push_reserved-requires
 push_reserved-requires c =
     let inv = c.loop-runner.invariant in
-    let before = c.loop-runner.yielded in
-    let rest = c.loop-runner.runner-iterator.rest.items in
-    has_room (λ (r : RunnerSeen). r.pass) c.args.runners.items before rest inv.whole c.in-Some.runner c.next.new.self.rest.items (vec_len c.loop-runner.passes) (vec_capacity c.loop-runner.passes)
-    c.in-Some.ensures.steps.0 inv.len inv.room
+    has_room c.args.runners.items c.loop-runner.yielded c.loop-runner.runner-iterator.rest.items inv.whole c.in-Some.runner c.next.new.self.rest.items
+    (vec_len c.loop-runner.passes) (vec_capacity c.loop-runner.passes) c.in-Some.ensures.steps.0 inv.len inv.room
 
 pub loop-runner-preserved : goal.loop-runner-preserved
 loop-runner-preserved c =
     let inv = c.loop-runner.invariant in
     let before = c.loop-runner.yielded in
-    let rest = c.loop-runner.runner-iterator.rest.items in
     let pushed = c.push_reserved.ensures in
     let added = pushed.len in
     let capacity = pushed.capacity in
@@ -37,8 +34,12 @@ loop-runner-preserved c =
     let room = inv.room in
     let more = length_push before c.in-Some.runner in
     record {
-      whole = whole_on (λ (r : RunnerSeen). r.pass) c.args.runners.items before rest inv.whole c.in-Some.runner c.next.new.self.rest.items c.in-Some.ensures.steps.0;
-      items = pushed_on (λ (r : RunnerSeen). r.pass) c.args.runners.items before rest inv.whole c.in-Some.runner c.into_pass.result c.loop-runner.passes.items c.push_reserved.new.self.items inv.items pushed.items c.into_pass.ensures;
+      whole =
+          whole_on c.args.runners.items before c.loop-runner.runner-iterator.rest.items inv.whole c.in-Some.runner c.next.new.self.rest.items
+          c.in-Some.ensures.steps.0;
+      items =
+          pushed_on (λ (r : RunnerSeen). r.pass) before c.in-Some.runner c.into_pass.result c.loop-runner.passes.items c.push_reserved.new.self.items
+          inv.items pushed.items c.into_pass.ensures;
       len = omega (arith, added, len, more);
       room = omega (arith, room, capacity);
     }
@@ -46,6 +47,7 @@ loop-runner-preserved c =
 pub returns : goal.returns
 returns c =
     let inv = c.loop-runner.invariant in
-    let before = c.loop-runner.yielded in
-    let rest = c.loop-runner.runner-iterator.rest.items in
-    all_pushed (λ (r : RunnerSeen). r.pass) c.args.runners.items before rest inv.whole c.loop-runner.passes.items (sym c.loop-runner.runner-iterator.rest.ok.0 ∙ c.in-None.ensures.steps.0) inv.items
+    let rest = c.loop-runner.runner-iterator.rest in
+    inv.items
+    ∙ ap (map (λ (r : RunnerSeen). r.pass))
+          (all_before c.args.runners.items c.loop-runner.yielded rest.items inv.whole (sym rest.ok.0 ∙ c.in-None.ensures.steps.0))

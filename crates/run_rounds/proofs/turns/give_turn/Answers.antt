@@ -1,10 +1,5 @@
-use Rattle.std.proofs.Common.{◌≡◌, [], ◌∷◌, false, ap, arith}
-use Rattle.turn_pool.specs.Table.{Me, rest}
-use Rattle.thread_interp.specs.Runners.{RunnerSeen}
-use Rattle.turn_pool.specs.declared.rule.SeatView.{SeatView}
-use Rattle.turn_pool.specs.declared.word.Word.TheVariants.{Ready}
 use Rattle.run_rounds.proofs.Seats.{first_held, free_again}
-use Rattle.run_rounds.proofs.Slotted.{as_course, lies_held, lies_on}
+use Rattle.run_rounds.proofs.Slotted.{lies_held, gives_back}
 use Rattle.run_rounds.proofs.turns.give_turn.Goals as goal
 
 pub slot_mut-runner-requires : goal.slot_mut-runner-requires
@@ -32,23 +27,7 @@ give-requires-clause-place g c = c.requires.place
 
 pub give-requires-clause-knows : goal.give-requires-clause-knows
 give-requires-clause-knows g c =
-    let t = c.requires.held in
-    let run = c.args.work.now.run in
-    let h = run.heap.now in
-    let p = run.program.now in
-    let after = c.turn_unless_ended-outcome.new.runner in
-    let none-left : rest c.args.mine.now.me.1 ≡ [] = ap (λ (m : Me RunnerSeen SeatView). rest m.1) t.2 in
-    let lies = lies_held c.requires.course t c.slot_mut-runner.ensures.value in (
-      1,
-      false,
-      after,
-      omega arith,
-      (λ i. ((t.2 i).0, (c.args.place, after) ∷ none-left i)),
-      as_course g.C.Course.heap g.C.Course.program g.C.Course.fuel g.C.Course.tick h p run.fuel run.tick
-          c.word_after_turn-word.result c.args.place after c.requires.course
-          (lies_on h p run.fuel run.tick Ready c.word_after_turn-word.result
-          c.args.place c.slot_mut-runner.result.now after lies c.turn_unless_ended-outcome.ensures.gone c.word_after_turn-word.ensures),
-    )
+    gives_back c.requires.course c.requires.held c.slot_mut-runner.ensures.value c.turn_unless_ended-outcome.ensures.gone c.word_after_turn-word.ensures
 
 pub returns-clause-table : goal.returns-clause-table
 returns-clause-table g c = c.give.ensures.table

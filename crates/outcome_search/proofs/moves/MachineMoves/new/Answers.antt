@@ -8,14 +8,14 @@ use Rattle.outcome_search.proofs.moves.MachineMoves.new.Goals as goal
 pub invariant_of-moves : goal.invariant_of-moves
 invariant_of-moves c =
     record {
-      scratch = subst (λ (p : ProgramText). IsScratch p c.args.fuel c.fill.new.scratch.machine) (sym c.fill.ensures.program) c.in_ok-words.ensures.kept;
+      scratch = subst (λ (p : ProgramText). IsScratch p c.args.fuel c.first_key.new.scratch.machine) (sym c.first_key.ensures.program) c.in_ok-words.ensures.kept;
       some = c.requires;
     }
 
 pub returns-clause-ways : goal.returns-clause-ways
 returns-clause-ways c =
     let is = ap (λ (z : Scratch). z.program) (c.deref_mut.ensures.value ∙ c.in_ok-scratch.ensures) in
-    ap (λ (p : ProgramText). record { program = p; fuel = c.args.fuel; steps = c.args.steps }) (c.fill.ensures.program ∙ is)
+    ap (λ (p : ProgramText). record { program = p; fuel = c.args.fuel; steps = c.args.steps }) (c.first_key.ensures.program ∙ is)
 
 pub returns-clause-first : goal.returns-clause-first
 returns-clause-first c =

@@ -5,7 +5,7 @@ use Rattle.machine_words.specs.MachineWords.{machine_of}
 use Rattle.outcome_search.specs.Keys.{IsFound, IsKept, IsKey, IsScratch}
 use Rattle.outcome_search.specs.NextWords.{next_of}
 use Rattle.outcome_search.proofs.Found.{found_own}
-use Rattle.outcome_search.proofs.moves.lead.Goals as goal
+use Rattle.outcome_search.proofs.moves.next_key.Goals as goal
 
 pub step-requires-clause-t : goal.step-requires-clause-t
 step-requires-clause-t c =

@@ -6,13 +6,13 @@ use Rattle.every_outcome.specs.Fuel.{refuelled}
 use Rattle.machine_words.specs.MachineWords.{words_of}
 use Rattle.outcome_search.specs.Keys.{IsKept}
 use Rattle.outcome_search.specs.Settled.{settled}
-use Rattle.outcome_search.proofs.moves.fill.Goals as goal
+use Rattle.outcome_search.proofs.moves.first_key.Goals as goal
 
 pub settle_first-requires-clause-first : goal.settle_first-requires-clause-first
 settle_first-requires-clause-first c =
     let p = c.args.scratch.now.program in
     let is : c.in-Some.machine ≡ new_machine p c.args.fuel =
-    same_Some c.in-Some.machine (new_machine p c.args.fuel) (sym c.in-Some.is ∙ c.in_ok-new_machine.ensures.machine) in
+    same_Some c.in-Some.machine (new_machine p c.args.fuel) (sym c.in-Some.is ∙ c.in_ok-make_machine.ensures.machine) in
     is ∙ ap (λ (q : ProgramText). new_machine q c.args.fuel) (sym (ap (λ (m : PlainMachine). m.program) is))
 
 pub words_of-requires : goal.words_of-requires
@@ -23,11 +23,11 @@ returns c =
     let p = c.args.scratch.now.program in
     let fuel = c.args.fuel in
     let is : c.in-Some.machine ≡ new_machine p fuel =
-    same_Some c.in-Some.machine (new_machine p fuel) (sym c.in-Some.is ∙ c.in_ok-new_machine.ensures.machine) in
+    same_Some c.in-Some.machine (new_machine p fuel) (sym c.in-Some.is ∙ c.in_ok-make_machine.ensures.machine) in
     let kept : IsKept p fuel c.settle_first.new.machine =
     subst (λ (q : ProgramText). IsKept q fuel c.settle_first.new.machine) (ap (λ (m : PlainMachine). m.program) is) c.settle_first.ensures.kept in
     record {
-      program = c.new_machine.ensures.program;
+      program = c.make_machine.ensures.program;
       kept = kept;
       first =
           c.in_ok-words.ensures
