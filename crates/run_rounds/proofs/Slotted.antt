@@ -55,8 +55,8 @@ pub gives_back : {ch : HeapSeen} {cp : ProgramText} {cf ct : ℕ} {h : HeapSeen}
     {x y : RunnerSeen} {w : Word} → IsCourse ch cp cf ct h p fuel tick
     → ((r : RunnerSeen) × MayLie ch cp cf ct Ready i r × (m ≡ (seat_view 1 (Some i) false, (i, r) ∷ []))) → m.1 ≡ (i, x) ∷ rest m.1
     → HasGoneOn h p tick x y → StandsUnder w y
-    → (parts : ℕ) × (over : Bool) × (r : RunnerSeen) × (0 < parts) × ((m.0, (i, y) ∷ rest m.1) ≡ (seat_view parts (Some i) over, (i, r) ∷ []))
-    × MayLie ch cp cf ct w i r
+    → let now : Me RunnerSeen SeatView = (m.0, (i, y) ∷ rest m.1) in (parts : ℕ) × (over : Bool) × (r : RunnerSeen) × (0 < parts)
+    × (now ≡ (seat_view parts (Some i) over, (i, r) ∷ [])) × MayLie ch cp cf ct w i r
 gives_back {ch} {cp} {cf} {ct} {h} {p} {fuel} {tick} {i} {m} {x} {y} {w} is t value gone stands =
     let none-left : rest m.1 ≡ [] = ap (λ (n : Me RunnerSeen SeatView). rest n.1) t.2 in (
       1,
