@@ -1,7 +1,7 @@
 #!/usr/bin/env bash
 # Builds the C examples into the folder that is named, over the static library and the kit's three allocator functions:
 #     build.sh LIBRARY.a LIBC.a FOLDER
-# where LIBRARY.a is crates/lock_runtime_c/out/liblock_runtime_c.a, and LIBC.a is liblibc_c.a of the same build. CC and CFLAGS are taken over.
+# where LIBRARY.a is crates/lock_runtime_c/out/liblock_runtime_c.a, and LIBC.a is liblibc_c.a of the kit's folder c/. CC and CFLAGS are taken over.
 set -eu
 library=$1 libc=$2 to=$3
 here=$(cd "$(dirname "$0")" && pwd)
