@@ -306,11 +306,7 @@ fn next_key(
 }
 
 /// How the machine of a key ends. After an error no machine is at hand.
-fn end_of_key(
-    scratch: &mut Scratch,
-    key: &[u64],
-    fuel: u32,
-) -> Result<Option<End>, SearchError>
+fn end_of_key(scratch: &mut Scratch, key: &[u64], fuel: u32) -> Result<Option<End>, SearchError>
     requires kept { IsScratch scratch.old.program fuel scratch.old.machine }
     requires key { IsKey scratch.old.program fuel key.now }
     ensures program { scratch.new.program ≡ scratch.old.program }

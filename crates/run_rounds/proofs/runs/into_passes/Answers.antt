@@ -50,4 +50,4 @@ returns c =
     let rest = c.loop-runner.runner-iterator.rest in
     inv.items
     ∙ ap (map (λ (r : RunnerSeen). r.pass))
-          (all_before c.args.runners.items c.loop-runner.yielded rest.items inv.whole (sym rest.ok.0 ∙ c.in-None.ensures.steps.0))
+    (all_before c.args.runners.items c.loop-runner.yielded rest.items inv.whole (sym rest.ok.0 ∙ c.in-None.ensures.steps.0))
