@@ -1,5 +1,5 @@
 -- Two runs of a program of one thread.
-use Rattle.std.proofs.Common.{◌≡◌, ℕ, false, length, Some, refl, sym, ap, subst}
+use Rattle.std.proofs.Common.{◌≡◌, false, length, sym, ap, subst}
 use Rattle.heap_table.specs.Seen.{ClosedSeen}
 use Rattle.lock_journal.specs.RunText.{text_of_run}
 use Rattle.lock_journal.specs.declared.record.RunRecord.{RunRecord}

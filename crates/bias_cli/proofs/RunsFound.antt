@@ -1,6 +1,6 @@
 -- Each run ends as a search of its program found.
-use Rattle.std.proofs.Common.{◌≡◌, ◌⊎◌, inl, inr, ℕ, ◌≤◌, Bool, true, false, not, ◌||◌, cond, if◌then◌else◌, List, [], ◌∷◌, refl, sym, ap, ◌∙◌, subst}
-use Rattle.std.specs.List.{list_all, list_any}
+use Rattle.std.proofs.Common.{◌≡◌, ◌⊎◌, inl, inr, ℕ, ◌≤◌, Bool, true, false, ◌||◌, List, [], ◌∷◌, refl, sym, ◌∙◌, subst}
+use Rattle.std.specs.List.{list_any}
 use Rattle.std.proofs.lemmas.Bool.{true≢false}
 use Rattle.plain_monitor.specs.Limits.{most_fuel}
 use Rattle.plain_monitor.specs.declared.entry.Ending.TheVariants.{Trap, Spent, Done}
@@ -8,7 +8,7 @@ use Rattle.object_program.specs.Program.{ProgramText}
 use Rattle.plain_machine.specs.declared.monitor_call.Mode.{Mode}
 use Rattle.plain_machine.specs.declared.monitor_call.Mode.TheVariants.{Calling, Waiting, Unwinding, Ended}
 use Rattle.plain_machine.specs.Thread.{ThreadState}
-use Rattle.plain_machine.specs.Machine.{PlainMachine, ending_in, is_live, is_stuck}
+use Rattle.plain_machine.specs.Machine.{PlainMachine, ending_in, is_stuck}
 use Rattle.heap_table.specs.Seen.{ClosedSeen}
 use Rattle.lock_journal.specs.declared.record.RunRecord.{RunRecord}
 use Rattle.cli_args.specs.declared.options.Options.{Options}

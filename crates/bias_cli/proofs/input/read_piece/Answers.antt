@@ -1,7 +1,16 @@
 use Rattle.std.proofs.Common.{◌≡◌, ◌+◌, ◌≤◌, length, vec_len, sym, ap, ◌∙◌, arith}
 use Rattle.std.proofs.lemmas.List.{length-take-le}
 use Rattle.bias_cli.proofs.Takes.{in_buffer, front_length, took_behind, took_within, took_none}
+use Rattle.bias_cli.proofs.input.read_piece.Given.{Over}
 use Rattle.bias_cli.proofs.input.read_piece.Goals as goal
+use Rattle.bias_cli.proofs.input.read_piece.Goals.{After-read}
+
+-- a read leaves as long a buffer as it was given
+as_given : (g : Over) (c : After-read g) → length c.read.new.into ≡ c.min-room.result
+as_given g c =
+    let least = c.min-room.ensures in
+    let within : c.min-room.result ≤ 4096 = omega (arith, least) in
+    c.read.auto.into ∙ length-take-le c.min-room.result _ within
 
 pub overflow_add-most : goal.overflow_add-most
 overflow_add-most g c = let limit = c.requires.limit in omega (arith, limit)
@@ -64,8 +73,7 @@ returns-in-Ok-extend_from_slice-clause-most g c =
     let len = c.len.ensures in
     let room = c.requires.room in
     let least = c.min-room.ensures in
-    let within : c.min-room.result ≤ 4096 = omega (arith, least) in
-    let long : length c.read.new.into ≡ c.min-room.result = c.read.auto.into ∙ length-take-le c.min-room.result _ within in
+    let long = as_given g (goal.at.returns-in-Ok-extend_from_slice-clause-most g c).After-read in
     let bound = c.in-Ok.ensures.bound in
     let more : vec_len c.extend_from_slice.new.self ≡ vec_len c.args.bytes.now + c.in-Ok.n =
     c.in-Ok-extend_from_slice.ensures.len ∙ ap (λ k. vec_len c.args.bytes.now + k) (front_length c.in-Ok.n c.read.new.into _ bound) in
@@ -82,8 +90,7 @@ returns-in-Ok-extend_from_slice-clause-some g c =
     let s = g.S.Source in
     let len = c.len.ensures in
     let least = c.min-room.ensures in
-    let within : c.min-room.result ≤ 4096 = omega (arith, least) in
-    let long : length c.read.new.into ≡ c.min-room.result = c.read.auto.into ∙ length-take-le c.min-room.result _ within in
+    let long = as_given g (goal.at.returns-in-Ok-extend_from_slice-clause-some g c).After-read in
     let bound = c.in-Ok.ensures.bound in
     took_within c.in-Ok.n _ (s.left c.args.source.now) (s.left c.read.new.self) c.read.new.into (omega (arith, len, least, long, bound)) c.in-Ok.ensures.given
 
@@ -92,8 +99,7 @@ returns-in-Ok-extend_from_slice-clause-ended g c = λ none.
     let len = c.len.ensures in
     let room = c.requires.room in
     let least = c.min-room.ensures in
-    let within : c.min-room.result ≤ 4096 = omega (arith, least) in
-    let long : length c.read.new.into ≡ c.min-room.result = c.read.auto.into ∙ length-take-le c.min-room.result _ within in
+    let long = as_given g (goal.at.returns-in-Ok-extend_from_slice-clause-ended g c).After-read in
     c.in-Ok.ensures.ended none (omega (arith, len, room, least, long))
 
 pub returns-in-Err-clause-counted : goal.returns-in-Err-clause-counted
@@ -116,8 +122,7 @@ returns-in-Err-clause-some g c =
     let s = g.S.Source in
     let len = c.len.ensures in
     let least = c.min-room.ensures in
-    let within : c.min-room.result ≤ 4096 = omega (arith, least) in
-    let long : length c.read.new.into ≡ c.min-room.result = c.read.auto.into ∙ length-take-le c.min-room.result _ within in
+    let long = as_given g (goal.at.returns-in-Err-clause-some g c).After-read in
     let bound = c.in-Ok.ensures.bound in
     took_within c.in-Ok.n _ (s.left c.args.source.now) (s.left c.read.new.self) c.read.new.into (omega (arith, len, least, long, bound)) c.in-Ok.ensures.given
 
