@@ -98,7 +98,8 @@ fn ending_said(entry: &Entry) -> Option<Ending>
 
 /// Whether each thread's log ends with its ending entry.
 pub fn have_ended(run: &RunRecord) -> bool
-    ensures { result ≡ true → HaveEnded run.now.logs }
+    ensures all { result ≡ true → HaveEnded run.now.logs }
+    ensures only { HaveEnded run.now.logs → result ≡ true }
 {
     for log in run.logs.items() {
         if last_said(log.items()).is_none() {
