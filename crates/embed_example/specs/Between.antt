@@ -49,3 +49,7 @@ pub record IsBeside (h : HeapSeen) (p q : PassSeen) : Type 0 where
   pub unfinished : q.known.unfinished ≡ p.known.unfinished
   pub checking : q.known.checking ≡ p.known.checking
   pub limit : q.limit ≡ p.limit
+
+-- These are the passes of a heap of two threads, in the order of their threads.
+abbrev pub AreInOrder : HeapSeen → PassSeen → PassSeen → Type 0
+AreInOrder h first second = (h.heap.shape.threads ≡ 2) × ((first.known.thread ≡ 0) × (second.known.thread ≡ 1))

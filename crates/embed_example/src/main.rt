@@ -5,7 +5,7 @@
 //! the comments say how it is met here.
 #![tactic(auto)]
 
-ghost use Rattle.std.specs.Prelude.{◌≡◌, ℕ, ◌<◌, [], ◌∷◌, true, IfOk, IfErr, OnOk, OnErr};
+ghost use Rattle.std.specs.Prelude.{◌≡◌, ◌⊎◌, ℕ, ◌<◌, [], ◌∷◌, true, IfOk, IfErr, OnOk, OnErr};
 ghost use Rattle.core_world.specs.declared.heap_call.Operation.{Operation};
 ghost use Rattle.core_world.specs.declared.heap_call.Operation.TheVariants as op;
 ghost use Rattle.core_world.specs.Threads.References.{has_reference};
@@ -18,7 +18,7 @@ ghost use Rattle.plain_history.specs.ExactStamps.{StampsAreExact};
 ghost use Rattle.plain_monitor.specs.History.{LegalObjects};
 ghost use Rattle.plain_monitor.specs.declared.entry.Entry.TheVariants as entry;
 ghost use Rattle.embed_example.specs.Acts.{op_of, Tried, HasAdded, HasMade, IsGivenUp, IsNoEnd};
-ghost use Rattle.embed_example.specs.Between.{IsNew, IsFree, IsOver, MayTry, IsBeside};
+ghost use Rattle.embed_example.specs.Between.{AreInOrder, IsNew, IsFree, IsOver, MayTry, IsBeside};
 
 use core_world::{PendingCause, Progress};
 use heap_table::{Closed, Heap, HeapShape, Pass, close, wait_of_word};
@@ -338,15 +338,16 @@ pub fn knock<R: Wait>(rt: &R, heap: &Heap, mut pass: Pass) -> Result<Pass, Stop>
 
 // Whether these are the passes of a heap of two threads, in the order of their threads.
 fn in_order(heap: &Heap, first: &Pass, second: &Pass) -> bool
-    ensures { result ≡ true → (heap.now.heap.shape.threads ≡ 2)
-        × ((first.now.known.thread ≡ 0) × (second.now.known.thread ≡ 1)) }
+    ensures all { result ≡ true → AreInOrder heap.now first.now second.now }
+    ensures only { AreInOrder heap.now first.now second.now → result ≡ true }
 {
     heap.shape().threads() == 2 && first.thread() == 0 && second.thread() == 1
 }
 
 // The passes, in the order of their threads.
 fn listed(alloc: Global, first: Pass, second: Pass) -> Result<List<Pass>, Stop>
-    ensures { IfOk result (λ passes. passes ≡ first ∷ second ∷ []) }
+    ensures passes { IfOk result (λ passes. passes ≡ first ∷ second ∷ []) }
+    ensures memory { IfErr result (λ e. e ≡ stop.NoMemory) }
 {
     let Ok(mut passes) = Vec::with_capacity(alloc, 2) else {
         return Err(Stop::NoMemory);
@@ -363,6 +364,7 @@ pub fn close_door(alloc: Global, heap: Heap, first: Pass, second: Pass) -> Resul
     requires second { IsOver heap second }
     ensures legal { IfOk result (λ c. LegalObjects c.heap.shape.objects c.logs) }
     ensures stamps { IfOk result (λ c. StampsAreExact c.logs) }
+    ensures refused { IfErr result (λ e. (e ≡ stop.NoMemory) ⊎ ((e ≡ stop.Order) × (AreInOrder heap first second → ⊥))) }
 {
     if !in_order(&heap, &first, &second) {
         return Err(Stop::Order);

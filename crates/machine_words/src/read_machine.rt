@@ -16,7 +16,7 @@ use object_program::Program;
 use plain_machine::{Machine, Object, Parts, Register, Thread};
 
 /// The machine of these words, whose threads have this much fuel each. It is made of a machine of the same program, and takes memory only
-/// where that has no room. Where memory is wanting, `NoMemory`, and where the words are no machine's, `NoMachine`: the machine is gone then.
+/// where that has no room. Out of memory is `NoMemory`, and where the words are no machine's, `NoMachine`: the machine is gone then.
 pub fn load(machine: Machine, words: &[u64], fuel: u32) -> Result<Machine, Unread>
     requires room { IsReached machine }
     requires untouched { IsUntouched machine }

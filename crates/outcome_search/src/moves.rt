@@ -207,8 +207,8 @@ fn make_machine(alloc: Global, scratch: &mut Scratch, fuel: u32) -> Result<(), N
     Ok(())
 }
 
-/// The key of the program's first machine, once it has come to where entries that go alone lead. It is at hand from then on, where nothing
-/// fails.
+/// The key of the program's first machine, once it has come to where entries that go alone lead. That machine is at hand from then on,
+/// where nothing fails.
 fn first_key(
     alloc: Global,
     scratch: &mut Scratch,

@@ -7,7 +7,7 @@ use Rattle.lock_runtime_c.specs.declared.outcome.Outcome.{Outcome}
 use Rattle.lock_runtime_c.specs.declared.outcome.Outcome.TheVariants.{Misused, NoMemory}
 use Rattle.lock_runtime_c.specs.Opening.{IsPassOf}
 
--- it does; or the heap has no such thread, its pass was taken, or memory is wanting
+-- it does; or the heap has no such thread, its pass was taken, or its room has as many owners as can be counted
 abbrev pub SeatOf : HeapSeen → ℕ → Result Seat Outcome → Type 0
 SeatOf h thread (Ok s) = IsPassOf h thread s
 SeatOf h thread (Err out) =

@@ -15,10 +15,11 @@ use Rattle.heap_census.proofs.shots.look_at_cell.Goals.{In-Some}
 pub load-mark-requires : goal.load-mark-requires
 load-mark-requires c = can_make (all_left c.requires.heap c.requires.due) refl refl refl tt
 
--- the word is loaded, and has a form
+-- the word that is loaded has a form
 form : (c : In-Some) → read_mark c.load-mark.result ≡ Some c.in-Some.form
 form c = sym c.mark_of_word.ensures ∙ c.in-Some.is
 
+-- and by it the rest is left
 loaded : (c : In-Some) → AreLeft c.args.heap.now c.args.call.now.task c.args.pass.now (look_at_cell c.args.call.now c.args.heap.now.heap.shape c.args.object)
     c.load-mark.new.pass (look_at_named (Some c.in-Some.form) c.args.call.now c.args.heap.now.heap.shape c.args.object)
 loaded c = left_as (step_made (all_left c.requires.heap c.requires.due) refl refl refl c.load-mark.ensures)

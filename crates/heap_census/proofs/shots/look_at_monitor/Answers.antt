@@ -16,10 +16,11 @@ use Rattle.heap_census.proofs.shots.look_at_monitor.Goals.{In-Some}
 pub load-owner-requires : goal.load-owner-requires
 load-owner-requires c = can_make (all_left c.requires.heap c.requires.due) refl refl refl tt
 
--- the word is loaded, and has a form
+-- the word that is loaded has a form
 form : (c : In-Some) → read_owner c.load-owner.result ≡ Some c.in-Some.form
 form c = sym c.owner_of_word.ensures ∙ c.in-Some.is
 
+-- and by it the rest is left
 loaded : (c : In-Some) → AreLeft c.args.heap.now c.args.call.now.task c.args.pass.now (look_at_monitor c.args.call.now c.args.monitor)
     c.load-owner.new.pass (look_at_owner (Some c.in-Some.form) c.args.call.now)
 loaded c = left_as (step_made (all_left c.requires.heap c.requires.due) refl refl refl c.load-owner.ensures)

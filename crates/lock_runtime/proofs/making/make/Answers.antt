@@ -14,8 +14,8 @@ use Rattle.lock_runtime.proofs.making.make.Goals.{After-store}
 pub load-prototype-requires : goal.load-prototype-requires
 load-prototype-requires c = can_make (all_left c.requires.heap c.requires.due) (λ i. load (c.alone.ensures i) (Prototype c.args.class)) refl refl tt
 
--- The store of the class word, as the code says it. Who uses this finds that the word is the class and one more, and doesn't cite the sum's own clause, as
--- one of the edits takes the sum away.
+-- The store of the class word, as the code says it. That the word is the class and one more is left to `omega`, which cites no name: one of the edits renames
+-- the sum, and would be refused for the name alone.
 storing : {e w : CallContext} {word : ℕ} (o class : ℕ) → w ≡ e → word ≡ class + 1 → store_plan w Settled (Class o) word ≡ class_plan e o class
 storing o class same is = λ i. store_plan (same i) Settled (Class o) (is i)
 

@@ -32,7 +32,7 @@ monitor_resume-requires-clause-room c =
     let one : length p.known.log + 1 ≤ p.limit = subst (λ (b : Bool). length p.known.log + cond b 1 2 ≤ p.limit) gone c.requires.room in
     omega (arith, one)
 
--- And one that begins a Wait too. That it doesn't wait yet is found, not named: the name tells the whole test, which one of the edits changes.
+-- And one that begins a Wait too. The proof doesn't cite the test by its name: one of the edits changes the test, and would be refused for the name alone.
 pub wait_anew-requires-clause-room : goal.wait_anew-requires-clause-room
 wait_anew-requires-clause-room c =
     let p = c.args.pass.now in

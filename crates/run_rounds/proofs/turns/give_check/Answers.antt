@@ -27,7 +27,8 @@ give-requires-clause-place g c = c.requires.place
 
 pub give-requires-clause-knows : goal.give-requires-clause-knows
 give-requires-clause-knows g c =
-    gives_back c.requires.course c.requires.held c.slot_mut-runner.ensures.value (c.check_where_free-stuck.ensures.gone c.args.work.now.run.tick) c.word_after_check-word.ensures
+    gives_back c.requires.course c.requires.held c.slot_mut-runner.ensures.value
+    (c.check_where_free-stuck.ensures.gone c.args.work.now.run.tick) c.word_after_check-word.ensures
 
 pub returns-clause-table : goal.returns-clause-table
 returns-clause-table g c = c.give.ensures.table

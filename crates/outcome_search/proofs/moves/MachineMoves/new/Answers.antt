@@ -8,7 +8,9 @@ use Rattle.outcome_search.proofs.moves.MachineMoves.new.Goals as goal
 pub invariant_of-moves : goal.invariant_of-moves
 invariant_of-moves c =
     record {
-      scratch = subst (λ (p : ProgramText). IsScratch p c.args.fuel c.first_key.new.scratch.machine) (sym c.first_key.ensures.program) c.in_ok-words.ensures.kept;
+      scratch =
+          subst (λ (p : ProgramText). IsScratch p c.args.fuel c.first_key.new.scratch.machine) (sym c.first_key.ensures.program)
+          c.in_ok-words.ensures.kept;
       some = c.requires;
     }
 
