@@ -1,4 +1,5 @@
-//! The plain monitor of the Java Language Specification 8, 17.1 and 17.2, the entries that threads log, and the words of values.
+//! The plain monitor, after the Java Language Specification 8, 17.1 and 17.2 (`Monitor` says what it leaves out of it), the entries that threads log,
+//! and the words of values.
 //!
 //! `specs/` has the trusted definitions: the monitor and its steps, the objects that entries change, the one order of all
 //! logs, the histories that are legal, and which word spells which value. The types here are what logs are made of.

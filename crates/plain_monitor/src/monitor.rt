@@ -10,8 +10,11 @@ use crate::waiters;
 use std::alloc::Global;
 use std::marker::Model;
 
-/// A recursive monitor with wait and notify, as the Java Language Specification 8 has it in 17.1 and 17.2. Each call that
-/// changes it is the step of `specs/Monitor.antt` exactly where there is one; else it is `Refused` and nothing changes.
+/// A recursive monitor with wait and notify, by a part of the Java Language Specification 8, 17.1 and 17.2. What it leaves out: a notify wakes the
+/// thread that has waited longest, as HotSpot's does, where the specification lets it be any that waits (17.2.2); and nobody wakes but by a notify, so
+/// there are no spurious wake-ups, no timed waits and no interrupts (17.2.1, 17.2.3).
+///
+/// Each call that changes it is the step of `specs/Monitor.antt` exactly where there is one; else it is `Refused` and nothing changes.
 /// Contracts see the plain monitor and `spare`, the number of further threads for whose wait there is room.
 #[derive(Drop)]
 pub struct Monitor {
