@@ -11,8 +11,8 @@ use std::test::Fail;
 use std::thread::Threads;
 
 /// What a call is made with: the words after the program's name, the text and what stands after it, then how many empty lines, the
-/// read and the write that fail, by number from 1 or 0 for none, the most bytes that a read gives and a write takes, and from what number the
-/// clock counts, and by which steps.
+/// read and the write that fail, by number from 1 or 0 for none, the most bytes that a read gives and a write takes, for how many the sink has
+/// room, and from what number the clock counts, and by which steps.
 #[derive(Clone, Copy)]
 pub struct Call<'a> {
     pub words: &'a [&'a str],
@@ -22,10 +22,11 @@ pub struct Call<'a> {
     pub read_fails: u32,
     pub write_fails: u32,
     pub cut: u32,
+    pub room: u32,
     pub clock: (u64, u64),
 }
 
-/// What is the same in most calls: no read and no write fails.
+/// What is the same in most calls: no read and no write fails, and the sink has room for all that is written.
 const CALL: Call = Call {
     words: &[],
     text: "",
@@ -34,6 +35,7 @@ const CALL: Call = Call {
     read_fails: 0,
     write_fails: 0,
     cut: 1000,
+    room: 1_000_000,
     clock: (1, 1),
 };
 
@@ -108,10 +110,10 @@ fn source_of(alloc: Global, call: &Call) -> Result<Box<MemorySource>, AllocError
     boxed(alloc, MemorySource::new(text, fails, call.cut.max(1)))
 }
 
-/// The sink that the call writes to, with room for 1,000,000 bytes.
+/// The sink that the call writes to.
 fn sink_of(alloc: Global, call: &Call) -> Result<Box<MemorySink>, AllocError> {
     let fails = vec![in alloc; call.write_fails]?;
-    match MemorySink::new(alloc, 1_000_000, fails, call.cut.max(1)) {
+    match MemorySink::new(alloc, call.room as usize, fails, call.cut.max(1)) {
         Ok(sink) => boxed(alloc, sink),
         Err(_) => Err(AllocError),
     }

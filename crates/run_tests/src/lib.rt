@@ -13,6 +13,8 @@ mod checks;
 #[cfg(test)]
 mod due;
 #[cfg(test)]
+mod each_byte;
+#[cfg(test)]
 mod leads;
 #[cfg(test)]
 mod made;

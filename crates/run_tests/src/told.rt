@@ -89,8 +89,8 @@ fn add_bytes(alloc: Global, line: &mut String, bytes: &[u8]) -> Result<(), Alloc
 
 fn add_faults(alloc: Global, line: &mut String, call: &Call) -> Result<(), AllocError> {
     let faults = format!(in alloc;
-        "(empty_lines {}, read_fails {}, write_fails {}, cut {}",
-        call.empty_lines, call.read_fails, call.write_fails, call.cut
+        "(empty_lines {}, read_fails {}, write_fails {}, cut {}, room {}",
+        call.empty_lines, call.read_fails, call.write_fails, call.cut, call.room
     )?;
     line.push_str(faults.as_str())?;
     add_clock(alloc, line, call.clock)
