@@ -8,6 +8,7 @@ ghost use Rattle.lock_policy.specs.declared.policy.Verdict.{Verdict};
 ghost use Rattle.mark_word.specs.declared.mark.MarkForm.TheVariants.{Neutral, Anonymous, Biased, Locked};
 ghost use Rattle.mark_word.specs.declared.wait.WaitForm.TheVariants.{Entering, Waiting};
 ghost use Rattle.mark_word.specs.Mark.{mark_of};
+ghost use Rattle.mark_word.specs.Safe.{read_safe};
 ghost use Rattle.mark_word.specs.Wait.{wait_of};
 ghost use Rattle.plain_monitor.specs.History.{last_stamp};
 ghost use Rattle.plain_monitor.specs.ValueWords.{word_of};
@@ -41,7 +42,7 @@ ghost use Rattle.core_world.specs.Steps.{known_along};
 ghost use Rattle.core_world.specs.Threads.Counts.{CountedVerdict};
 ghost use Rattle.core_world.specs.Threads.Stages.{Revocation};
 ghost use Rattle.core_world.specs.Threads.ThreadView.{ThreadView, StepMade, Start, DumpShot, start_of};
-ghost use Rattle.core_world.specs.Trees.Calls.{steps_of};
+ghost use Rattle.core_world.specs.Trees.Calls.{side_context, steps_of};
 ghost use Rattle.core_world.specs.Trees.CreateSteps.{creating, class_plan, make_plan, next_made};
 ghost use Rattle.core_world.specs.Trees.HashSteps.{NextDraw, draw_plan};
 ghost use Rattle.core_world.specs.Trees.LockSteps.{log_enter_plan, leave_plan};
@@ -50,7 +51,7 @@ ghost use Rattle.core_world.specs.Trees.Operations.{revocation_steps, get_plan, 
 ghost use Rattle.core_world.specs.Trees.Plans.{CallContext, call_context, load, swap, with_own};
 ghost use Rattle.core_world.specs.Trees.SafepointSteps.{stop_plan, release_plan, halt_steps, resume_swap_steps};
 ghost use Rattle.core_world.specs.Trees.SafepointSteps.{request_swap_steps};
-ghost use Rattle.core_world.specs.Trees.SafepointSteps.{reached_word, all_but};
+ghost use Rattle.core_world.specs.Trees.SafepointSteps.{reached_word, running_too, resume_plan, all_but};
 ghost use Rattle.core_world.specs.Trees.StepTree.{done, step, ask, all_from, after_answer};
 ghost use Rattle.core_world.specs.Trees.WaitSteps.{log_resume_plan, notify_plan, notify_all_plan, publish_plan};
 ghost use Rattle.core_world.specs.Trees.WaitSteps.{waiters, by_age};
@@ -227,9 +228,10 @@ pub fn no_call_tells_another_value()
 
 /// A poll that is done though its word has a requester: `poll_logs_nothing` doesn't say so. A stop that publishes
 /// nothing; and one after which thread 0 knows itself running: `stop_logs_nothing` doesn't. A resume that doesn't
-/// look whether the run is halted: `resume_logs_nothing` doesn't. A check that answers true and puts the release in
-/// place of the halt; and a thread that doesn't know of the halt: `check_logs_nothing` doesn't. A request that
-/// doesn't look whether there is another: `request_logs_nothing` doesn't. A look that is done though a thread runs:
+/// look whether the run is halted; and one of thread 0 after which that knows itself stopped, though its exchange
+/// found that no thread ran: `resume_logs_nothing` doesn't. A check that answers true and puts the release in place
+/// of the halt; and a thread that doesn't know of the halt: `check_logs_nothing` doesn't. A request that doesn't look
+/// whether there is another: `request_logs_nothing` doesn't. A look that is done though a thread runs:
 /// `reached_logs_nothing` doesn't. A release that puts the halt: `release_logs_nothing` doesn't. A check that answers
 /// true though its only thread is ready, and one that answers false though that waits:
 /// `check_answers_whether_any_thread_goes_on` doesn't.
@@ -241,6 +243,10 @@ pub fn no_call_at_the_safepoint_word_answers_otherwise()
     ensures stop_leaves { (word : ℕ) → true ≡ runs_in (bit_and word (all_but 0)) 0 → ⊥ }
     ensures resume { (e : CallContext) (k : Start)
         → Says (step (load e id.Safepoint) (λ word. resume_swap_steps e k.local word)) (ResumeSays k) → ⊥ }
+    ensures resume_leaves { (k : Start) (ms : List StepMade)
+        → (word : ℕ) × (false ≡ runs_in (running_too (read_safe word) 0) 0) × ((steps : List StepMade)
+        × (record { plan = resume_plan (side_context task.Resume k) 0 0; found = 0 } ∷ ms
+        ≡ record { plan = resume_plan (side_context task.Resume k) 0 word; found = word } ∷ steps)) → ⊥ }
     ensures check { (e : CallContext) (k : Start)
         → Says (step (release_plan e Settled 0) (λ x. done (Done true))) (CheckSays k) → ⊥ }
     ensures check_halted { (t : ℕ) → (first_known t).halted ≡ true → ⊥ }

@@ -9,7 +9,7 @@ use Rattle.mark_word.specs.declared.wait.WaitForm.TheVariants.{Waiting}
 use Rattle.core_world.specs.Threads.ThreadView.{StepMade}
 use Rattle.core_world.specs.Trees.LookSteps.{some_live, none_goes_on}
 use Rattle.core_world.specs.Trees.Plans.{CallContext, load}
-use Rattle.core_world.specs.Trees.SafepointSteps.{reached_word, released_word, halted_word, all_but, has_requester}
+use Rattle.core_world.specs.Trees.SafepointSteps.{running_too, reached_word, released_word, halted_word, all_but, has_requester}
 use Rattle.core_world.specs.Words.Forms.{runs_in, is_still, runs_form}
 use Rattle.core_world.specs.declared.act.Act.{Act}
 use Rattle.core_world.specs.declared.act.Act.TheVariants.{CompareExchange}
@@ -22,6 +22,11 @@ use Rattle.core_calls.proofs.refused.no_call_at_the_safepoint_word_answers_other
 abbrev put_by : Act → ℕ
 put_by (CompareExchange expected word) = word
 put_by _ = 0
+
+-- the word that the newest of these steps found
+abbrev first_found : List StepMade → ℕ
+first_found [] = 0
+first_found (m ∷ ms) = m.found
 
 -- a word whose lowest bit is 0 has not the bit of thread 0
 no_bit : (n : ℕ) → bit_at n 0 ≡ 0 → true ≡ runs_in n 0 → ⊥
@@ -98,6 +103,14 @@ returns-clause-resume z e k says = elim (says.by halted_word halted_word).1 [
   | inr (inl x) ↦ absurd (cc (x.1))
   | inr (inr none) ↦ absurd none
 ]
+
+pub returns-clause-resume_leaves : goal.returns-clause-resume_leaves
+unfolding read_safe
+returns-clause-resume_leaves z k ms so =
+    let same : 0 ≡ so.0 = ap first_found so.2.1 in
+    let runs : true ≡ runs_in (running_too (read_safe so.0) 0) 0 = ap (λ (word : ℕ). runs_in (running_too (read_safe word) 0) 0) same in
+    let stopped = so.1 in
+    absurd (cc (runs, stopped))
 
 pub returns-clause-check : goal.returns-clause-check
 returns-clause-check z e k says = elim (says.by 0).1 [
