@@ -28,9 +28,9 @@ pub use refused::{
     no_call_at_the_safepoint_word_answers_otherwise, no_call_is_shorter_than_its_steps,
     no_call_tells_another_value, no_create_makes_another_object,
     no_enter_or_exit_logs_another_answer, no_notify_wakes_another_waiter, no_run_leaves_its_tree,
-    no_run_of_a_done_call_leaves_the_log, no_run_of_a_silent_call_logs,
-    no_step_counts_by_another_moment, no_thread_stands_otherwise_after_its_call,
-    no_wait_or_notify_logs_another_answer,
+    no_run_of_a_done_call_leaves_it_unfinished, no_run_of_a_done_call_leaves_the_log,
+    no_run_of_a_pending_call_logs, no_run_of_a_silent_call_logs, no_step_counts_by_another_moment,
+    no_thread_stands_otherwise_after_its_call, no_wait_or_notify_logs_another_answer,
 };
 pub use running::{a_run_follows_a_path_of_its_tree, steps_make_of_knowledge_what_they_leave};
 pub use safepoint::{

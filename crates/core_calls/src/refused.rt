@@ -391,3 +391,66 @@ pub fn no_run_of_a_silent_call_logs()
     ensures release { (b : Start) (x : Logged) (k l : ThreadView) → l.log ≡ k.log ++ x ∷ []
         → Tells k l (λ ms. ReleaseSays b ms tt) → ⊥ }
 {}
+
+/// Where a thread's log has one entry more, its steps were none of a call that is pending: not of an enter or an
+/// exit, as `enter_logs_its_answer`, `exit_logs_its_answer` and `stack_enter_logs_its_answer` tell of their runs; of
+/// a notify, a hash or a dump, as `notify_logs_its_answer`, `notify_all_logs_its_answer`, `hash_logs_its_answer` and
+/// `dump_logs_its_answer` do; and not of a wait that goes on after it has let go, as `wait_logs_its_answer` does.
+pub fn no_run_of_a_pending_call_logs()
+    ensures enter { (b : Start) (o : ℕ) (x : Logged) (cause : PendingCause) (k l : ThreadView) → l.log ≡ k.log ++ x ∷ []
+        → Tells k l (λ ms. EnterSays b o ms (Ok (Pending cause))) → ⊥ }
+    ensures exit { (b : Start) (o : ℕ) (x : Logged) (cause : PendingCause) (k l : ThreadView) → l.log ≡ k.log ++ x ∷ []
+        → Tells k l (λ ms. ExitSays b o ms (Ok (Pending cause))) → ⊥ }
+    ensures stack_enter { (o mark : ℕ) (x : Logged) (cause : PendingCause) (k l : ThreadView) → l.log ≡ k.log ++ x ∷ []
+        → Tells k l (λ ms. StackEnterSays o mark ms (Pending cause)) → ⊥ }
+    ensures notify { (b : Start) (o : ℕ) (x : Logged) (cause : PendingCause) (k l : ThreadView)
+        → l.log ≡ k.log ++ x ∷ []
+        → Tells k l (λ ms. NotifySays b o ms (Ok (Pending cause))) → ⊥ }
+    ensures notify_all { (b : Start) (o : ℕ) (x : Logged) (cause : PendingCause) (k l : ThreadView)
+        → l.log ≡ k.log ++ x ∷ []
+        → Tells k l (λ ms. NotifyAllSays b o ms (Ok (Pending cause))) → ⊥ }
+    ensures hash { (b : Start) (o : ℕ) (x : Logged) (cause : PendingCause) (k l : ThreadView) → l.log ≡ k.log ++ x ∷ []
+        → Tells k l (λ ms. HashSays b o ms (Pending cause)) → ⊥ }
+    ensures dump { (b : Start) (x : Logged) (cause : PendingCause) (k l : ThreadView) → l.log ≡ k.log ++ x ∷ []
+        → Tells k l (λ ms. DumpSays b ms (Ok (Pending cause))) → ⊥ }
+    ensures wait { (b : Start) (o : ℕ) (x : Logged) (cause : PendingCause) (k l : ThreadView) → lets_go b o ≡ false
+        → l.log ≡ k.log ++ x ∷ [] → Tells k l (λ ms. WaitSays b o ms (Ok (Pending cause))) → ⊥ }
+{}
+
+/// Where a thread has an operation unfinished, its steps were none of a call that is done; and where it has none
+/// unfinished, they were none of one that is pending: not of an enter, an exit, a wait, a notify, a hash or a dump,
+/// as `enter_logs_its_answer`, `exit_logs_its_answer`, `wait_logs_its_answer`, `notify_logs_its_answer`,
+/// `notify_all_logs_its_answer`, `hash_logs_its_answer` and `dump_logs_its_answer` tell of their runs; and not of a
+/// create, which is never pending, as `create_logs_its_object` does.
+pub fn no_run_of_a_done_call_leaves_it_unfinished()
+    ensures enter { (b : Start) (o : ℕ) (path : Path) (u : Unfinished) (k l : ThreadView) → l.unfinished ≡ Some u
+        → Tells k l (λ ms. EnterSays b o ms (Ok (Done path))) → ⊥ }
+    ensures exit { (b : Start) (o : ℕ) (u : Unfinished) (k l : ThreadView) → l.unfinished ≡ Some u
+        → Tells k l (λ ms. ExitSays b o ms (Ok (Done tt))) → ⊥ }
+    ensures wait { (b : Start) (o : ℕ) (u : Unfinished) (k l : ThreadView) → l.unfinished ≡ Some u
+        → Tells k l (λ ms. WaitSays b o ms (Ok (Done tt))) → ⊥ }
+    ensures notify { (b : Start) (o : ℕ) (woken : Option ℕ) (u : Unfinished) (k l : ThreadView) → l.unfinished ≡ Some u
+        → Tells k l (λ ms. NotifySays b o ms (Ok (Done woken))) → ⊥ }
+    ensures notify_all { (b : Start) (o woken : ℕ) (u : Unfinished) (k l : ThreadView) → l.unfinished ≡ Some u
+        → Tells k l (λ ms. NotifyAllSays b o ms (Ok (Done woken))) → ⊥ }
+    ensures hash { (b : Start) (o value : ℕ) (u : Unfinished) (k l : ThreadView) → l.unfinished ≡ Some u
+        → Tells k l (λ ms. HashSays b o ms (Done value)) → ⊥ }
+    ensures dump { (b : Start) (number : ℕ) (u : Unfinished) (k l : ThreadView) → l.unfinished ≡ Some u
+        → Tells k l (λ ms. DumpSays b ms (Ok (Done number))) → ⊥ }
+    ensures create { (s : Shape) (b : Start) (c o : ℕ) (u : Unfinished) (k l : ThreadView) → l.unfinished ≡ Some u
+        → Tells k l (λ ms. CreateSays s b c ms (Ok o)) → ⊥ }
+    ensures enter_pends { (b : Start) (o : ℕ) (cause : PendingCause) (k l : ThreadView) → l.unfinished ≡ None
+        → Tells k l (λ ms. EnterSays b o ms (Ok (Pending cause))) → ⊥ }
+    ensures exit_pends { (b : Start) (o : ℕ) (cause : PendingCause) (k l : ThreadView) → l.unfinished ≡ None
+        → Tells k l (λ ms. ExitSays b o ms (Ok (Pending cause))) → ⊥ }
+    ensures wait_pends { (b : Start) (o : ℕ) (cause : PendingCause) (k l : ThreadView) → l.unfinished ≡ None
+        → Tells k l (λ ms. WaitSays b o ms (Ok (Pending cause))) → ⊥ }
+    ensures notify_pends { (b : Start) (o : ℕ) (cause : PendingCause) (k l : ThreadView) → l.unfinished ≡ None
+        → Tells k l (λ ms. NotifySays b o ms (Ok (Pending cause))) → ⊥ }
+    ensures notify_all_pends { (b : Start) (o : ℕ) (cause : PendingCause) (k l : ThreadView) → l.unfinished ≡ None
+        → Tells k l (λ ms. NotifyAllSays b o ms (Ok (Pending cause))) → ⊥ }
+    ensures hash_pends { (b : Start) (o : ℕ) (cause : PendingCause) (k l : ThreadView) → l.unfinished ≡ None
+        → Tells k l (λ ms. HashSays b o ms (Pending cause)) → ⊥ }
+    ensures dump_pends { (b : Start) (cause : PendingCause) (k l : ThreadView) → l.unfinished ≡ None
+        → Tells k l (λ ms. DumpSays b ms (Ok (Pending cause))) → ⊥ }
+{}
