@@ -18,3 +18,6 @@ pub mod StandsKnown
 pub mod Named
 pub mod NamedCalls
 pub mod Called
+pub mod Followed
+pub mod Walkers
+pub mod Untold

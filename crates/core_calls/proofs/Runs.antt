@@ -53,7 +53,7 @@ step_checking : (s : Shape) (start : ℕ) (p : StepPlan) (n : ℕ) (k : ThreadVi
 step_checking s start p n k true = refl
 step_checking s start p n k false = refl
 
-step_counts : (s : Shape) (start : ℕ) (p : StepPlan) (n : ℕ) (k : ThreadView) (b : Bool)
+pub step_counts : (s : Shape) (start : ℕ) (p : StepPlan) (n : ℕ) (k : ThreadView) (b : Bool)
     → (cond b (known_hit s start p n k) (known_miss s start p n k)).steps ≡ made p n ∷ k.steps
 step_counts s start p n k true = refl
 step_counts s start p n k false = refl

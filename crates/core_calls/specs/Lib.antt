@@ -6,3 +6,4 @@ pub mod Woken
 pub mod Stuck
 pub mod Stands
 pub mod Moments
+pub mod Witnessed

@@ -1,12 +1,12 @@
 //! Laws of the calls that log nothing: poll, stop, resume and check, and the parts of a safepoint.
-ghost use Rattle.std.specs.Prelude.{◌≡◌, ℕ, Bool, true, length, bit_and};
+ghost use Rattle.std.specs.Prelude.{◌≡◌, ℕ, Bool, true, List, ◌∷◌, length, bit_and};
 ghost use Rattle.mark_word.specs.Safe.{read_safe};
 ghost use Rattle.core_world.specs.declared.answer.Progress.{Progress};
 ghost use Rattle.core_world.specs.declared.answer.Progress.TheVariants.{Done};
 ghost use Rattle.core_world.specs.Words.Forms.{runs_in};
 ghost use Rattle.core_world.specs.Words.Shape.{Shape};
-ghost use Rattle.core_world.specs.Threads.ThreadView.{ThreadView, Start};
-ghost use Rattle.core_world.specs.Trees.SafepointSteps.{all_but, running_too, poll_steps, stop_steps, resume_steps, request_steps, reached_steps, release_safepoint};
+ghost use Rattle.core_world.specs.Threads.ThreadView.{ThreadView, StepMade, Start};
+ghost use Rattle.core_world.specs.Trees.SafepointSteps.{all_but, running_too, poll_steps, stop_steps, resume_steps, request_steps, reached_steps, release_safepoint, resume_plan};
 ghost use Rattle.core_world.specs.Trees.Operations.{lone_context, check_steps};
 ghost use Rattle.core_world.specs.Trees.Calls.{side_context};
 ghost use Rattle.core_world.specs.Due.{Ran};
@@ -39,8 +39,8 @@ pub fn stop_logs_nothing()
 {}
 
 /// A resume logs nothing, and leaves the unfinished operation and check as they are. Where it is done, its exchange set the thread's bit in a
-/// word without a requester and without the halt, and the thread knows itself running where that word has its bit. It is the one call that is ever pending for the halt, and then it found it in the
-/// safepoint word.
+/// word without a requester and without the halt. That exchange is its last step, and the thread knows itself running where the word that it put has its bit.
+/// It is the one call that is ever pending for the halt, and then it found it in the safepoint word.
 pub fn resume_logs_nothing()
     ensures steps { (k : Start) → Says (resume_steps (side_context task.Resume k) k.local) (ResumeSays k) }
     ensures run { (k : Start) (shape : Shape) (start : ℕ) (before after : ThreadView) (a : Progress (Unit {0}))
@@ -48,7 +48,11 @@ pub fn resume_logs_nothing()
         → Tells before after (λ ms. ResumeSays k ms a) }
     ensures leaves { (k : Start) (shape : Shape) (start : ℕ) (before after : ThreadView)
         → Ran shape start (resume_steps (side_context task.Resume k) k.local) before after (Done tt)
-        → (word : ℕ) × (after.running ≡ runs_in (running_too (read_safe word) k.local.thread) before.thread) }
+        → (word : ℕ) × (after.running ≡ runs_in (running_too (read_safe word) k.local.thread) before.thread)
+        × ((steps : List StepMade) × (after.steps ≡ record {
+          plan = resume_plan (side_context task.Resume k) k.local.thread word;
+          found = word;
+        } ∷ steps)) }
 {}
 
 /// A check logs nothing, and leaves the unfinished operation. It is itself unfinished where its request stands and isn't reached, and over after

@@ -1,5 +1,5 @@
 -- What a check, a stop and a resume leave in their thread's knowledge.
-use Rattle.std.proofs.Common.{◌≡◌, ℕ, ◌==◌, ◌||◌, cond, Bool, true, false, List, [], ◌∷◌, length, Option, Some, None, refl, ap, ◌∙◌, inl, inr, eq-eqb, arith}
+use Rattle.std.proofs.Common.{◌≡◌, ℕ, ◌==◌, ◌||◌, cond, Bool, true, false, List, [], ◌∷◌, length, Option, Some, None, refl, ap, ◌∙◌, inl, inr, eq-eqb, eqb-true, arith}
 use Rattle.std.specs.Prelude.{bit_and}
 use Rattle.mark_word.proofs.ReadingSafepoints.{read_safe-safe_of}
 use Rattle.mark_word.specs.Safe.{read_safe}
@@ -23,9 +23,10 @@ use Rattle.core_world.specs.Words.Shape.{Shape}
 use Rattle.core_world.specs.Trees.SafepointSteps.{all_but, running_too, halted_word, bar, unless, stop_steps, resume_plan, resume_swap_steps, resume_steps}
 use Rattle.core_world.specs.Steps.{halted_after, known_after, known_hit, known_miss, known_along}
 use Rattle.core_calls.specs.Causes.{Put}
+use Rattle.core_calls.specs.Paths.{made}
 use Rattle.core_calls.specs.CallsSay.{CheckSays}
 use Rattle.core_calls.proofs.OtherCallsSay.{check_says}
-use Rattle.core_calls.proofs.Runs.{on_path, knows}
+use Rattle.core_calls.proofs.Runs.{on_path, knows, step_counts}
 
 -- THE HALT. Once known it stays known, and a thread that sets it knows it.
 halted_says : is_halted halted_word ≡ true
@@ -102,11 +103,36 @@ module _ (s : Shape) (start : ℕ) (e : CallContext) (k : Local) where
           ∙ ap (λ (b : Bool). runs_in (cond b (running_too (read_safe word) k.thread) r.0) before.thread) hit
       by_hit false miss q = absurd (not_done (bar r.0) (why.Raced word r.0) _ now q)
 
+  -- and then that exchange is its last step
+  swap_ends : (word : ℕ) (before now : ThreadView) → Runs s start (resume_swap_steps e k word) before now (Done (tt {0}))
+      → now.steps ≡ made (resume_plan e k.thread word) word ∷ before.steps
+  swap_ends word before now r = by_hit (r.0 == word) refl r.1
+    where
+      plan : StepPlan
+      plan = resume_plan e k.thread word
+
+      by_hit : (b : Bool) → (r.0 == word) ≡ b → Runs s start (cond b (done_with tt) (unless (bar r.0) (pending_for (why.Raced word r.0))))
+          (known_after s start plan r.0 before) now (Done (tt {0})) → now.steps ≡ made plan word ∷ before.steps
+      by_hit true hit q =
+          ap (λ (x : ThreadView). x.steps) q.0
+          ∙ step_counts s start plan r.0 before (hits plan.act r.0)
+          ∙ ap (λ (n : ℕ). made plan n ∷ before.steps) (eqb-true r.0 word hit)
+      by_hit false miss q = absurd (not_done (bar r.0) (why.Raced word r.0) _ now q)
+
   barred_runs : (barred : Option PendingCause) (word : ℕ) (before now : ThreadView) → Runs s start (unless barred (resume_swap_steps e k word))
       before now (Done (tt {0})) → now.running ≡ runs_in (running_too (read_safe word) k.thread) before.thread
   barred_runs (Some reason) word before now r = absurd (cc (r.1))
   barred_runs None word before now r = swap_runs word before now r
 
+  barred_ends : (barred : Option PendingCause) (word : ℕ) (before now : ThreadView) → Runs s start (unless barred (resume_swap_steps e k word))
+      before now (Done (tt {0})) → now.steps ≡ made (resume_plan e k.thread word) word ∷ before.steps
+  barred_ends (Some reason) word before now r = absurd (cc (r.1))
+  barred_ends None word before now r = swap_ends word before now r
+
   pub resume_runs : (before now : ThreadView) → Ran s start (resume_steps e k) before now (Done (tt {0}))
       → (word : ℕ) × (now.running ≡ runs_in (running_too (read_safe word) k.thread) before.thread)
-  resume_runs before now ran = (ran.by.0, barred_runs (bar ran.by.0) ran.by.0 (known_after s start (load e Safepoint) ran.by.0 before) now ran.by.1)
+      × ((steps : List StepMade) × (now.steps ≡ made (resume_plan e k.thread word) word ∷ steps))
+  resume_runs before now ran =
+      let loaded = known_after s start (load e Safepoint) ran.by.0 before in
+      let word = ran.by.0 in
+      (word, barred_runs (bar word) word loaded now ran.by.1, (loaded.steps, barred_ends (bar word) word loaded now ran.by.1))
