@@ -32,7 +32,10 @@ pub use refused::{
     no_run_of_a_pending_call_logs, no_run_of_a_silent_call_logs, no_step_counts_by_another_moment,
     no_thread_stands_otherwise_after_its_call, no_wait_or_notify_logs_another_answer,
 };
-pub use running::{a_run_follows_a_path_of_its_tree, steps_make_of_knowledge_what_they_leave};
+pub use running::{
+    a_run_follows_a_path_of_its_tree, every_path_of_a_tree_is_run,
+    steps_make_of_knowledge_what_they_leave,
+};
 pub use safepoint::{
     check_answers_whether_any_thread_goes_on, check_logs_nothing, poll_logs_nothing,
     reached_logs_nothing, release_logs_nothing, request_logs_nothing, resume_logs_nothing,
@@ -53,5 +56,5 @@ pub use wait::{
 pub use witnesses::{
     bounded_calls_are_met, calls_at_the_safepoint_word_are_run, calls_find_true_safepoint_words,
     calls_that_tell_are_run, creates_are_run, enters_and_exits_are_run,
-    every_path_of_a_tree_is_run, runs_leave_entries_and_counts, waits_and_notifies_are_run,
+    runs_leave_entries_and_counts, waits_and_notifies_are_run,
 };

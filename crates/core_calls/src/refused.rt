@@ -52,6 +52,7 @@ ghost use Rattle.core_world.specs.Trees.Plans.{CallContext, call_context, load, 
 ghost use Rattle.core_world.specs.Trees.SafepointSteps.{stop_plan, release_plan, halt_steps, resume_swap_steps};
 ghost use Rattle.core_world.specs.Trees.SafepointSteps.{request_swap_steps};
 ghost use Rattle.core_world.specs.Trees.SafepointSteps.{reached_word, running_too, resume_plan, all_but};
+ghost use Rattle.core_world.specs.Due.{Ran};
 ghost use Rattle.core_world.specs.Trees.StepTree.{done, step, ask, all_from, after_answer};
 ghost use Rattle.core_world.specs.Trees.WaitSteps.{log_resume_plan, notify_plan, notify_all_plan, publish_plan};
 ghost use Rattle.core_world.specs.Trees.WaitSteps.{waiters, by_age};
@@ -320,13 +321,15 @@ pub fn no_step_counts_by_another_moment()
 
 /// No thread follows a tree of one step and makes none; none follows a tree to another answer; none runs after a tree
 /// without steps and was stopped before; and none makes a path of one step and has the steps that it had:
-/// `a_run_follows_a_path_of_its_tree` doesn't say so. No thread has logged an entry and has its old log; none has
+/// `a_run_follows_a_path_of_its_tree` doesn't say so. Nor is there a run to an answer that isn't its tree's, which
+/// `every_path_of_a_tree_is_run` doesn't say. No thread has logged an entry and has its old log; none has
 /// logged nothing and has one entry more; and none has logged one entry and has another at the end of its log:
 /// `steps_make_of_knowledge_what_they_leave` doesn't say so.
 pub fn no_run_leaves_its_tree()
     ensures unstepped { (s : Shape) (start n : ℕ) (p : StepPlan) (k : ThreadView)
         → FollowsTree s start (ask p) k k n → ⊥ }
     ensures answer { (s : Shape) (start a b : ℕ) (k l : ThreadView) → b ≢ a → FollowsTree s start (done a) k l b → ⊥ }
+    ensures run { (s : Shape) (start a b : ℕ) (k l : ThreadView) → b ≢ a → Ran s start (done a) k l b → ⊥ }
     ensures known { (s : Shape) (start a : ℕ) (k : ThreadView) → k.running ≡ false
         → FollowsTree s start (done a) k (record k { running = true }) a → ⊥ }
     ensures path { (n : ℕ) (p : StepPlan) (k : ThreadView) → Tells k k (λ ms. IsPath (ask p) [] ms n) → ⊥ }

@@ -40,21 +40,11 @@ ghost use Rattle.core_calls.specs.Paths.{IsPath, Says, Leaves, Tells, ThreadHasL
 ghost use Rattle.core_calls.specs.Stands.{begun, stopped};
 ghost use Rattle.core_calls.specs.Witnessed.{IsRunTo, IsTrulyRunTo};
 
-/// Every path of a tree is run, from whatever its thread knows, and leaves what its steps make of that. So is the way
-/// to an answer, where these words, the newest first, lead to it. So the premise of
-/// `a_run_follows_a_path_of_its_tree` is met for each path of each tree, and what each law of runs asks for is met
-/// where its call's tree has a path.
-pub fn every_path_of_a_tree_is_run<A>()
-    ensures path { (s : Shape) (start : ℕ) (d : StepTree A) (ms : List StepMade) (k : ThreadView) (a : A)
-        → IsPath d [] ms a → Ran s start d k (known_along s start ms k) a }
-    ensures words { (s : Shape) (start : ℕ) (d : StepTree A) (words : List ℕ) (k : ThreadView) (a : A)
-        → after_answers d words ≡ done a → (l : ThreadView) × Ran s start d k l a }
-{}
-
 /// A thread enters, by a bias that it has or by a lock record; it is pending for another owner; and it is refused:
 /// the runs of `enter_logs_its_answer`. It leaves, by its bias or by its lock record: the runs of
 /// `exit_logs_its_answer`. It enters by a lock record in a call by itself, as `stack_enter_logs_its_answer` says; and
-/// leaves by one, or leaves that to a monitor, as `stack_exit_logs_its_answer` says.
+/// leaves by one, or leaves that to a monitor, as `stack_exit_logs_its_answer` says. So there are runs, as
+/// `a_run_follows_a_path_of_its_tree` asks, and by that law their paths, as `every_path_of_a_tree_is_run` does.
 pub fn enters_and_exits_are_run()
     ensures enter_by_bias { (now : ℕ) → IsRunTo (λ s k. enter_steps s k 0 now) (Ok (Done BiasOwn)) }
     ensures enter_by_record { (now : ℕ) → IsRunTo (λ s k. enter_steps s k 0 now) (Ok (Done StackFirst)) }

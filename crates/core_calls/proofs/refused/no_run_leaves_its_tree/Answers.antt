@@ -4,6 +4,7 @@ use Rattle.plain_monitor.specs.declared.entry.Entry.{Entry}
 use Rattle.plain_monitor.specs.declared.entry.Logged.{Logged}
 use Rattle.core_world.specs.Steps.{known_along}
 use Rattle.core_world.specs.Threads.ThreadView.{ThreadView, StepMade}
+use Rattle.core_calls.proofs.Runs.{knows}
 use Rattle.core_calls.proofs.Untold.{none_behind, none_before}
 use Rattle.core_calls.specs.Stands.{stopped}
 use Rattle.core_calls.proofs.refused.no_run_leaves_its_tree.Goals as goal
@@ -18,6 +19,9 @@ returns-clause-unstepped z s start n p k so =
 
 pub returns-clause-answer : goal.returns-clause-answer
 returns-clause-answer z s start a b k l differ so = differ so.path.1
+
+pub returns-clause-run : goal.returns-clause-run
+returns-clause-run z s start a b k l differ ran = differ (knows ran).path.1
 
 pub returns-clause-known : goal.returns-clause-known
 returns-clause-known z s start a k stopped so =

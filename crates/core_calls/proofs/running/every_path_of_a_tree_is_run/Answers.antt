@@ -1,5 +1,5 @@
 use Rattle.core_calls.proofs.Followed.{path_ran, leads_ran}
-use Rattle.core_calls.proofs.witnesses.every_path_of_a_tree_is_run.Goals as goal
+use Rattle.core_calls.proofs.running.every_path_of_a_tree_is_run.Goals as goal
 
 pub returns-clause-path : goal.returns-clause-path
 returns-clause-path g c s start d ms k a path = path_ran s start k d ms a path
