@@ -5,3 +5,4 @@ pub mod Made
 pub mod Stuck
 pub mod Prototypes
 pub mod Monitors
+pub mod OtherEnds

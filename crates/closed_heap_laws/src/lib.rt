@@ -9,8 +9,14 @@
 #![tactic(auto)]
 
 mod laws;
+mod refused;
 
 pub use laws::{
     monitors_at_the_end_are_apart, the_end_of_a_heap_tells_its_prototypes,
     the_end_of_a_heap_tells_its_run,
+};
+pub use refused::{
+    no_draws_of_another_generator, no_halted_run_that_is_not_stuck,
+    no_monitor_in_two_places_or_in_none, no_prototype_beside_the_counted_verdicts,
+    no_shots_that_are_not_right, no_stamps_with_a_gap_or_twice, no_use_of_an_object_before_its_new,
 };

@@ -3,3 +3,4 @@ pub mod HoldSums
 pub mod OwnHolds
 pub mod OwnWaits
 pub mod OwnShots
+pub mod OtherWords

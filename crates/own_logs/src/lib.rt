@@ -6,8 +6,13 @@
 #![tactic(auto)]
 
 mod laws;
+mod refused;
 
 pub use laws::{
     holds_at_rest_follow_from_the_own_log, shots_at_rest_are_those_of_logged_dumps,
     waits_at_rest_follow_from_the_own_log,
+};
+pub use refused::{
+    no_hold_words_beside_the_own_log, no_shots_beside_the_own_log,
+    no_waiting_word_beside_the_own_log,
 };

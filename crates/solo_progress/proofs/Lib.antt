@@ -19,3 +19,5 @@ pub mod PairReached
 pub mod LoneWorlds
 pub mod LoneReady
 pub mod LoneWaits
+pub mod OtherAnswers
+pub mod QuietWords

@@ -1,5 +1,5 @@
 -- Calls that may begin in small worlds.
-use Rattle.std.proofs.Common.{◌≡◌, ◌≢◌, ℕ, ◌≤◌, sym, ap, subst, true, [], ◌∷◌, refl, arith}
+use Rattle.std.proofs.Common.{◌≡◌, ◌≢◌, ℕ, ◌≤◌, sym, ap, subst, true, false, [], ◌∷◌, refl, arith}
 use Rattle.mark_word.specs.Mark.{read_mark}
 use Rattle.mark_word.specs.Safe.{read_safe}
 use Rattle.mark_word.specs.Wait.{read_wait}
@@ -8,8 +8,10 @@ use Rattle.plain_monitor.specs.declared.entry.Ending.{Ending}
 use Rattle.plain_monitor.specs.declared.entry.Value.TheVariants.{Nil}
 use Rattle.core_world.specs.declared.heap_call.HeapCall.{HeapCall}
 use Rattle.core_world.specs.declared.heap_call.HeapCall.TheVariants as task
+use Rattle.core_world.specs.declared.word_id.WordId.TheVariants.{Mark}
 use Rattle.core_world.specs.Steps.{is_idle}
 use Rattle.core_world.specs.Trees.Calls.{may_begin, steps_of}
+use Rattle.core_world.specs.Words.Forms.{waits_on}
 use Rattle.core_world.specs.Words.Shape.{IsInLimits}
 use Rattle.core_world.specs.Opening.{opening, first_known}
 use Rattle.core_world.specs.Threads.ThreadView.{ThreadView}
@@ -156,3 +158,12 @@ may_notify_all now = refl
 pub may_check : EnteredMay task.Check
 unfolding read_safe read_mark read_hold read_wait
 may_check = refl
+
+-- the mark that an enter by a lock record is given, and that the thread waits on nothing
+pub neutral_mark : running.words (Mark 0) ≡ neutral
+unfolding read_safe
+neutral_mark = refl
+
+pub awake : waits_on (entered.known 0).wait 0 ≡ false
+unfolding read_safe read_mark read_hold read_wait
+awake = refl

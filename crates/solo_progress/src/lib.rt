@@ -14,7 +14,15 @@ pub use alone::{
     calls_at_the_safepoint_word_get_through, calls_that_revoke_get_through,
     calls_without_a_safepoint_get_through, waits_end_where_told,
 };
-pub use refused::{no_enter_that_expects_another_word, no_wait_that_forgets_its_notify};
+pub use refused::{
+    no_call_left_alone_answers_otherwise, no_create_poll_or_resume_answers_otherwise,
+    no_enter_left_alone_beside_the_owner, no_enter_that_expects_another_word,
+    no_part_left_alone_answers_otherwise, no_path_at_the_safepoint_word_answers_otherwise,
+    no_path_of_a_wait_ends_untold, no_path_that_revokes_answers_otherwise,
+    no_path_without_a_safepoint_answers_otherwise, no_run_that_finds_what_nobody_left,
+    no_wait_left_alone_ends_untold, no_wait_that_forgets_its_notify,
+    no_world_of_one_thread_with_an_empty_mark,
+};
 pub use through::{
     a_run_of_one_thread_finds_what_it_left, a_thread_left_alone_enters_unless_another_owns,
     a_thread_left_alone_gets_through, a_thread_left_alone_gets_through_parts,
@@ -22,6 +30,6 @@ pub use through::{
     worlds_with_one_thread_are_quiet,
 };
 pub use witnesses::{
-    a_thread_can_be_left_alone_before_a_revocation, calls_can_begin,
-    owners_requesters_and_waiters_can_go_on,
+    a_thread_can_be_left_alone_before_a_revocation, a_thread_can_move_alone, calls_can_begin,
+    owners_requesters_and_waiters_can_go_on, words_can_be_quiet,
 };

@@ -7,3 +7,5 @@ pub mod Standing
 pub mod Joining
 pub mod MachineSwaps
 pub mod References
+pub mod WrongLogs
+pub mod ExampleLogs

@@ -1,3 +1,4 @@
 pub mod Followed
 pub mod Passed
+pub mod Examples
 pub mod inner

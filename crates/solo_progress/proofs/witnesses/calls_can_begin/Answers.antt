@@ -3,7 +3,7 @@ use Rattle.core_world.specs.declared.heap_call.HeapCall.TheVariants as task
 use Rattle.core_steps.specs.SmallWorlds.{neutral}
 use Rattle.solo_progress.proofs.SmallReady.{running_ready, running_may, entered_ready, first_may}
 use Rattle.solo_progress.proofs.SmallReady.{may_enter, may_stack_enter, may_hash, may_dump, may_request, may_print, may_finish, may_poll, may_stop}
-use Rattle.solo_progress.proofs.SmallReady.{may_exit, may_stack_exit, may_wait, may_notify, may_notify_all, may_check}
+use Rattle.solo_progress.proofs.SmallReady.{may_exit, may_stack_exit, may_wait, may_notify, may_notify_all, may_check, neutral_mark, awake}
 use Rattle.solo_progress.proofs.RoomyReady.{roomy_may}
 use Rattle.solo_progress.proofs.witnesses.calls_can_begin.Goals as goal
 
@@ -11,7 +11,7 @@ pub returns-clause-enter : goal.returns-clause-enter
 returns-clause-enter c now = running_ready (task.Enter 0 now) (may_enter now)
 
 pub returns-clause-stack_enter : goal.returns-clause-stack_enter
-returns-clause-stack_enter c = running_ready (task.StackEnter 0 neutral) may_stack_enter
+returns-clause-stack_enter c = (running_ready (task.StackEnter 0 neutral) may_stack_enter, neutral_mark)
 
 pub returns-clause-hash : goal.returns-clause-hash
 returns-clause-hash c now = running_ready (task.Hash 0 now) (may_hash now)
@@ -41,7 +41,7 @@ pub returns-clause-stack_exit : goal.returns-clause-stack_exit
 returns-clause-stack_exit c = entered_ready (task.StackExit 0) may_stack_exit
 
 pub returns-clause-wait : goal.returns-clause-wait
-returns-clause-wait c now = entered_ready (task.Wait 0 now) (may_wait now)
+returns-clause-wait c now = (entered_ready (task.Wait 0 now) (may_wait now), awake)
 
 pub returns-clause-notify : goal.returns-clause-notify
 returns-clause-notify c now = entered_ready (task.Notify 0 now) (may_notify now)
