@@ -5,5 +5,12 @@
 #![tactic(auto)]
 
 mod laws;
+mod refused;
+mod witnesses;
 
 pub use laws::hashes_fit_just_where_they_are_draws;
+pub use refused::{
+    no_hash_beside_the_generator, no_hash_that_is_found_before_it_is_drawn,
+    no_hash_that_two_threads_draw,
+};
+pub use witnesses::a_hash_is_drawn_once_and_found;

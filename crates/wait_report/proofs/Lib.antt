@@ -11,3 +11,4 @@ pub mod Few
 pub mod Counting
 pub mod HeldBack
 pub mod Stuck
+pub mod StuckExamples
