@@ -20,6 +20,7 @@ mod spelled;
 pub use answer::{CheckFault, Checked, Reached};
 pub use check::check_journal;
 pub use laws::{
-    a_line_is_at_most_one_step, journals_of_legal_logs_are_runs, runs_split_into_legal_logs,
+    a_line_is_at_most_one_step, a_program_joined_with_a_journal_splits_into_both,
+    journals_of_legal_logs_are_runs, runs_split_into_legal_logs,
 };
 pub use parts::{Parts, split_text};
