@@ -25,3 +25,5 @@ pub mod JournalsRun
 pub mod Marked
 pub mod Joined
 pub mod Unmarked
+pub mod Exemplified
+pub mod Refuted
