@@ -10,3 +10,6 @@ pub mod Hashes
 pub mod KnownEnds
 pub mod Trails
 pub mod EveryEnds
+pub mod SpentKept
+pub mod KeptAlone
+pub mod Spinning

@@ -9,7 +9,9 @@ mod find;
 mod laws;
 mod moves;
 mod outcome;
+mod refused;
 mod witness;
+mod witnesses;
 
 pub use ends::End;
 pub use find::{OutcomeError, find_outcomes};
@@ -17,8 +19,12 @@ pub use laws::{
     counted_ends_are_real, counted_programs_have_no_hash, counts_without_faulted_ends,
     counts_without_stuck_ends, every_end_says_how_runs_end, first_ends_are_such_ends,
     searches_are_closed, searches_find_every_end, searches_find_real_machines,
-    searches_have_every_end,
+    searches_have_every_end, spent_threads_are_counted_where_entries_lead_to_one,
 };
 pub use moves::MachineMoves;
 pub use outcome::Outcomes;
+pub use refused::{
+    a_list_of_the_first_machine_alone_is_refused, counts_that_are_all_0_are_refused,
+};
 pub use witness::find_witness;
+pub use witnesses::a_thread_can_be_spent;
