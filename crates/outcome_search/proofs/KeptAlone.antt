@@ -4,7 +4,7 @@ use Rattle.std.proofs.lemmas.Option.{none-some, same_Some}
 use Rattle.plain_monitor.specs.declared.entry.Entry.{Entry}
 use Rattle.object_program.specs.Program.{ProgramText}
 use Rattle.plain_machine.specs.Machine.{PlainMachine, take}
-use Rattle.every_outcome.specs.Covered.{IsSeen, TakesNothing}
+use Rattle.every_outcome.specs.Covered.{TakesNothing}
 use Rattle.every_outcome.specs.Fuel.{refuelled, HasSpent, GoesAloneFull, IsCoveredFull}
 use Rattle.outcome_search.specs.EveryEnd.{IsGoneInto}
 

@@ -13,3 +13,6 @@ pub mod EveryEnds
 pub mod SpentKept
 pub mod KeptAlone
 pub mod Spinning
+pub mod Filled
+pub mod Choosing
+pub mod CutShort
