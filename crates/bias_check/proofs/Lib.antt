@@ -23,3 +23,7 @@ pub mod OrdersOfLogs
 pub mod OneStep
 pub mod JournalsRun
 pub mod Marked
+pub mod Joined
+pub mod Unmarked
+pub mod Exemplified
+pub mod Refuted

@@ -4,4 +4,5 @@ pub mod Answer
 pub mod Logs
 pub mod Printed
 pub mod Parts
+pub mod Example
 pub mod inner

@@ -1,5 +1,5 @@
 -- A text that has a program and a journal: the lines of the program, a line that is the marker, and the lines of the journal.
-use Rattle.std.specs.Prelude.{◌≡◌, ℕ, ◌≤◌, Bool, true, if◌then◌else◌, List, [], ◌∷◌, ◌++◌, codes, length}
+use Rattle.std.specs.Prelude.{◌≡◌, ℕ, ◌==◌, ◌≤◌, Bool, true, if◌then◌else◌, List, [], ◌∷◌, ◌++◌, codes, length}
 use Rattle.std.specs.List.{list_any}
 use Rattle.std.specs.Str.{bytes_eq}
 use Rattle.bias_check.specs.Lines.{lines_of}
@@ -9,6 +9,12 @@ marker = codes "%journal\n"
 
 abbrev pub is_marker : List ℕ → Bool
 is_marker line = bytes_eq line marker
+
+-- each line of the text has its line feed: the text is empty, or its last byte is one
+abbrev pub lines_are_terminated : List ℕ → Bool
+lines_are_terminated [] = true
+lines_are_terminated (b ∷ []) = b == 10
+lines_are_terminated (b ∷ c ∷ bs) = lines_are_terminated (c ∷ bs)
 
 -- the bytes of the lines before the first marker
 abbrev pub before_marker : List (List ℕ) → List ℕ

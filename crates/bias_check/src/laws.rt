@@ -1,6 +1,6 @@
 //! Laws of journals.
 
-ghost use Rattle.std.specs.Prelude.{◌≡◌, ℕ, List, Option, Some, None};
+ghost use Rattle.std.specs.Prelude.{◌≡◌, ℕ, ◌++◌, List, Option, Some, None, Ok, true, false};
 ghost use Rattle.std.specs.List.{AllByRecursion};
 ghost use Rattle.plain_monitor.specs.declared.entry.Logged.{Logged};
 ghost use Rattle.object_program.specs.Program.{ProgramText};
@@ -10,6 +10,8 @@ ghost use Rattle.plain_monitor.specs.Order.{order};
 ghost use Rattle.plain_machine.specs.Legal.{IsLegal, machine_after};
 ghost use Rattle.lock_journal.specs.RunText.{text_of_lines};
 ghost use Rattle.bias_check.specs.Lines.{lines_of};
+ghost use Rattle.program_syntax.specs.Refusal.{program_of};
+ghost use Rattle.bias_check.specs.Parts.{ArePartsOf, has_journal, lines_are_terminated, marker};
 ghost use Rattle.bias_check.specs.Printed.{IsTellable, journal_of};
 ghost use Rattle.bias_check.specs.Steps.{IsStep, IsRun};
 ghost use Rattle.bias_check.specs.Logs.{SplitsIntoLegalLogs};
@@ -39,4 +41,12 @@ pub fn journals_of_legal_logs_are_runs()
     ensures lines { (p : ProgramText) (logs : List (List Logged)) → IsProgram p
         → AllByRecursion (IsTellable p) (order logs)
         → lines_of (text_of_lines (journal_of p logs)) ≡ journal_of p logs }
+{}
+
+/// A text that has a program has no line that is the marker. So where its lines are all terminated, the text, the marker and any journal, written
+/// one after the other, are a text whose program and journal are just these two.
+pub fn a_program_joined_with_a_journal_splits_into_both()
+    ensures unmarked { (text : List ℕ) (p : ProgramText) → program_of text ≡ Ok p → has_journal text ≡ false }
+    ensures parts { (text journal : List ℕ) (p : ProgramText) → program_of text ≡ Ok p → lines_are_terminated text ≡ true
+        → ArePartsOf (text ++ (marker ++ journal)) text journal }
 {}

@@ -22,3 +22,4 @@ pub mod FirstEnters
 pub mod ChosenPaths
 pub mod Passed
 pub mod NotDeclared
+pub mod LonePlain

@@ -15,6 +15,7 @@ mod run;
 mod settings;
 mod shape;
 mod verdict_laws;
+mod witnesses;
 
 pub use laws::a_dump_shows_a_state_that_the_run_passes_through;
 pub use plain_laws::{plain_runs_are_runs_of_all_settings, runs_without_paths_are_plain};
@@ -25,3 +26,4 @@ pub use refused::{
 pub use run::run_program;
 pub use settings::{Ran, Settings};
 pub use verdict_laws::verdicts_come_of_entries;
+pub use witnesses::a_plain_run_comes_about;

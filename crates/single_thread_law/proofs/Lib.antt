@@ -5,3 +5,4 @@ mod Fitting
 mod Ending
 pub mod OneWay
 pub mod Texts
+pub mod LoneExample

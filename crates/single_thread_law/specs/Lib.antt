@@ -1,2 +1,3 @@
 pub mod LoneRun
 pub mod Shots
+pub mod LoneExample

@@ -6,7 +6,9 @@
 #![tactic(auto)]
 
 mod laws;
+mod witnesses;
 
 pub use laws::{
     one_thread_logs_one_way, one_thread_writes_one_text, stamps_of_one_thread_count_its_entries,
 };
+pub use witnesses::a_program_of_one_thread_runs_alone;
