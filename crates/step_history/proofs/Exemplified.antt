@@ -19,9 +19,11 @@ use Rattle.core_world.specs.Words.Shape.{ring_bits}
 use Rattle.core_law.specs.Logic.{Heap}
 use Rattle.core_law.specs.Reached.{IsReachable, opens}
 use Rattle.step_history.specs.Examples.{lone, biased, world_of, waits, halts, contends, owns_beside, revokes}
-use Rattle.step_history.specs.Race.{rivals}
+use Rattle.step_history.specs.Race.{rivals, at_first}
+use Rattle.core_world.specs.Threads.ThreadView.{StepMade}
+use Rattle.step_history.specs.Leads.{Leads}
 use Rattle.step_history.specs.Turns.{all_step}
-use Rattle.step_history.proofs.Turned.{turns_reach}
+use Rattle.step_history.proofs.Turned.{turns_lead, turns_reach}
 
 pub by_turns : (heap : Heap) (turns : List (ℕ × HeapCall))
     → all_step turns (opening heap.shape heap.start heap.biasing) ≡ true → IsReachable heap (world_of heap turns)
@@ -53,3 +55,10 @@ pub revoking : IsReachable biased (world_of biased revokes)
     × (writes_in ((world_of biased revokes).known 1).seen_at_safepoint ≢ [])
 unfolding steps_due is_idle steps_of read_safe read_mark read_hold read_wait read_owner ring_bits
 revoking = (by_turns biased revokes refl, refl, some_write _ [])
+
+each_has : all_step contends at_first ≡ true
+unfolding steps_due is_idle steps_of read_safe read_mark read_hold read_wait read_owner ring_bits
+each_has = refl
+
+pub taken : IsReachable rivals at_first × (all_step contends at_first ≡ true) × ((xs : List (ℕ × StepMade)) × Leads at_first xs (world_of rivals contends))
+taken = (opens, each_has, turns_lead at_first contends each_has)

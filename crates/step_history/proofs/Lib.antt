@@ -6,3 +6,4 @@ pub mod Blamed
 pub mod Turned
 pub mod Raced
 pub mod Exemplified
+pub mod Missed

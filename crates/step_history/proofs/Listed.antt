@@ -24,7 +24,7 @@ listed_reached heap w v xs c stays = c
 listed_reached heap w v xs c (goes ys x t p before within next) = moves x t p (listed_reached heap w x ys c before) within next
 
 -- a step is added to its thread's own
-step_added : (s : Shape) (start : ℕ) (p : StepPlan) (n : ℕ) (k : ThreadView) (b : Bool)
+pub step_added : (s : Shape) (start : ℕ) (p : StepPlan) (n : ℕ) (k : ThreadView) (b : Bool)
     → (cond b (known_hit s start p n k) (known_miss s start p n k)).steps ≡ made p n ∷ k.steps
 step_added s start p n k true = refl
 step_added s start p n k false = refl

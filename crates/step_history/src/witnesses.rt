@@ -18,9 +18,10 @@ ghost use Rattle.step_history.specs.Examples.{lone, biased, world_of, waits, hal
 ghost use Rattle.step_history.specs.Leads.{Leads};
 ghost use Rattle.step_history.specs.Overtaken.{IsCallOf};
 ghost use Rattle.step_history.specs.Race.{rivals, resuming, at_first, other_missed};
+ghost use Rattle.step_history.specs.Turns.{all_step};
 
 /// A heap of two threads comes in four steps to a world in which thread 0 has called a resume that missed its exchange: it expected the
-/// word 0, in which nobody runs, and found that thread 1 runs.
+/// word 0, in which nobody runs, and found that thread 1 runs. So what `calls_race_only_with_another_thread` asks for comes about.
 pub fn a_resume_can_race()
     ensures { (xs : List (ℕ × StepMade)) × Leads at_first xs other_missed
         × IsCallOf 0 (resume_steps resuming (local_of (first_known 0))) xs
@@ -44,4 +45,12 @@ pub fn heaps_come_to_such_worlds()
     ensures revoking { IsReachable biased (world_of biased revokes)
         × (revocation_in ((world_of biased revokes).known 1).stage ≡ Some (record { object = 0; rebias = true; now = 0 }))
         × (writes_in ((world_of biased revokes).known 1).seen_at_safepoint ≢ []) }
+{}
+
+/// A heap of two threads has a step at each of these turns, by which thread 0 enters the object and thread 1 inflates its lock and is
+/// pending for it; and its opening world leads on to the world after them. So what `turns_lead_on` and `reached_worlds_have_their_steps`
+/// ask for comes about.
+pub fn turns_of_two_threads_lead_on()
+    ensures { IsReachable rivals at_first × (all_step contends at_first ≡ true)
+        × ((xs : List (ℕ × StepMade)) × Leads at_first xs (world_of rivals contends)) }
 {}

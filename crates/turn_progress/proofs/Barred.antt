@@ -1,11 +1,14 @@
 -- A turn of a thread that is left alone is blocked by the plain monitors, or the halt.
-use Rattle.std.proofs.Common.{◌≡◌, ℕ, ◌≤◌, ◌&&◌, ◌||◌, not, Bool, true, false, nat_le, ◌+◌, ◌==◌, List, []}
-use Rattle.std.proofs.Common.{◌++◌, length, Some, Ok, refl, sym, ap, ◌∙◌, subst, append_assoc, true≢false}
+use Rattle.std.proofs.Common.{◌≡◌, ℕ, ◌≤◌, ◌&&◌, ◌||◌, not, cond, Bool, true, false, nat_le, ◌+◌, ◌==◌, List, []}
+use Rattle.std.proofs.Common.{◌++◌, length, Some, None, Ok, eq-eqb, refl, sym, ap, ◌∙◌, subst, append_assoc, true≢false}
 use Rattle.std.proofs.lemmas.List.{append_cancel_right}
 use Rattle.plain_monitor.specs.History.{objects_after}
 use Rattle.plain_monitor.specs.Objects.{PlainObject}
+use Rattle.core_world.specs.declared.answer.Progress.{Progress}
 use Rattle.core_world.specs.declared.answer.Progress.TheVariants.{Done, Pending}
 use Rattle.core_world.specs.declared.answer.PendingCause.{PendingCause}
+use Rattle.core_world.specs.declared.answer.PendingCause.TheVariants.{Halted, Requested}
+use Rattle.core_world.specs.declared.word_id.WordId.{WordId}
 use Rattle.core_world.specs.declared.word_id.WordId.TheVariants.{Safepoint, Waiting}
 use Rattle.core_world.specs.declared.heap_call.Operation.TheVariants as op
 use Rattle.core_world.specs.declared.heap_call.HeapCall.{HeapCall}
@@ -13,20 +16,22 @@ use Rattle.core_world.specs.declared.heap_call.HeapCall.TheVariants as task
 use Rattle.core_world.specs.Locks.{monitor_of}
 use Rattle.core_world.specs.Steps.{is_idle}
 use Rattle.core_world.specs.Clauses.Lengths.{log_limit}
-use Rattle.core_world.specs.Threads.ThreadView.{ThreadView, Start, StepMade, start_of}
+use Rattle.core_world.specs.Threads.ThreadView.{ThreadView, Local, Start, StepMade, start_of}
 use Rattle.core_world.specs.Threads.References.{has_reference}
 use Rattle.core_world.specs.Trees.Calls.{steps_of, side_context, may_operate, most_logged, end}
 use Rattle.core_world.specs.Trees.Operations.{goes_on_with, enter_steps, exit_steps, wait_steps, notify_steps, notify_all_steps, hash_steps, dump_steps}
-use Rattle.core_world.specs.Trees.SafepointSteps.{poll_steps, resume_steps, stop_steps, has_requester}
+use Rattle.core_world.specs.Trees.Plans.{CallContext}
+use Rattle.core_world.specs.Trees.SafepointSteps.{poll_steps, resume_steps, resume_swap_steps, unless, stop_steps, has_requester}
 use Rattle.core_world.specs.Trees.StepTree.{StepTree, ◌>>=◌}
 use Rattle.core_world.specs.Words.Forms.{waits_on, is_halted}
+use Rattle.core_world.specs.Words.Names.{same_name}
 use Rattle.core_world.specs.Words.Shape.{Shape, IsInLimits}
 use Rattle.core_world.specs.World.{World, logs}
 use Rattle.core_world.proofs.bias.LookWhileRevoking.{forgotten}
 use Rattle.core_calls.specs.CallsSay.{has_none, is_full}
 use Rattle.core_calls.specs.Paths.{IsPath, FollowsTree}
 use Rattle.core_calls.proofs.Runs.{knows}
-use Rattle.core_law.specs.Logic.{heap_of}
+use Rattle.core_law.specs.Logic.{Heap, heap_of}
 use Rattle.core_law.specs.Reached.{IsReachable}
 use Rattle.core_law.specs.WholeLaw.{LawsHold}
 use Rattle.core_law.proofs.Lawful.{sound_rests}
@@ -40,15 +45,19 @@ use Rattle.thread_interp.specs.declared.moved.RunState.TheVariants.{Blocked}
 use Rattle.thread_interp.specs.Moves.{IsState, IsSetStill, LastCall}
 use Rattle.thread_interp.specs.Runners.{RunnerSeen}
 use Rattle.solo_progress.specs.Answers.{is_other, is_told, is_pending, hash_due, IsDone, PendsWhere, WaitsWhere, LetsGo, RefusedWhere}
-use Rattle.solo_progress.specs.LeftAlone.{start_in}
+use Rattle.solo_progress.specs.Alone.{AnswersAlone}
+use Rattle.solo_progress.specs.LeftAlone.{start_in, MayCall}
 use Rattle.solo_progress.specs.Moves.{Moves, GetsThrough}
 use Rattle.solo_progress.proofs.Exact.{enters_exactly}
-use Rattle.solo_progress.proofs.Laws.{exits, hashes, notifies, notify_alls, waits_first, waits_again, dumps, polls_itself, resumes_itself}
+use Rattle.solo_progress.proofs.Laws.{exits, hashes, notifies, notify_alls, waits_first, waits_again, dumps, polls_itself}
 use Rattle.solo_progress.proofs.Mids.{moved_comes}
-use Rattle.turn_progress.specs.Barred.{Bars, WaitBars, IsBarred}
+use Rattle.solo_progress.proofs.OneRun.{Alone, alone_either, answers_alone}
+use Rattle.solo_progress.proofs.Runs.{gets_through}
+use Rattle.turn_progress.specs.Barred.{Bars, WaitBars, NamesOwner, IsBarred}
 use Rattle.turn_progress.specs.Turns.{OthersStand, TurnAlone}
 use Rattle.turn_progress.proofs.Calls.{second, first_of_two, might_begin, others_on, left_alone, operates}
 use Rattle.turn_progress.proofs.Calls.{unasked_fits, no_requester, CallAlone, says_so, ReadyAlone, ready_alone}
+use Rattle.turn_progress.proofs.Owners.{EnterNames, enters_named, WaitNames, waits_named, lets_go_named}
 use Rattle.turn_progress.proofs.Steps.{same_heap, along_thread, known_by_steps, moved_steps, IsCut, cut_at}
 
 -- THE TREES of the calls that may be pending
@@ -89,11 +98,39 @@ module _ (s : Shape) (k : Start) where
   unfolding steps_of
   resume_is = refl
 
+-- A RESUME where nobody asks: it is pending only where the run is halted, and for that.
+abbrev ResumesWhere : Bool → Progress (Unit {0}) → Type 0
+ResumesWhere halted (Done a) = Unit {0}
+ResumesWhere halted (Pending cause) = (cause ≡ Halted) × (halted ≡ true)
+
+resumes_through : (e : CallContext) (k : Local) (f : WordId → ℕ) → has_requester (f Safepoint) ≡ false
+    → AnswersAlone f (resume_steps e k) (ResumesWhere (is_halted (f Safepoint)))
+resumes_through e k f none =
+    answers_alone (ResumesWhere (is_halted (f Safepoint))) f (resume_steps e k) (by_bars (is_halted (f Safepoint)) (has_requester (f Safepoint)) none)
+  where
+    by_bars : (halted asked : Bool) → asked ≡ false → Alone (λ g progress. ResumesWhere halted progress)
+        (λ n. cond (same_name n Safepoint) (f Safepoint) (f n))
+        (unless (cond halted (Some Halted) (cond asked (Some (Requested (f Safepoint))) None)) (resume_swap_steps e k (f Safepoint)))
+    by_bars true asked none = (refl, refl)
+    by_bars false true none = absurd (cc none)
+    by_bars false false none =
+        alone_either (λ g progress. ResumesWhere false progress) _ (f Safepoint == f Safepoint) _ _ (λ _. tt)
+        (λ miss. let same = eq-eqb (f Safepoint) (f Safepoint) refl in absurd (cc (miss, same)))
+
+resumes_alone : (heap : Heap) (w : World) (t : ℕ) → MayCall heap w t task.Resume → has_requester (w.words Safepoint) ≡ false
+    → GetsThrough heap w t task.Resume (resume_steps (side_context task.Resume (start_in w t)) (start_in w t).local)
+    (ResumesWhere (is_halted (w.words Safepoint)))
+resumes_alone heap w t ready none =
+    gets_through heap ready.limits w t task.Resume ready.reached ready.within ready.idle ready.may
+    (resume_steps (side_context task.Resume (start_in w t)) (start_in w t).local) (ResumesWhere (is_halted (w.words Safepoint)))
+    (resume_is w.shape (start_in w t))
+    (resumes_through (side_context task.Resume (start_in w t)) (start_in w t).local w.words none)
+
 -- ONE PASS AFTER ANOTHER
-record IsAfter (p q : PassSeen) : Type 0 where
-  steps : List StepMade
-  added : q.known.steps ≡ steps ++ p.known.steps
-  thread : q.known.thread ≡ p.known.thread
+pub record IsAfter (p q : PassSeen) : Type 0 where
+  pub steps : List StepMade
+  pub added : q.known.steps ≡ steps ++ p.known.steps
+  pub thread : q.known.thread ≡ p.known.thread
 
 ran_after : {A : Type 0} (h : HeapSeen) (d : StepTree A) (p q : PassSeen) (a : A) → RanFrom h d p q a → IsAfter p q
 ran_after h d p q a ran =
@@ -104,7 +141,7 @@ ran_after h d p q a ran =
       thread = ap (λ (k : ThreadView). k.thread) f.known ∙ along_thread h.heap.shape h.heap.start f.steps p.known;
     }
 
-stop_after : (h : HeapSeen) (b : Bool) (p q : PassSeen) → IsSetStill b h p q → IsAfter p q
+pub stop_after : (h : HeapSeen) (b : Bool) (p q : PassSeen) → IsSetStill b h p q → IsAfter p q
 stop_after h true p q ran = ran_after h (stop_steps (side_context task.Stop (start_now h p)) (start_now h p).local) p q tt ran
 stop_after h false p q same = record { steps = []; added = ap (λ (x : PassSeen). x.known.steps) same; thread = ap (λ (x : PassSeen). x.known.thread) same }
 
@@ -134,12 +171,14 @@ module _ (h : HeapSeen) (quantum t : ℕ) (w v : World) (r q : RunnerSeen) (m : 
 
   -- its last call, in the world in which that began
   record Begun {A : Type 0} (job : HeapCall) (d : Shape → Start → StepTree A) (a : A) : Type 0 where
-    steps : List StepMade
+    same : last.called.call.task ≡ job
     world : World
-    moves : Moves w t steps world
+    moves : Moves w t last.called.earlier world
+    knew : world.known t ≡ before.known
     alone : CallAlone h.heap world t job (d world.shape (start_in world t)) a
 
   module _ {A : Type 0} (job : HeapCall) (d : Shape → Start → StepTree A) (a : A) (is : (s : Shape) (k : Start) → steps_of s job k ≡ (d s k >>= end))
+      (same : last.called.call.task ≡ job)
       (ran : RanFrom h (d h.heap.shape (start_now h before)) before after a) where
     f : FollowsTree h.heap.shape h.heap.start (d h.heap.shape (start_now h before)) before.known after.known a
     f = knows ran
@@ -209,9 +248,10 @@ module _ (h : HeapSeen) (quantum t : ℕ) (w v : World) (r q : RunnerSeen) (m : 
     begun : Begun job d a
     begun =
         record {
-          steps = earlier;
+          same = same;
           world = x;
           moves = call_cut.first;
+          knew = knew_x;
           alone = record {
             call = record {
               limits = limits;
@@ -240,44 +280,54 @@ module _ (h : HeapSeen) (quantum t : ℕ) (w v : World) (r q : RunnerSeen) (m : 
     says P g = says_so h.heap b.world t job (d b.world.shape (start_in b.world t)) a P b.alone g
 
     told : (objects : List PlainObject) → objects_after b.world.shape.objects (logs b.world) ≡ Some objects → Bars b.world objects t job why
-        → IsBarred w t why
+        → IsBarred h w t why r q
     told objects history bars =
-        record { steps = b.steps; world = b.world; moves = b.moves; objects = objects; history = history; task = job; bars = bars }
+        record {
+          last = last;
+          world = b.world;
+          moves = b.moves;
+          knew = b.knew;
+          objects = objects;
+          history = history;
+          bars = subst (λ (z : HeapCall). Bars b.world objects t z why) (sym b.same) bars;
+        }
 
   -- THE CASES. An operation on o begins where its thread runs or asks.
   goes_on : (x : World) (o : ℕ) (going : Bool) → (has_reference x.shape (x.known t) o && may_operate (x.known t) going) ≡ true
       → ((x.known t).running || (x.known t).requesting) ≡ true
   goes_on x o going may = operates (x.known t) going (second (has_reference x.shape (x.known t) o) (may_operate (x.known t) going) may)
 
-  enter_barred : (o now : ℕ) → Begun (task.Enter o now) (λ s k. enter_steps s k o now) (Ok (Pending why)) → IsBarred w t why
+  enter_barred : (o now : ℕ) → Begun (task.Enter o now) (λ s k. enter_steps s k o now) (Ok (Pending why)) → IsBarred h w t why r q
   enter_barred o now b =
       let y = ready b (goes_on b.world o (goes_on_with op.Enter o (b.world.known t).unfinished) b.alone.call.may) in
-      told b y.objects y.ready.history
-      (says b (RefusedWhere (is_full (start_in b.world t) o) (PendsWhere (is_other (monitor_of y.objects o).owner t)))
-      (enters_exactly h.heap b.world y.objects t o now y.ready)).1
+      told b y.objects y.ready.history (
+        (says b (RefusedWhere (is_full (start_in b.world t) o) (PendsWhere (is_other (monitor_of y.objects o).owner t)))
+            (enters_exactly h.heap b.world y.objects t o now y.ready)).1,
+        says b (EnterNames (monitor_of y.objects o).owner) (enters_named h.heap b.world y.objects t o now y.ready),
+      )
 
-  exit_barred : (o : ℕ) → Begun (task.Exit o) (λ s k. exit_steps k o) (Ok (Pending why)) → IsBarred w t why
+  exit_barred : (o : ℕ) → Begun (task.Exit o) (λ s k. exit_steps k o) (Ok (Pending why)) → IsBarred h w t why r q
   exit_barred o b =
       let y = ready b (goes_on b.world o (goes_on_with op.Exit o (b.world.known t).unfinished) b.alone.call.may) in
       absurd (says b (RefusedWhere (has_none (start_in b.world t) o) IsDone) (exits h.heap b.world y.objects t o y.ready)).1
 
-  notify_barred : (o now : ℕ) → Begun (task.Notify o now) (λ s k. notify_steps s k o now) (Ok (Pending why)) → IsBarred w t why
+  notify_barred : (o now : ℕ) → Begun (task.Notify o now) (λ s k. notify_steps s k o now) (Ok (Pending why)) → IsBarred h w t why r q
   notify_barred o now b =
       let y = ready b (goes_on b.world o (goes_on_with op.Notify o (b.world.known t).unfinished) b.alone.call.may) in
       absurd (says b (RefusedWhere (has_none (start_in b.world t) o) IsDone) (notifies h.heap b.world y.objects t o now y.ready)).1
 
-  notify_all_barred : (o now : ℕ) → Begun (task.NotifyAll o now) (λ s k. notify_all_steps s k o now) (Ok (Pending why)) → IsBarred w t why
+  notify_all_barred : (o now : ℕ) → Begun (task.NotifyAll o now) (λ s k. notify_all_steps s k o now) (Ok (Pending why)) → IsBarred h w t why r q
   notify_all_barred o now b =
       let y = ready b (goes_on b.world o (goes_on_with op.NotifyAll o (b.world.known t).unfinished) b.alone.call.may) in
       absurd (says b (RefusedWhere (has_none (start_in b.world t) o) IsDone) (notify_alls h.heap b.world y.objects t o now y.ready)).1
 
-  hash_barred : (o now : ℕ) → Begun (task.Hash o now) (λ s k. hash_steps s k o now) (Pending why) → IsBarred w t why
+  hash_barred : (o now : ℕ) → Begun (task.Hash o now) (λ s k. hash_steps s k o now) (Pending why) → IsBarred h w t why r q
   hash_barred o now b =
       let y = ready b (goes_on b.world o (goes_on_with op.Hash o (b.world.known t).unfinished) b.alone.call.may) in
       let none = says b (λ turn. turn ≡ Done (hash_due y.objects o (start_in b.world t))) (hashes h.heap b.world y.objects t o now y.ready) in
       absurd (cc none)
 
-  dump_barred : Begun task.Dump (λ s k. dump_steps s k) (Ok (Pending why)) → IsBarred w t why
+  dump_barred : Begun task.Dump (λ s k. dump_steps s k) (Ok (Pending why)) → IsBarred h w t why r q
   dump_barred b =
       let y = ready b (operates (b.world.known t) (goes_on_with op.Dump 0 (b.world.known t).unfinished) b.alone.call.may) in
       let none = (says b (RefusedWhere ((start_in b.world t).shots == 4) (λ turn. turn ≡ Done ((start_in b.world t).shots + 1)))
@@ -285,7 +335,7 @@ module _ (h : HeapSeen) (quantum t : ℕ) (w v : World) (r q : RunnerSeen) (m : 
       absurd (cc none)
 
   -- a wait that begins, or goes on
-  wait_barred : (o now : ℕ) → Begun (task.Wait o now) (λ s k. wait_steps s k o now) (Ok (Pending why)) → IsBarred w t why
+  wait_barred : (o now : ℕ) → Begun (task.Wait o now) (λ s k. wait_steps s k o now) (Ok (Pending why)) → IsBarred h w t why r q
   wait_barred o now b = told b y.objects y.ready.history (by_word (waits_on (b.world.known t).wait o) refl)
     where
       k : ThreadView
@@ -304,17 +354,21 @@ module _ (h : HeapSeen) (quantum t : ℕ) (w v : World) (r q : RunnerSeen) (m : 
       owned : Bool
       owned = is_other (monitor_of y.objects o).owner t
 
-      by_word : (waits : Bool) → waits_on (b.world.known t).wait o ≡ waits → WaitBars (waits_on (b.world.known t).wait o) told_so owned why
+      by_word : (waits : Bool) → waits_on (b.world.known t).wait o ≡ waits
+          → WaitBars (waits_on (b.world.known t).wait o) told_so owned why × NamesOwner (monitor_of y.objects o).owner why
       by_word false is =
-          subst (λ z. WaitBars z told_so owned why) (sym is)
-          (says b (RefusedWhere (has_none (start_in b.world t) o) LetsGo) (waits_first h.heap b.world y.objects t o now y.ready is)).1
-      by_word true is =
-          subst (λ z. WaitBars z told_so owned why) (sym is)
-          (says b (RefusedWhere (has_none (start_in b.world t) o) (WaitsWhere told_so owned))
-          (waits_again h.heap b.world y.objects t o now y.ready is)).1
+          let lets_go = (says b (RefusedWhere (has_none (start_in b.world t) o) LetsGo) (waits_first h.heap b.world y.objects t o now y.ready is)).1 in
+          (subst (λ z. WaitBars z told_so owned why) (sym is) lets_go, lets_go_named (monitor_of y.objects o).owner why lets_go)
+      by_word true is = (
+        subst (λ z. WaitBars z told_so owned why) (sym is)
+            (says b (RefusedWhere (has_none (start_in b.world t) o) (WaitsWhere told_so owned))
+            (waits_again h.heap b.world y.objects t o now y.ready is)).1,
+        (says b (RefusedWhere (has_none (start_in b.world t) o) (WaitNames (monitor_of y.objects o).owner))
+            (waits_named h.heap b.world y.objects t o now y.ready is)).1,
+      )
 
   -- a poll finds no requester, since nobody asks
-  poll_barred : Begun task.Poll (λ s k. poll_steps (side_context task.Poll k)) (Pending why) → IsBarred w t why
+  poll_barred : Begun task.Poll (λ s k. poll_steps (side_context task.Poll k)) (Pending why) → IsBarred h w t why r q
   poll_barred b =
       let runs : (b.world.known t).running ≡ true = b.alone.call.may in
       let free = unless_runs (b.world.known t).requesting runs b.alone.rest.stopped in
@@ -328,44 +382,39 @@ module _ (h : HeapSeen) (quantum t : ℕ) (w v : World) (r q : RunnerSeen) (m : 
       unless_runs true runs stopped = absurd (true≢false (sym runs ∙ stopped refl))
       unless_runs false runs stopped = refl
 
-  -- nor does a resume
-  resume_barred : Begun task.Resume (λ s k. resume_steps (side_context task.Resume k) k.local) (Pending why) → IsBarred w t why
+  -- nor does a resume, which then is pending for the halt alone
+  resume_barred : Begun task.Resume (λ s k. resume_steps (side_context task.Resume k) k.local) (Pending why) → IsBarred h w t why r q
   resume_barred b =
       let free = not_false (b.world.known t).requesting
       (second (not (b.world.known t).running) (not (b.world.known t).requesting) b.alone.call.may) in
       let valid = reached_worlds_valid h.heap b.world limits b.alone.call.reached in
       let fits = unasked_fits b.world valid.objects t b.alone.others free (forgotten LawsHold b.world valid.objects valid.is) in
       let none = no_requester b.world valid.objects t b.alone.others free fits in
-      let barred = says b (λ turn. is_pending turn ≡ (is_halted (b.world.words Safepoint) || has_requester (b.world.words Safepoint)))
-      (resumes_itself h.heap b.world t b.alone.call) in
-      told b valid.objects fits.taken (the_first (is_halted (b.world.words Safepoint)) (has_requester (b.world.words Safepoint)) (sym barred) none)
+      told b valid.objects fits.taken
+      (says b (ResumesWhere (is_halted (b.world.words Safepoint))) (resumes_alone h.heap b.world t b.alone.call none))
     where
       not_false : (asks : Bool) → not asks ≡ true → asks ≡ false
       not_false true h = absurd (cc h)
       not_false false h = refl
 
-      the_first : (halted asked : Bool) → (halted || asked) ≡ true → asked ≡ false → halted ≡ true
-      the_first true asked either none = refl
-      the_first false asked either none = absurd (true≢false (sym either ∙ none))
-
-  barred : (job : HeapCall) → PendedIn h why before after job → IsBarred w t why
-  barred (task.Enter o now) ran =
-      enter_barred o now (begun (task.Enter o now) (λ s k. enter_steps s k o now) (Ok (Pending why)) (λ s k. enter_is s k o now) ran)
-  barred (task.Exit o) ran = exit_barred o (begun (task.Exit o) (λ s k. exit_steps k o) (Ok (Pending why)) (λ s k. exit_is s k o) ran)
-  barred (task.Wait o now) ran =
-      wait_barred o now (begun (task.Wait o now) (λ s k. wait_steps s k o now) (Ok (Pending why)) (λ s k. wait_is s k o now) ran)
-  barred (task.Notify o now) ran =
-      notify_barred o now (begun (task.Notify o now) (λ s k. notify_steps s k o now) (Ok (Pending why)) (λ s k. notify_is s k o now) ran)
-  barred (task.NotifyAll o now) ran =
+  barred : (job : HeapCall) → last.called.call.task ≡ job → PendedIn h why before after job → IsBarred h w t why r q
+  barred (task.Enter o now) same ran =
+      enter_barred o now (begun (task.Enter o now) (λ s k. enter_steps s k o now) (Ok (Pending why)) (λ s k. enter_is s k o now) same ran)
+  barred (task.Exit o) same ran = exit_barred o (begun (task.Exit o) (λ s k. exit_steps k o) (Ok (Pending why)) (λ s k. exit_is s k o) same ran)
+  barred (task.Wait o now) same ran =
+      wait_barred o now (begun (task.Wait o now) (λ s k. wait_steps s k o now) (Ok (Pending why)) (λ s k. wait_is s k o now) same ran)
+  barred (task.Notify o now) same ran =
+      notify_barred o now (begun (task.Notify o now) (λ s k. notify_steps s k o now) (Ok (Pending why)) (λ s k. notify_is s k o now) same ran)
+  barred (task.NotifyAll o now) same ran =
       notify_all_barred o now
-      (begun (task.NotifyAll o now) (λ s k. notify_all_steps s k o now) (Ok (Pending why)) (λ s k. notify_all_is s k o now) ran)
-  barred (task.Hash o now) ran =
-      hash_barred o now (begun (task.Hash o now) (λ s k. hash_steps s k o now) (Pending why) (λ s k. hash_is s k o now) ran)
-  barred task.Dump ran = dump_barred (begun task.Dump (λ s k. dump_steps s k) (Ok (Pending why)) dump_is ran)
-  barred task.Poll ran = poll_barred (begun task.Poll (λ s k. poll_steps (side_context task.Poll k)) (Pending why) poll_is ran)
-  barred task.Resume ran =
-      resume_barred (begun task.Resume (λ s k. resume_steps (side_context task.Resume k) k.local) (Pending why) resume_is ran)
-  barred job ran = absurd ran
+      (begun (task.NotifyAll o now) (λ s k. notify_all_steps s k o now) (Ok (Pending why)) (λ s k. notify_all_is s k o now) same ran)
+  barred (task.Hash o now) same ran =
+      hash_barred o now (begun (task.Hash o now) (λ s k. hash_steps s k o now) (Pending why) (λ s k. hash_is s k o now) same ran)
+  barred task.Dump same ran = dump_barred (begun task.Dump (λ s k. dump_steps s k) (Ok (Pending why)) dump_is same ran)
+  barred task.Poll same ran = poll_barred (begun task.Poll (λ s k. poll_steps (side_context task.Poll k)) (Pending why) poll_is same ran)
+  barred task.Resume same ran =
+      resume_barred (begun task.Resume (λ s k. resume_steps (side_context task.Resume k) k.local) (Pending why) resume_is same ran)
+  barred job same ran = absurd ran
 
-  pub blocked_barred : IsBarred w t why
-  blocked_barred = barred last.called.call.task last.called.call.is
+  pub blocked_barred : IsBarred h w t why r q
+  blocked_barred = barred last.called.call.task refl last.called.call.is

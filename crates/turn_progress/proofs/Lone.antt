@@ -9,7 +9,7 @@ use Rattle.plain_monitor.specs.Objects.{PlainObject}
 use Rattle.plain_monitor.specs.declared.entry.Path.{Path}
 use Rattle.core_world.specs.declared.answer.Progress.TheVariants.{Pending}
 use Rattle.core_world.specs.declared.answer.PendingCause.{PendingCause}
-use Rattle.core_world.specs.declared.answer.PendingCause.TheVariants.{Owned, NotNotified}
+use Rattle.core_world.specs.declared.answer.PendingCause.TheVariants.{Owned, NotNotified, Halted}
 use Rattle.core_world.specs.declared.word_id.WordId.TheVariants.{Safepoint, Waiting}
 use Rattle.core_world.specs.declared.heap_call.HeapCall.{HeapCall}
 use Rattle.core_world.specs.declared.heap_call.HeapCall.TheVariants as task
@@ -30,6 +30,8 @@ use Rattle.core_law.specs.Logic.{Heap}
 use Rattle.core_law.specs.Reached.{IsReachable, opens, moves}
 use Rattle.core_law.specs.WholeLaw.{LawsHold}
 use Rattle.core_steps.proofs.ReachedWorlds.{reached_worlds_valid}
+use Rattle.heap_table.specs.Seen.{HeapSeen}
+use Rattle.thread_interp.specs.Runners.{RunnerSeen}
 use Rattle.solo_progress.specs.Answers.{is_other, is_told, PendsWhere, WaitsWhere, LetsGo}
 use Rattle.solo_progress.proofs.Mids.{moved_comes}
 use Rattle.turn_progress.specs.Barred.{Bars, WaitBars, IsBarred}
@@ -101,21 +103,22 @@ own_wait false told owned why free h = h
 own_wait true told owned why free h = for_notify why told owned free h
 
 own_bar : (x : World) (P : List PlainObject) (job : HeapCall) (why : PendingCause) → ((o : ℕ) → is_other (monitor_of P o).owner 0 ≡ false) → Bars x P 0 job why
-    → LetsGo {A = Unit {0}} (Pending why) ⊎ (is_halted (x.words Safepoint) ≡ true)
-own_bar x P (task.Enter o now) why free bars = absurd (no_owner why (subst (λ b. PendsWhere {A = Path} b (Pending why)) (free o) bars))
+    → LetsGo {A = Unit {0}} (Pending why) ⊎ ((why ≡ Halted) × (is_halted (x.words Safepoint) ≡ true))
+own_bar x P (task.Enter o now) why free bars = absurd (no_owner why (subst (λ b. PendsWhere {A = Path} b (Pending why)) (free o) bars.0))
 own_bar x P (task.Wait o now) why free bars =
-    inl (own_wait (waits_on (x.known 0).wait o) (is_told (x.words (Waiting 0))) (is_other (monitor_of P o).owner 0) why (free o) bars)
+    inl (own_wait (waits_on (x.known 0).wait o) (is_told (x.words (Waiting 0))) (is_other (monitor_of P o).owner 0) why (free o) bars.0)
 own_bar x P task.Resume why free bars = inr bars
 own_bar x P job why free bars = absurd bars
 
-pub own_bars : (heap : Heap) (w : World) (why : PendingCause) (b : IsBarred w 0 why) → IsInLimits heap.shape → heap.shape.threads ≡ 1 → IsReachable heap w
-    → LetsGo {A = Unit {0}} (Pending why) ⊎ (is_halted (b.world.words Safepoint) ≡ true)
-own_bars heap w why b limits one c =
-    let few = threads_in heap w c one in
-    let comes_x : IsReachable heap b.world = moved_comes heap w 0 b.steps b.world (omega (arith, few)) c b.moves in
-    let v = reached_worlds_valid heap b.world limits comes_x in
+pub own_bars : (h : HeapSeen) (w : World) (why : PendingCause) (r q : RunnerSeen) (b : IsBarred h w 0 why r q) → IsInLimits h.heap.shape
+    → h.heap.shape.threads ≡ 1 → IsReachable h.heap w
+    → LetsGo {A = Unit {0}} (Pending why) ⊎ ((why ≡ Halted) × (is_halted (b.world.words Safepoint) ≡ true))
+own_bars h w why r q b limits one c =
+    let few = threads_in h.heap w c one in
+    let comes_x : IsReachable h.heap b.world = moved_comes h.heap w 0 b.last.called.earlier b.world (omega (arith, few)) c b.moves in
+    let v = reached_worlds_valid h.heap b.world limits comes_x in
     let valid : IsValid b.world v.objects = forgotten LawsHold b.world v.objects v.is in
     let same : v.objects ≡ b.objects = same_Some v.objects b.objects (sym (taken_of b.world v.objects valid) ∙ b.history) in
-    own_bar b.world b.objects b.task why
-    (λ o. subst (λ P. is_other (monitor_of P o).owner 0 ≡ false) same (unowned_valid b.world v.objects valid (threads_in heap b.world comes_x one) o))
+    own_bar b.world b.objects b.last.called.call.task why
+    (λ o. subst (λ P. is_other (monitor_of P o).owner 0 ≡ false) same (unowned_valid b.world v.objects valid (threads_in h.heap b.world comes_x one) o))
     b.bars

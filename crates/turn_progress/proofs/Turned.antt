@@ -51,15 +51,15 @@ module _ (h : HeapSeen) (quantum t : ℕ) (w : World) (r : RunnerSeen) where
 
 pub ends_or_barred : (h : HeapSeen) (quantum t n : ℕ) (w x v : World) (r q z : RunnerSeen) (m : Moved) → IsInLimits h.heap.shape → IsReachable h.heap w
     → OthersStand w t → LiveAlone h quantum t w r n x q → TurnAlone h quantum t x q v z m → unspent r.frame < n * quantum + quantum
-    → (has_ended z.frame ≡ true) ⊎ ((why : PendingCause) × IsBarred x t why)
+    → (has_ended z.frame ≡ true) ⊎ ((why : PendingCause) × (m.state ≡ Blocked why) × IsBarred h x t why q z)
 ends_or_barred h quantum t n w x v r q z m limits c o before turn few = by_state m.state refl
   where
-    by_state : (state : RunState) → m.state ≡ state → (has_ended z.frame ≡ true) ⊎ ((why : PendingCause) × IsBarred x t why)
+    by_state : (state : RunState) → m.state ≡ state → (has_ended z.frame ≡ true) ⊎ ((why : PendingCause) × (m.state ≡ Blocked why) × IsBarred h x t why q z)
     by_state Live is =
         let spent = live_spend h quantum r n q (alone_live h quantum t w r n x q before) in
         let did = live_does h quantum q z m turn.moved is in
         absurd (omega (arith, spent, did, turn.moved.spent, few))
     by_state (Blocked why) is =
         let s = stands_on h quantum t w r n x q c o before in
-        inr (why, blocked_barred h quantum t x v q z m why limits s.reached s.others turn is)
+        inr (why, is, blocked_barred h quantum t x v q z m why limits s.reached s.others turn is)
     by_state Ended is = inl (subst (IsState h quantum m.instructions q.pass z) is turn.moved.state).0
