@@ -53,10 +53,11 @@ use Rattle.solo_progress.proofs.Laws.{exits, hashes, notifies, notify_alls, wait
 use Rattle.solo_progress.proofs.Mids.{moved_comes}
 use Rattle.solo_progress.proofs.OneRun.{Alone, alone_either, answers_alone}
 use Rattle.solo_progress.proofs.Runs.{gets_through}
-use Rattle.turn_progress.specs.Barred.{Bars, WaitBars, IsBarred}
+use Rattle.turn_progress.specs.Barred.{Bars, WaitBars, NamesOwner, IsBarred}
 use Rattle.turn_progress.specs.Turns.{OthersStand, TurnAlone}
 use Rattle.turn_progress.proofs.Calls.{second, first_of_two, might_begin, others_on, left_alone, operates}
 use Rattle.turn_progress.proofs.Calls.{unasked_fits, no_requester, CallAlone, says_so, ReadyAlone, ready_alone}
+use Rattle.turn_progress.proofs.Owners.{EnterNames, enters_named, WaitNames, waits_named, lets_go_named}
 use Rattle.turn_progress.proofs.Steps.{same_heap, along_thread, known_by_steps, moved_steps, IsCut, cut_at}
 
 -- THE TREES of the calls that may be pending
@@ -299,9 +300,11 @@ module _ (h : HeapSeen) (quantum t : ℕ) (w v : World) (r q : RunnerSeen) (m : 
   enter_barred : (o now : ℕ) → Begun (task.Enter o now) (λ s k. enter_steps s k o now) (Ok (Pending why)) → IsBarred h w t why r q
   enter_barred o now b =
       let y = ready b (goes_on b.world o (goes_on_with op.Enter o (b.world.known t).unfinished) b.alone.call.may) in
-      told b y.objects y.ready.history
-      (says b (RefusedWhere (is_full (start_in b.world t) o) (PendsWhere (is_other (monitor_of y.objects o).owner t)))
-      (enters_exactly h.heap b.world y.objects t o now y.ready)).1
+      told b y.objects y.ready.history (
+        (says b (RefusedWhere (is_full (start_in b.world t) o) (PendsWhere (is_other (monitor_of y.objects o).owner t)))
+            (enters_exactly h.heap b.world y.objects t o now y.ready)).1,
+        says b (EnterNames (monitor_of y.objects o).owner) (enters_named h.heap b.world y.objects t o now y.ready),
+      )
 
   exit_barred : (o : ℕ) → Begun (task.Exit o) (λ s k. exit_steps k o) (Ok (Pending why)) → IsBarred h w t why r q
   exit_barred o b =
@@ -351,14 +354,18 @@ module _ (h : HeapSeen) (quantum t : ℕ) (w v : World) (r q : RunnerSeen) (m : 
       owned : Bool
       owned = is_other (monitor_of y.objects o).owner t
 
-      by_word : (waits : Bool) → waits_on (b.world.known t).wait o ≡ waits → WaitBars (waits_on (b.world.known t).wait o) told_so owned why
+      by_word : (waits : Bool) → waits_on (b.world.known t).wait o ≡ waits
+          → WaitBars (waits_on (b.world.known t).wait o) told_so owned why × NamesOwner (monitor_of y.objects o).owner why
       by_word false is =
-          subst (λ z. WaitBars z told_so owned why) (sym is)
-          (says b (RefusedWhere (has_none (start_in b.world t) o) LetsGo) (waits_first h.heap b.world y.objects t o now y.ready is)).1
-      by_word true is =
-          subst (λ z. WaitBars z told_so owned why) (sym is)
-          (says b (RefusedWhere (has_none (start_in b.world t) o) (WaitsWhere told_so owned))
-          (waits_again h.heap b.world y.objects t o now y.ready is)).1
+          let lets_go = (says b (RefusedWhere (has_none (start_in b.world t) o) LetsGo) (waits_first h.heap b.world y.objects t o now y.ready is)).1 in
+          (subst (λ z. WaitBars z told_so owned why) (sym is) lets_go, lets_go_named (monitor_of y.objects o).owner why lets_go)
+      by_word true is = (
+        subst (λ z. WaitBars z told_so owned why) (sym is)
+            (says b (RefusedWhere (has_none (start_in b.world t) o) (WaitsWhere told_so owned))
+            (waits_again h.heap b.world y.objects t o now y.ready is)).1,
+        (says b (RefusedWhere (has_none (start_in b.world t) o) (WaitNames (monitor_of y.objects o).owner))
+            (waits_named h.heap b.world y.objects t o now y.ready is)).1,
+      )
 
   -- a poll finds no requester, since nobody asks
   poll_barred : Begun task.Poll (λ s k. poll_steps (side_context task.Poll k)) (Pending why) → IsBarred h w t why r q

@@ -1,5 +1,7 @@
 pub mod Steps
 pub mod Calls
+pub mod Shown
+pub mod Owners
 pub mod Barred
 pub mod Turned
 pub mod Lone

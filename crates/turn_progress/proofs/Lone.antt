@@ -104,9 +104,9 @@ own_wait true told owned why free h = for_notify why told owned free h
 
 own_bar : (x : World) (P : List PlainObject) (job : HeapCall) (why : PendingCause) → ((o : ℕ) → is_other (monitor_of P o).owner 0 ≡ false) → Bars x P 0 job why
     → LetsGo {A = Unit {0}} (Pending why) ⊎ ((why ≡ Halted) × (is_halted (x.words Safepoint) ≡ true))
-own_bar x P (task.Enter o now) why free bars = absurd (no_owner why (subst (λ b. PendsWhere {A = Path} b (Pending why)) (free o) bars))
+own_bar x P (task.Enter o now) why free bars = absurd (no_owner why (subst (λ b. PendsWhere {A = Path} b (Pending why)) (free o) bars.0))
 own_bar x P (task.Wait o now) why free bars =
-    inl (own_wait (waits_on (x.known 0).wait o) (is_told (x.words (Waiting 0))) (is_other (monitor_of P o).owner 0) why (free o) bars)
+    inl (own_wait (waits_on (x.known 0).wait o) (is_told (x.words (Waiting 0))) (is_other (monitor_of P o).owner 0) why (free o) bars.0)
 own_bar x P task.Resume why free bars = inr bars
 own_bar x P job why free bars = absurd bars
 

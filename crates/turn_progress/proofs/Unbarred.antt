@@ -2,6 +2,7 @@
 use Rattle.std.proofs.Common.{◌≡◌, ◌≢◌, ◌⊎◌, ℕ, ◌+◌, ◌*◌, ◌<◌, ◌≤◌, Bool, true, false, List, ◌++◌, length}
 use Rattle.std.proofs.Common.{refl, sym, ap, ◌∙◌, subst, arith, inl, inr, true≢false}
 use Rattle.std.proofs.lemmas.List.{append_cancel_left, length-append}
+use Rattle.mark_word.specs.Owner.{read_owner}
 use Rattle.plain_monitor.specs.Objects.{PlainObject}
 use Rattle.plain_monitor.specs.declared.entry.Path.{Path}
 use Rattle.core_world.specs.declared.answer.Progress.TheVariants.{Pending}
@@ -25,7 +26,7 @@ use Rattle.thread_interp.specs.declared.moved.Moved.{Moved}
 use Rattle.thread_interp.specs.declared.moved.RunState.TheVariants.{Live, Blocked}
 use Rattle.thread_interp.specs.Moves.{HasMoved, IsState}
 use Rattle.thread_interp.specs.Runners.{RunnerSeen}
-use Rattle.turn_progress.specs.Barred.{Bars, WaitBars, IsBarred}
+use Rattle.turn_progress.specs.Barred.{Bars, WaitBars, named_by, IsBarred}
 use Rattle.turn_progress.specs.Turns.{LiveTurns, OthersStand}
 use Rattle.turn_progress.proofs.Barred.{stop_after}
 use Rattle.turn_progress.proofs.Beginning.{heap, runner, limits}
@@ -78,7 +79,7 @@ told_and_unowned cause h = h
 
 enter_free : (w : World) (P : List PlainObject) (t o now : ℕ) (cause : PendingCause) → is_other (monitor_of P o).owner t ≡ false
     → Bars w P t (task.Enter o now) cause → ⊥
-enter_free w P t o now cause free bars = unowned cause (subst (λ b. PendsWhere {A = Path} b (Pending cause)) free bars)
+enter_free w P t o now cause free bars = unowned cause (subst (λ b. PendsWhere {A = Path} b (Pending cause)) free bars.0)
 
 wait_free : (waits told owned : Bool) (cause : PendingCause) → waits ≡ true → told ≡ true → owned ≡ false → WaitBars waits told owned cause → ⊥
 wait_free waits told owned cause waiting notified free bars =
@@ -99,7 +100,7 @@ module _ (h : HeapSeen) (w : World) (t o now : ℕ) (cause : PendingCause) (r q 
       → is_told (b.world.words (Waiting t)) ≡ true → is_other (monitor_of b.objects o).owner t ≡ false → ⊥
   wait_goes_on is waits told free =
       wait_free (waits_on (b.world.known t).wait o) (is_told (b.world.words (Waiting t))) (is_other (monitor_of b.objects o).owner t) cause
-      waits told free (bar_of h w t cause r q b (task.Wait o now) is)
+      waits told free (bar_of h w t cause r q b (task.Wait o now) is).0
 
   pub notify_goes_on : b.last.called.call.task ≡ task.Notify o now → ⊥
   notify_goes_on is = bar_of h w t cause r q b (task.Notify o now) is
@@ -149,9 +150,9 @@ wait_bar cause false told owned h = lets_go_bar cause h
 wait_bar cause true told owned h = waits_bar cause told owned h
 
 only_bars : (w : World) (P : List PlainObject) (t : ℕ) (job : HeapCall) (cause : PendingCause) → Bars w P t job cause → is_bar cause ≡ true
-only_bars w P t (task.Enter o now) cause bars = pends_bar cause (is_other (monitor_of P o).owner t) bars
+only_bars w P t (task.Enter o now) cause bars = pends_bar cause (is_other (monitor_of P o).owner t) bars.0
 only_bars w P t (task.Wait o now) cause bars =
-    wait_bar cause (waits_on (w.known t).wait o) (is_told (w.words (Waiting t))) (is_other (monitor_of P o).owner t) bars
+    wait_bar cause (waits_on (w.known t).wait o) (is_told (w.words (Waiting t))) (is_other (monitor_of P o).owner t) bars.0
 only_bars w P t task.Resume cause bars = ap is_bar bars.0
 only_bars w P t job cause bars = absurd bars
 
@@ -174,7 +175,16 @@ pub never_begins : (h : HeapSeen) (w : World) (t o now word : ℕ) (r q : Runner
     → b.last.called.call.task ≡ task.Wait o now → waits_on (b.world.known t).wait o ≡ false → ⊥
 never_begins h w t o now word r q b is begins =
     subst (λ (x : Bool). WaitBars x (is_told (b.world.words (Waiting t))) (is_other (monitor_of b.objects o).owner t) (why.Owned word)) begins
-    (bar_of h w t (why.Owned word) r q b (task.Wait o now) is)
+    (bar_of h w t (why.Owned word) r q b (task.Wait o now) is).0
+
+-- an owner word that names another thread than the plain owner
+pub never_enters : (h : HeapSeen) (w : World) (t o now word : ℕ) (r q : RunnerSeen) (b : IsBarred h w t (why.Owned word) r q)
+    → b.last.called.call.task ≡ task.Enter o now → named_by (read_owner word) ≢ (monitor_of b.objects o).owner → ⊥
+never_enters h w t o now word r q b is differ = differ (bar_of h w t (why.Owned word) r q b (task.Enter o now) is).1
+
+pub never_waits : (h : HeapSeen) (w : World) (t o now word : ℕ) (r q : RunnerSeen) (b : IsBarred h w t (why.Owned word) r q)
+    → b.last.called.call.task ≡ task.Wait o now → named_by (read_owner word) ≢ (monitor_of b.objects o).owner → ⊥
+never_waits h w t o now word r q b is differ = differ (bar_of h w t (why.Owned word) r q b (task.Wait o now) is).1
 
 -- LIVE TURNS
 pub live_goes_on : (h : HeapSeen) (quantum t : ℕ) (w : World) (r q : RunnerSeen) (m : Moved) → HasMoved h quantum r q m → m.state ≡ Live

@@ -1,11 +1,14 @@
 -- Why a turn of a thread that is left alone is blocked.
-use Rattle.std.specs.Prelude.{◌≡◌, ℕ, Bool, true, false, List, Some}
+use Rattle.std.specs.Prelude.{◌≡◌, ℕ, Bool, true, false, List, Option, Some, None}
+use Rattle.mark_word.specs.declared.owner.OwnerForm.{OwnerForm}
+use Rattle.mark_word.specs.declared.owner.OwnerForm.TheVariants.{ByThread, ByRecord}
+use Rattle.mark_word.specs.Owner.{read_owner}
 use Rattle.plain_monitor.specs.History.{objects_after}
 use Rattle.plain_monitor.specs.Objects.{PlainObject}
 use Rattle.plain_monitor.specs.declared.entry.Path.{Path}
 use Rattle.core_world.specs.declared.answer.Progress.TheVariants.{Pending}
 use Rattle.core_world.specs.declared.answer.PendingCause.{PendingCause}
-use Rattle.core_world.specs.declared.answer.PendingCause.TheVariants.{Halted}
+use Rattle.core_world.specs.declared.answer.PendingCause.TheVariants.{Owned, Halted}
 use Rattle.core_world.specs.declared.word_id.WordId.TheVariants.{Safepoint, Waiting}
 use Rattle.core_world.specs.declared.heap_call.HeapCall.{HeapCall}
 use Rattle.core_world.specs.declared.heap_call.HeapCall.TheVariants as task
@@ -24,12 +27,26 @@ abbrev pub WaitBars : Bool → Bool → Bool → PendingCause → Type 0
 WaitBars false told owned why = LetsGo {A = Unit {0}} (Pending why)
 WaitBars true told owned why = WaitsWhere {A = Unit {0}} told owned (Pending why)
 
--- Thread t's call in world w, with these plain objects, is pending for this: an enter since another thread owns its object, a wait for its notify or for
--- the object's owner, and a resume for the halt. No other call is pending, and none for anything else.
+-- the thread that an owner word names, by itself or by a lock record
+abbrev pub named_by : Option OwnerForm → Option ℕ
+named_by (Some (ByThread thread)) = Some thread
+named_by (Some (ByRecord thread place)) = Some thread
+named_by _ = None
+
+-- where it is pending for an owner, the owner word that it found names this one
+abbrev pub NamesOwner : Option ℕ → PendingCause → Type 0
+NamesOwner owner (Owned word) = named_by (read_owner word) ≡ owner
+NamesOwner owner why = Unit {0}
+
+-- Thread t's call in world w, with these plain objects, is pending for this: an enter for the other thread that owns its object, a wait for its notify
+-- or for that owner, and a resume for the halt. No other call is pending, and none for anything else.
 abbrev pub Bars : World → List PlainObject → ℕ → HeapCall → PendingCause → Type 0
-Bars w objects t (task.Enter o now) why = PendsWhere {A = Path} (is_other (monitor_of objects o).owner t) (Pending why)
+Bars w objects t (task.Enter o now) why =
+    PendsWhere {A = Path} (is_other (monitor_of objects o).owner t) (Pending why)
+    × NamesOwner (monitor_of objects o).owner why
 Bars w objects t (task.Wait o now) why =
     WaitBars (waits_on (w.known t).wait o) (is_told (w.words (Waiting t))) (is_other (monitor_of objects o).owner t) why
+    × NamesOwner (monitor_of objects o).owner why
 Bars w objects t task.Resume why = (why ≡ Halted) × (is_halted (w.words Safepoint) ≡ true)
 Bars w objects t task why = ⊥
 

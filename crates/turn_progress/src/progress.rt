@@ -32,7 +32,7 @@ pub fn live_turns_do_their_instructions()
 /// Such a turn is never blocked for an exchange, a poll, a safepoint or an object in the middle of an inflation. It
 /// is blocked at a resume where the run is halted, and else only where the plain monitors bar the call that was its
 /// last: an enter of an object that another thread owns, or a wait that wasn't notified, or whose object another
-/// thread owns.
+/// thread owns. The owner word for which an enter or a wait is pending names that other thread.
 pub fn a_turn_left_alone_is_blocked_by_monitors_or_the_halt()
     ensures { (h : HeapSeen) (quantum t : ℕ) (w v : World) (r q : RunnerSeen) (m : Moved) (why : PendingCause)
         → IsInLimits h.heap.shape → IsReachable h.heap w → OthersStand w t

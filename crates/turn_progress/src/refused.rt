@@ -1,6 +1,7 @@
 //! Laws that what is said of turns is refused where it is wrong. The functions do nothing.
 
 ghost use Rattle.std.specs.Prelude.{◌≡◌, ◌≢◌, ◌⊎◌, ℕ, ◌+◌, ◌*◌, ◌<◌, ◌≤◌, true, false};
+ghost use Rattle.mark_word.specs.Owner.{read_owner};
 ghost use Rattle.core_world.specs.declared.answer.Progress.TheVariants.{Pending};
 ghost use Rattle.core_world.specs.declared.answer.PendingCause.{PendingCause};
 ghost use Rattle.core_world.specs.declared.answer.PendingCause.TheVariants.{Owned, NotNotified, Raced, Inflating};
@@ -19,7 +20,7 @@ ghost use Rattle.thread_interp.specs.declared.moved.Moved.{Moved};
 ghost use Rattle.thread_interp.specs.declared.moved.RunState.TheVariants.{Live, Blocked};
 ghost use Rattle.thread_interp.specs.Moves.{HasMoved};
 ghost use Rattle.thread_interp.specs.Runners.{RunnerSeen};
-ghost use Rattle.turn_progress.specs.Barred.{IsBarred};
+ghost use Rattle.turn_progress.specs.Barred.{named_by, IsBarred};
 ghost use Rattle.turn_progress.specs.Turns.{LiveTurns, OthersStand};
 
 /// Bars aren't everywhere. No turn is barred in which its thread made no step (`still`), or whose world is another one than that in which
@@ -65,8 +66,9 @@ pub fn a_call_that_can_go_on_is_not_barred()
 {}
 
 /// Nothing bars a turn for an exchange that missed, an inflation or a safepoint, whatever its last call was; nor a wait that begins for
-/// anything but its notify. Refuses the conclusion of `a_turn_left_alone_is_blocked_by_monitors_or_the_halt`.
-pub fn other_threads_steps_bar_nobody()
+/// an owner; nor an enter or a wait for a word that names another than the plain owner of its object. Refuses the conclusion of
+/// `a_turn_left_alone_is_blocked_by_monitors_or_the_halt`.
+pub fn no_bar_for_another_cause()
     ensures raced { (h : HeapSeen) (w : World) (t expected found : ℕ) (r q : RunnerSeen)
         → IsBarred h w t (Raced expected found) r q → ⊥ }
     ensures inflating { (h : HeapSeen) (w : World) (t : ℕ) (r q : RunnerSeen) → IsBarred h w t Inflating r q → ⊥ }
@@ -77,6 +79,12 @@ pub fn other_threads_steps_bar_nobody()
     ensures begins { (h : HeapSeen) (w : World) (t o now word : ℕ) (r q : RunnerSeen)
         (b : IsBarred h w t (Owned word) r q) → b.last.called.call.task ≡ task.Wait o now
         → waits_on (b.world.known t).wait o ≡ false → ⊥ }
+    ensures enters { (h : HeapSeen) (w : World) (t o now word : ℕ) (r q : RunnerSeen)
+        (b : IsBarred h w t (Owned word) r q) → b.last.called.call.task ≡ task.Enter o now
+        → named_by (read_owner word) ≢ (monitor_of b.objects o).owner → ⊥ }
+    ensures waits { (h : HeapSeen) (w : World) (t o now word : ℕ) (r q : RunnerSeen)
+        (b : IsBarred h w t (Owned word) r q) → b.last.called.call.task ≡ task.Wait o now
+        → named_by (read_owner word) ≢ (monitor_of b.objects o).owner → ⊥ }
 {}
 
 /// A turn that is live has neither ended nor is it blocked. Refuses the conclusion of `a_thread_left_alone_ends_or_is_barred`.
