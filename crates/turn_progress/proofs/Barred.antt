@@ -132,7 +132,7 @@ pub record IsAfter (p q : PassSeen) : Type 0 where
   pub added : q.known.steps ≡ steps ++ p.known.steps
   pub thread : q.known.thread ≡ p.known.thread
 
-ran_after : {A : Type 0} (h : HeapSeen) (d : StepTree A) (p q : PassSeen) (a : A) → RanFrom h d p q a → IsAfter p q
+pub ran_after : {A : Type 0} (h : HeapSeen) (d : StepTree A) (p q : PassSeen) (a : A) → RanFrom h d p q a → IsAfter p q
 ran_after h d p q a ran =
     let f = knows ran in
     record {

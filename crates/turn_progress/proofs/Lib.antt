@@ -3,6 +3,7 @@ pub mod Calls
 pub mod Shown
 pub mod Owners
 pub mod Barred
+pub mod LastCalls
 pub mod Turned
 pub mod Lone
 pub mod Unbarred

@@ -110,11 +110,11 @@ first_of w t ms v (goes (n ∷ ns) x p before next) some =
     record { plan = f.plan; next = f.next; is = f.is }
 
 -- A PATH adds its steps to those before it,
-record IsLonger (sofar ms : List StepMade) : Type 0 where
-  more : List StepMade
-  is : ms ≡ more ++ sofar
+pub record IsLonger (sofar ms : List StepMade) : Type 0 where
+  pub more : List StepMade
+  pub is : ms ≡ more ++ sofar
 
-path_longer : {A : Type 0} (d : StepTree A) (sofar ms : List StepMade) (a : A) → IsPath d sofar ms a → IsLonger sofar ms
+pub path_longer : {A : Type 0} (d : StepTree A) (sofar ms : List StepMade) (a : A) → IsPath d sofar ms a → IsLonger sofar ms
 path_longer (done b) sofar ms a path = record { more = []; is = path.0 }
 path_longer unreachable sofar ms a path = absurd path
 path_longer (step p f) sofar ms a path =

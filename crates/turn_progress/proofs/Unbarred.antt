@@ -21,14 +21,16 @@ use Rattle.core_law.specs.Reached.{IsReachable, opens}
 use Rattle.core_steps.specs.SmallWorlds.{small}
 use Rattle.heap_table.specs.Seen.{HeapSeen}
 use Rattle.solo_progress.specs.Answers.{is_other, is_told, PendsWhere, WaitsWhere, LetsGo}
+use Rattle.thread_calls.specs.Advances.{DoneIn}
 use Rattle.thread_frame.specs.Frames.{unspent, has_ended}
 use Rattle.thread_interp.specs.declared.moved.Moved.{Moved}
 use Rattle.thread_interp.specs.declared.moved.RunState.TheVariants.{Live, Blocked}
-use Rattle.thread_interp.specs.Moves.{HasMoved, IsState}
+use Rattle.thread_interp.specs.Moves.{HasMoved, IsState, LastCall}
 use Rattle.thread_interp.specs.Runners.{RunnerSeen}
 use Rattle.turn_progress.specs.Barred.{Bars, WaitBars, named_by, IsBarred}
 use Rattle.turn_progress.specs.Turns.{LiveTurns, OthersStand}
 use Rattle.turn_progress.proofs.Barred.{stop_after}
+use Rattle.turn_progress.proofs.LastCalls.{done_or_pended}
 use Rattle.turn_progress.proofs.Beginning.{heap, runner, limits}
 use Rattle.turn_progress.proofs.Steps.{moved_steps}
 use Rattle.turn_progress.proofs.Turned.{live_spend}
@@ -185,6 +187,11 @@ never_enters h w t o now word r q b is differ = differ (bar_of h w t (why.Owned 
 pub never_waits : (h : HeapSeen) (w : World) (t o now word : ℕ) (r q : RunnerSeen) (b : IsBarred h w t (why.Owned word) r q)
     → b.last.called.call.task ≡ task.Wait o now → named_by (read_owner word) ≢ (monitor_of b.objects o).owner → ⊥
 never_waits h w t o now word r q b is differ = differ (bar_of h w t (why.Owned word) r q b (task.Wait o now) is).1
+
+-- WHOSE LAST CALL was done
+pub did_its_call : (h : HeapSeen) (w : World) (t : ℕ) (cause : PendingCause) (r q : RunnerSeen) (last : LastCall (DoneIn h) h r.pass q.pass)
+    → last.called.call.task ≢ task.Stop → IsBarred h w t cause r q → ⊥
+did_its_call h w t cause r q last acts b = done_or_pended h r.pass q.pass cause last b.last acts
 
 -- LIVE TURNS
 pub live_goes_on : (h : HeapSeen) (quantum t : ℕ) (w : World) (r q : RunnerSeen) (m : Moved) → HasMoved h quantum r q m → m.state ≡ Live

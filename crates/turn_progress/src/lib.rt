@@ -13,8 +13,9 @@ pub use progress::{
 };
 pub use refused::{
     a_call_that_can_go_on_is_not_barred, a_live_turn_has_neither_ended_nor_is_barred,
-    bars_are_not_everywhere, no_bar_for_another_cause, no_owner_blocks_a_thread_by_itself,
-    no_turns_beyond_their_fuel, others_that_run_or_ask_do_not_stand,
+    a_turn_that_did_its_last_call_is_not_barred, bars_are_not_everywhere, no_bar_for_another_cause,
+    no_owner_blocks_a_thread_by_itself, no_turns_beyond_their_fuel,
+    others_that_run_or_ask_do_not_stand,
 };
 pub use witnesses::{
     a_heap_of_one_thread_comes_to_a_world_in_which_it_runs, a_runner_begins_with_no_turn,

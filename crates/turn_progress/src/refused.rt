@@ -15,10 +15,11 @@ ghost use Rattle.core_world.specs.World.{World};
 ghost use Rattle.core_law.specs.Reached.{IsReachable};
 ghost use Rattle.heap_table.specs.Seen.{HeapSeen};
 ghost use Rattle.solo_progress.specs.Answers.{is_other, is_told, LetsGo};
+ghost use Rattle.thread_calls.specs.Advances.{DoneIn};
 ghost use Rattle.thread_frame.specs.Frames.{unspent, has_ended};
 ghost use Rattle.thread_interp.specs.declared.moved.Moved.{Moved};
 ghost use Rattle.thread_interp.specs.declared.moved.RunState.TheVariants.{Live, Blocked};
-ghost use Rattle.thread_interp.specs.Moves.{HasMoved};
+ghost use Rattle.thread_interp.specs.Moves.{HasMoved, LastCall};
 ghost use Rattle.thread_interp.specs.Runners.{RunnerSeen};
 ghost use Rattle.turn_progress.specs.Barred.{named_by, IsBarred};
 ghost use Rattle.turn_progress.specs.Turns.{LiveTurns, OthersStand};
@@ -85,6 +86,13 @@ pub fn no_bar_for_another_cause()
     ensures waits { (h : HeapSeen) (w : World) (t o now word : ℕ) (r q : RunnerSeen)
         (b : IsBarred h w t (Owned word) r q) → b.last.called.call.task ≡ task.Wait o now
         → named_by (read_owner word) ≢ (monitor_of b.objects o).owner → ⊥ }
+{}
+
+/// Not barred: a turn whose last call was done, if that isn't the stop after it. Refuses the conclusion of
+/// `a_turn_left_alone_is_blocked_by_monitors_or_the_halt`.
+pub fn a_turn_that_did_its_last_call_is_not_barred()
+    ensures { (h : HeapSeen) (w : World) (t : ℕ) (why : PendingCause) (r q : RunnerSeen)
+        (last : LastCall (DoneIn h) h r.pass q.pass) → last.called.call.task ≢ task.Stop → IsBarred h w t why r q → ⊥ }
 {}
 
 /// A turn that is live has neither ended nor is it blocked. Refuses the conclusion of `a_thread_left_alone_ends_or_is_barred`.
