@@ -2,8 +2,8 @@
 //! one way. The functions do nothing.
 ghost use Rattle.std.specs.Prelude.{◌≡◌, ◌≢◌, ℕ, ◌+◌, ◌≤◌, ◌<◌, Bool, true, false, bit_and, is_none, length, reverse};
 ghost use Rattle.std.specs.Prelude.{List, [], ◌∷◌, ◌++◌};
-ghost use Rattle.std.specs.Prelude.{Option, Some, None, Result, Ok, Err};
-ghost use Rattle.std.specs.List.{AllByRecursion, list_all};
+ghost use Rattle.std.specs.Prelude.{Option, Some, None, Ok, Err};
+ghost use Rattle.std.specs.List.{AllByRecursion};
 ghost use Rattle.lock_policy.specs.declared.policy.Verdict.{Verdict};
 ghost use Rattle.mark_word.specs.declared.mark.MarkForm.TheVariants.{Neutral, Anonymous, Biased, Locked};
 ghost use Rattle.mark_word.specs.declared.wait.WaitForm.TheVariants.{Entering, Waiting};
@@ -20,12 +20,10 @@ ghost use Rattle.plain_monitor.specs.declared.entry.Logged.{Logged};
 ghost use Rattle.plain_monitor.specs.declared.entry.Path.{Path};
 ghost use Rattle.plain_monitor.specs.declared.entry.Value.{Value};
 ghost use Rattle.plain_monitor.specs.declared.entry.Value.TheVariants.{Nil};
-ghost use Rattle.plain_monitor.specs.Endings.{ending_entry};
 ghost use Rattle.core_world.specs.declared.act.Act.TheVariants.{Store};
 ghost use Rattle.core_world.specs.declared.answer.IllegalMonitorState.{IllegalMonitorState};
 ghost use Rattle.core_world.specs.declared.answer.PendingCause.{PendingCause};
 ghost use Rattle.core_world.specs.declared.answer.PendingCause.TheVariants as why;
-ghost use Rattle.core_world.specs.declared.answer.Progress.{Progress};
 ghost use Rattle.core_world.specs.declared.answer.Progress.TheVariants.{Done, Pending};
 ghost use Rattle.core_world.specs.declared.answer.StackOut.TheVariants.{Left, Monitor};
 ghost use Rattle.core_world.specs.declared.answer.TooDeep.{TooDeep};
@@ -67,7 +65,7 @@ ghost use Rattle.core_calls.specs.CallsSay.{PollSays, StopSays, ResumeSays, Chec
 ghost use Rattle.core_calls.specs.CallsSay.{ReleaseSays};
 ghost use Rattle.core_calls.specs.Moments.{IsStepOf, HasCalled};
 ghost use Rattle.core_calls.specs.Paths.{IsPath, Says, Tells, FollowsTree, ThreadHasLogged};
-ghost use Rattle.core_calls.specs.Stands.{ThreadStandsAlong, Stand, IsGoing, IsOff, stand_of, stopped};
+ghost use Rattle.core_calls.specs.Stands.{ThreadStandsAlong, IsGoing, IsOff, stand_of, stopped};
 ghost use Rattle.core_calls.specs.Stands.{ProgressStands, ResultStands, RunsAfter, PollStands, ResumeStands};
 ghost use Rattle.core_calls.specs.Stands.{CheckStands};
 ghost use Rattle.core_calls.specs.Stuck.{CheckFinds};

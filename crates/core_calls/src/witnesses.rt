@@ -1,6 +1,6 @@
 //! Calls that threads can make, so that the laws' premises are met: of runs, of what calls begin with, and of how their
 //! threads stand. The functions do nothing.
-ghost use Rattle.std.specs.Prelude.{◌≡◌, ℕ, true, false, length, List, [], ◌∷◌, Some, Ok, Err};
+ghost use Rattle.std.specs.Prelude.{◌≡◌, ℕ, true, false, length, [], ◌∷◌, Some, Ok, Err};
 ghost use Rattle.std.specs.List.{AllByRecursion};
 ghost use Rattle.lock_policy.specs.declared.policy.Verdict.TheVariants.{Single};
 ghost use Rattle.mark_word.specs.declared.mark.MarkForm.TheVariants.{Neutral, Anonymous, Biased, Locked};
@@ -21,8 +21,8 @@ ghost use Rattle.core_world.specs.declared.heap_call.HeapCall.TheVariants as tas
 ghost use Rattle.core_world.specs.declared.heap_call.Operation.TheVariants as op;
 ghost use Rattle.core_world.specs.declared.plan.StepPlan.{StepPlan};
 ghost use Rattle.core_world.specs.Due.{Ran};
-ghost use Rattle.core_world.specs.Steps.{known_along, rest_of_call};
-ghost use Rattle.core_world.specs.Threads.ThreadView.{ThreadView, StepMade, Start, CallUnderway};
+ghost use Rattle.core_world.specs.Steps.{rest_of_call};
+ghost use Rattle.core_world.specs.Threads.ThreadView.{ThreadView, Start, CallUnderway};
 ghost use Rattle.core_world.specs.Trees.Calls.{side_context, steps_of};
 ghost use Rattle.core_world.specs.Trees.LockSteps.{stack_enter_steps, stack_exit_steps};
 ghost use Rattle.core_world.specs.Trees.Operations.{lone_context, enter_steps, exit_steps, wait_steps, notify_steps};
@@ -32,11 +32,11 @@ ghost use Rattle.core_world.specs.Trees.Operations.{create_steps, check_steps};
 ghost use Rattle.core_world.specs.Trees.Plans.{call_context};
 ghost use Rattle.core_world.specs.Trees.SafepointSteps.{poll_steps, stop_steps, resume_steps, request_steps};
 ghost use Rattle.core_world.specs.Trees.SafepointSteps.{reached_steps, release_safepoint, reached_word};
-ghost use Rattle.core_world.specs.Trees.StepTree.{StepTree, done, after_answers, head};
+ghost use Rattle.core_world.specs.Trees.StepTree.{StepTree, head};
 ghost use Rattle.core_world.specs.Words.Forms.{is_biased};
 ghost use Rattle.core_world.specs.Words.Shape.{Shape};
 ghost use Rattle.core_calls.specs.Moments.{IsStepOf};
-ghost use Rattle.core_calls.specs.Paths.{IsPath, Says, Leaves, Tells, ThreadHasLogged};
+ghost use Rattle.core_calls.specs.Paths.{Says, Leaves, Tells, ThreadHasLogged};
 ghost use Rattle.core_calls.specs.Stands.{begun, stopped};
 ghost use Rattle.core_calls.specs.Witnessed.{IsRunTo, IsTrulyRunTo};
 
