@@ -43,13 +43,9 @@ pub left_comes : IsReachable lone left
 unfolding steps_due is_idle steps_of read_safe read_mark read_hold read_wait read_owner ring_bits polled entered turned left
 left_comes = turns_reach lone turned (own_turns (Resume ∷ Resume ∷ Poll ∷ replicate 7 (Exit 0) ++ Poll ∷ [])) turned_comes refl
 
-pub finished_comes : IsReachable lone finished
-unfolding steps_due is_idle steps_of read_safe read_mark read_hold read_wait read_owner ring_bits polled entered turned left finished
-finished_comes = turns_reach lone left (own_turns (replicate 2 (Finish Spent))) left_comes refl
-
-pub barred_from : IsReachable lone halted
+pub halted_is_reached : IsReachable lone halted
 unfolding halted
-barred_from = halted_comes
+halted_is_reached = halted_comes
 
 pub polled_over : is_idle lone.shape (polled.known 0) ≡ true
 unfolding steps_due is_idle steps_of read_safe read_mark read_hold read_wait read_owner ring_bits polled

@@ -18,7 +18,7 @@ use Rattle.step_history.specs.Examples.{lone, world_of}
 use Rattle.thread_calls.specs.Advances.{DoneIn, PendedIn}
 use Rattle.thread_frame.specs.Frames.{unspent}
 use Rattle.thread_interp.specs.declared.moved.Moved.{Moved}
-use Rattle.thread_interp.specs.declared.moved.RunState.TheVariants.{Live}
+use Rattle.thread_interp.specs.declared.moved.RunState.TheVariants.{Live, Blocked}
 use Rattle.thread_interp.specs.Moves.{HasMoved, LastCall, IsSetStill}
 use Rattle.turn_progress.specs.Barred.{IsBarred}
 use Rattle.turn_progress.specs.Turns.{LiveTurns, no_turn, one_more, LiveAlone, no_turn_alone, one_more_alone, OthersStand, TurnAlone}
@@ -30,7 +30,7 @@ use Rattle.small_runs.specs.Turns.{polled, entered, turned, left, finished, ende
 use Rattle.small_runs.specs.Turns.{begun, runner_at_first, runner_halfway, runner_at_end, runner_halted, runner_barred, ends, finds_the_halt}
 use Rattle.small_runs.proofs.Alone.{stepped_by, ran_along}
 use Rattle.small_runs.proofs.AtRest.{rests_in}
-use Rattle.small_runs.proofs.TurnWorlds.{polled_comes, left_comes, barred_from, polled_over, left_over, halted_over}
+use Rattle.small_runs.proofs.TurnWorlds.{polled_comes, left_comes, halted_is_reached, polled_over, left_over, halted_over}
 use Rattle.small_runs.proofs.TurnWorlds.{polled_of, entered_of, left_of, finished_of, halted_of, enters, stops_entered, stops_finished, spends, finds}
 use Rattle.small_runs.proofs.TurnWorlds.{to_polled, to_entered, to_left, to_finished, to_barred, first_turn, last_turn}
 use Rattle.small_runs.proofs.TurnWorlds.{entered_runs, finished_runs, turned_stands, ended_stands, barred_stands}
@@ -104,7 +104,7 @@ module _ (table : TableId) where
     after = pass_in h barred;
     called = record {
       before = pass_in h halted;
-      rests = rests_in table halted barred_from halted_over;
+      rests = rests_in table halted halted_is_reached halted_over;
       call = record {
         task = Resume;
         is =
@@ -177,14 +177,15 @@ module _ (table : TableId) where
 
   pub is_blocked : IsInLimits lone.shape × IsReachable lone halted × OthersStand halted 0
       × TurnAlone h 2 0 halted (runner_halted table) barred (runner_barred table) finds_the_halt
-  is_blocked = (limits, barred_from, lone_others lone halted refl barred_from, blocked_alone)
+      × (finds_the_halt.state ≡ Blocked Halted)
+  is_blocked = (limits, halted_is_reached, lone_others lone halted refl halted_is_reached, blocked_alone, refl)
 
   pub is_barred : IsInLimits lone.shape × (lone.shape.threads ≡ 1) × IsReachable lone halted
       × IsBarred h halted 0 Halted (runner_halted table) (runner_barred table)
   is_barred = (
     limits,
     refl,
-    barred_from,
-    blocked_barred h 2 0 halted barred (runner_halted table) (runner_barred table) finds_the_halt Halted limits barred_from
-        (lone_others lone halted refl barred_from) blocked_alone refl,
+    halted_is_reached,
+    blocked_barred h 2 0 halted barred (runner_halted table) (runner_barred table) finds_the_halt Halted limits halted_is_reached
+        (lone_others lone halted refl halted_is_reached) blocked_alone refl,
   )

@@ -16,6 +16,7 @@ ghost use Rattle.heap_table.specs.Resting.{Rests};
 ghost use Rattle.closed_heap_laws.specs.OfARun.{IsEnd, shots_at, shots_in};
 ghost use Rattle.own_logs.specs.HoldsByLog.{AreHolds};
 ghost use Rattle.thread_frame.specs.Frames.{unspent};
+ghost use Rattle.thread_interp.specs.declared.moved.RunState.TheVariants.{Blocked};
 ghost use Rattle.turn_progress.specs.Barred.{IsBarred};
 ghost use Rattle.turn_progress.specs.Turns.{LiveTurns, LiveAlone, OthersStand, TurnAlone};
 ghost use Rattle.small_runs.specs.Turns.{turned, ended, halted, barred, begun, ends, finds_the_halt};
@@ -65,7 +66,8 @@ pub fn threads_of_small_programs_have_turns()
         × TurnAlone (lone_in table) 2 0 turned (runner_halfway table) ended (runner_at_end table) ends
         × (unspent begun < 1 * 2 + 2) }
     ensures blocked { (table : TableId) → IsInLimits lone.shape × IsReachable lone halted × OthersStand halted 0
-        × TurnAlone (lone_in table) 2 0 halted (runner_halted table) barred (runner_barred table) finds_the_halt }
+        × TurnAlone (lone_in table) 2 0 halted (runner_halted table) barred (runner_barred table) finds_the_halt
+        × (finds_the_halt.state ≡ Blocked Halted) }
     ensures barred { (table : TableId) → IsInLimits lone.shape × (lone.shape.threads ≡ 1) × IsReachable lone halted
         × IsBarred (lone_in table) halted 0 Halted (runner_halted table) (runner_barred table) }
 {}
