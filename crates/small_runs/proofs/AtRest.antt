@@ -21,7 +21,7 @@ use Rattle.heap_table.specs.Seen.{HeapSeen, PassSeen}
 use Rattle.own_logs.specs.HoldsByLog.{AreHolds}
 use Rattle.step_history.specs.Examples.{lone, world_of, enters, waits}
 use Rattle.step_history.proofs.Exemplified.{waiting}
-use Rattle.small_runs.specs.Runs.{dumps_and_finishes, heap_in, pass_in}
+use Rattle.small_runs.specs.Runs.{has_finished, lone_in, pass_in}
 use Rattle.small_runs.proofs.Ends.{resting}
 use Rattle.small_runs.proofs.Worlds.{limits, finished_comes, finished_over, entered_comes, entered_over, waiting_over}
 
@@ -29,7 +29,7 @@ waits_there : waits_on ((world_of lone (waits 0)).known 0).wait 0 ≡ true
 unfolding steps_due is_idle steps_of read_safe read_mark read_hold read_wait read_owner ring_bits
 waits_there = refl
 
-one_shot : length ((world_of lone dumps_and_finishes).known 0).shots ≡ 1
+one_shot : length (has_finished.known 0).shots ≡ 1
 unfolding steps_due is_idle steps_of read_safe read_mark read_hold read_wait read_owner ring_bits
 one_shot = refl
 
@@ -37,7 +37,7 @@ entered_holds : 1 ≡ held_by nothing_held ((world_of lone (enters 0)).known 0).
 unfolding steps_due is_idle steps_of read_safe read_mark read_hold read_wait read_owner ring_bits
 entered_holds = refl
 
-finished_holds : 0 ≡ held_by nothing_held ((world_of lone dumps_and_finishes).known 0).log 0
+finished_holds : 0 ≡ held_by nothing_held (has_finished.known 0).log 0
 unfolding steps_due is_idle steps_of read_safe read_mark read_hold read_wait read_owner ring_bits
 finished_holds = refl
 
@@ -50,29 +50,29 @@ held_alone h p n one same = record { count = sym one; each = each }
     each (suc o) few = absurd (omega (arith, few, one))
 
 module _ (table : TableId) where
-  pub rests_in : (w : World) → IsReachable lone w → is_idle lone.shape (w.known 0) ≡ true → Rests (heap_in table lone) (pass_in (heap_in table lone) w)
-  rests_in w c over = resting (heap_in table lone) w limits refl (omega arith) c over
+  pub rests_in : (w : World) → IsReachable lone w → is_idle lone.shape (w.known 0) ≡ true → Rests (lone_in table) (pass_in (lone_in table) w)
+  rests_in w c over = resting (lone_in table) w limits refl (omega arith) c over
 
-  pub holding : Rests (heap_in table lone) (pass_in (heap_in table lone) (world_of lone (enters 0)))
-      × AreHolds (heap_in table lone) (pass_in (heap_in table lone) (world_of lone (enters 0))) (1 ∷ [])
+  pub holding : Rests (lone_in table) (pass_in (lone_in table) (world_of lone (enters 0)))
+      × AreHolds (lone_in table) (pass_in (lone_in table) (world_of lone (enters 0))) (1 ∷ [])
       × (sum (1 ∷ []) < most_holds)
   holding = (
     rests_in (world_of lone (enters 0)) entered_comes entered_over,
-    held_alone (heap_in table lone) (pass_in (heap_in table lone) (world_of lone (enters 0))) 1 refl entered_holds,
+    held_alone (lone_in table) (pass_in (lone_in table) (world_of lone (enters 0))) 1 refl entered_holds,
     omega arith,
   )
 
-  pub waits_at_rest : Rests (heap_in table lone) (pass_in (heap_in table lone) (world_of lone (waits 0)))
+  pub waits_at_rest : Rests (lone_in table) (pass_in (lone_in table) (world_of lone (waits 0)))
       × (0 < length lone.shape.objects) × (waits_on ((world_of lone (waits 0)).known 0).wait 0 ≡ true)
   waits_at_rest = (rests_in (world_of lone (waits 0)) waiting.0 waiting_over, omega arith, waits_there)
 
-  pub free : Rests (heap_in table lone) (pass_in (heap_in table lone) (world_of lone dumps_and_finishes))
-      × AreHolds (heap_in table lone) (pass_in (heap_in table lone) (world_of lone dumps_and_finishes)) (0 ∷ [])
+  pub free : Rests (lone_in table) (pass_in (lone_in table) has_finished)
+      × AreHolds (lone_in table) (pass_in (lone_in table) has_finished) (0 ∷ [])
       × (sum (0 ∷ []) ≡ 0)
-      × (length ((world_of lone dumps_and_finishes).known 0).shots ≡ 1)
+      × (length (has_finished.known 0).shots ≡ 1)
   free = (
-    rests_in (world_of lone dumps_and_finishes) finished_comes finished_over,
-    held_alone (heap_in table lone) (pass_in (heap_in table lone) (world_of lone dumps_and_finishes)) 0 refl finished_holds,
+    rests_in has_finished finished_comes finished_over,
+    held_alone (lone_in table) (pass_in (lone_in table) has_finished) 0 refl finished_holds,
     refl,
     one_shot,
   )

@@ -4,3 +4,6 @@ pub mod Ends
 pub mod Worlds
 pub mod Finished
 pub mod AtRest
+pub mod Alone
+pub mod TurnWorlds
+pub mod Turned

@@ -7,7 +7,7 @@ use Rattle.core_world.specs.declared.heap_call.HeapCall.TheVariants.{Enter, Exit
 use Rattle.core_world.specs.Threads.ThreadView.{ThreadView}
 use Rattle.core_world.specs.World.{World}
 use Rattle.core_law.specs.Logic.{Heap}
-use Rattle.step_history.specs.Examples.{lone, enters}
+use Rattle.step_history.specs.Examples.{lone, world_of, enters}
 use Rattle.heap_table.specs.Seen.{HeapSeen, PassSeen, first_pass}
 
 -- one thread, and one object with a slot; with biases
@@ -30,10 +30,17 @@ dumps_and_finishes =
 abbrev pub biased_finishes : List (ℕ × HeapCall)
 biased_finishes = enters 0 ++ replicate 3 (0, Exit 0) ++ finishes
 
--- the heap in this table, with 16 entries a page
-abbrev pub heap_in : TableId → Heap → HeapSeen
-heap_in table heap = record { table = table; heap = heap; room = 16 }
+-- the worlds after these turns
+abbrev pub has_finished : World
+has_finished = world_of lone dumps_and_finishes
 
--- the pass of its thread where it knows what it does in this world
+abbrev pub has_finished_biased : World
+has_finished_biased = world_of lone_biased biased_finishes
+
+-- the heap in this table, with 16 entries a page
+abbrev pub lone_in : TableId → HeapSeen
+lone_in table = record { table = table; heap = lone; room = 16 }
+
+-- the pass of a heap's thread 0 where that knows what it does in this world
 abbrev pub pass_in : HeapSeen → World → PassSeen
 pass_in h w = record (first_pass h 16 0) { known = w.known 0 }

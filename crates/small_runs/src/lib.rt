@@ -1,7 +1,12 @@
-//! Small runs, from the opening world to their end, by which the premises of laws of reached worlds are met. The functions are laws, and
-//! do nothing.
+//! Small runs of one thread, from the opening world to the end: so the premises are met of laws that speak of worlds to which a heap comes,
+//! of its end, of a thread at rest and of turns.
+//!
+//! The runs are lists of turns, found by computing as `step_history` says it. The functions are laws, and do nothing.
 #![tactic(auto)]
 
 mod witnesses;
 
-pub use witnesses::{small_heaps_come_to_their_ends, small_heaps_have_threads_at_rest};
+pub use witnesses::{
+    small_heaps_come_to_their_ends, small_heaps_have_threads_at_rest,
+    threads_of_small_programs_have_turns,
+};
