@@ -26,7 +26,7 @@ first_named t unreachable p named h = absurd (cc h)
 first_named t (step q f) p named h = let same : q ≡ p = cc h in sym (ap (λ (r : StepPlan). r.task) same) ∙ named.by.0.call
 
 -- the step of a turn is the thread's next one
-next_is : (w : World) (t : ℕ) (task : HeapCall) (p : StepPlan) → next_of w t task ≡ Some p → IsNext w.shape w.start w.biasing (w.known t) p
+pub next_is : (w : World) (t : ℕ) (task : HeapCall) (p : StepPlan) → next_of w t task ≡ Some p → IsNext w.shape w.start w.biasing (w.known t) p
 unfolding steps_due
 next_is w t task p h = by_idle (is_idle w.shape k) h
   where
@@ -45,7 +45,7 @@ next_is w t task p h = by_idle (is_idle w.shape k) h
     by_idle true g = subst (λ x. head (due true x) ≡ Some p) (sym (by_may (is_calm k.stage && may_begin w.shape w.biasing k task) g)) g
     by_idle false g = g
 
-both : (a b c : Bool) → (a && b && c) ≡ true → (a ≡ true) × (b ≡ true) × (c ≡ true)
+pub both : (a b c : Bool) → (a && b && c) ≡ true → (a ≡ true) × (b ≡ true) × (c ≡ true)
 both true true true h = (refl, refl, refl)
 both true true false h = absurd (cc h)
 both true false c h = absurd (cc h)

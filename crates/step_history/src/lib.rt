@@ -13,4 +13,7 @@ pub use refused::{
     no_list_leads_on_by_a_wrong_first_step, no_thread_knows_more_than_its_steps,
     no_turn_of_no_thread_or_of_a_call_that_may_not_begin, who_was_not_passed_was_not_overtaken,
 };
-pub use witnesses::{a_resume_can_race, heaps_come_to_such_worlds, turns_of_two_threads_lead_on};
+pub use witnesses::{
+    a_resume_can_race, heaps_come_to_such_worlds, the_other_calls_can_race,
+    turns_of_two_threads_lead_on,
+};

@@ -28,7 +28,8 @@ use Rattle.core_world.specs.Trees.BiasSteps.{took_steps, rebias_steps, unbias_sw
 use Rattle.core_world.specs.Trees.BiasSteps.{bias_after_at, bias_after_steps, stage_after}
 use Rattle.core_world.specs.Trees.DeflateSteps.{deflate_steps}
 use Rattle.core_world.specs.Trees.LockSteps.{hold_steps, stack_enter_at}
-use Rattle.core_world.specs.Trees.MonitorSteps.{grab_plan, inflate_steps, inflate_at, inflate_by, inflate_with, monitor_enter_steps, monitor_enter_at, record_steps}
+use Rattle.core_world.specs.Trees.MonitorSteps.{grab_plan, inflate_steps, inflate_at, inflate_by, inflate_with}
+use Rattle.core_world.specs.Trees.MonitorSteps.{monitor_enter_steps, monitor_enter_at, record_steps}
 use Rattle.core_world.specs.Trees.Operations.{and_then, answer, goes_on_with, revocation_steps, enter_monitor_steps, enter_at, enter_unbiased}
 use Rattle.core_world.specs.Trees.Operations.{enter_revoked, enter_tried, enter_going, enter_steps}
 use Rattle.core_world.specs.Trees.Plans.{CallContext, call_context, free_place}

@@ -1,4 +1,5 @@
-use Rattle.turn_progress.proofs.Unbarred.{enter_goes_on, wait_goes_on, resume_goes_on, exit_goes_on, notify_goes_on, notify_all_goes_on, hash_goes_on, dump_goes_on, poll_goes_on}
+use Rattle.turn_progress.proofs.Unbarred.{enter_goes_on, wait_goes_on, resume_goes_on, exit_goes_on, notify_goes_on}
+use Rattle.turn_progress.proofs.Unbarred.{notify_all_goes_on, hash_goes_on, dump_goes_on, poll_goes_on}
 use Rattle.turn_progress.proofs.refused.a_call_that_can_go_on_is_not_barred.Goals as goal
 
 pub returns-clause-enter : goal.returns-clause-enter
