@@ -14,7 +14,6 @@ ghost use Rattle.plain_machine.specs.declared.monitor_call.Mode.TheVariants.{End
 ghost use Rattle.plain_machine.specs.declared.monitor_call.NextEntry.TheVariants.{Calls};
 ghost use Rattle.plain_monitor.specs.Limits.{most_holds};
 ghost use Rattle.plain_monitor.specs.declared.entry.Ending.{Ending};
-ghost use Rattle.plain_monitor.specs.declared.entry.Entry.{Entry};
 ghost use Rattle.plain_monitor.specs.declared.entry.Entry.TheVariants as entry;
 ghost use Rattle.plain_monitor.specs.declared.entry.Path.{Path};
 ghost use Rattle.plain_monitor.specs.declared.entry.Value.TheVariants.{Ref};

@@ -1,6 +1,6 @@
 //! Threads, logs and a cut of a small program, that the laws' premises are met. The functions do nothing.
 
-ghost use Rattle.std.specs.Prelude.{◌≡◌, ℕ, ◌<◌, ◌∷◌, [], true, slice_get, Some};
+ghost use Rattle.std.specs.Prelude.{◌≡◌, ◌<◌, ◌∷◌, [], true, slice_get, Some};
 ghost use Rattle.std.specs.List.{AllByRecursion};
 ghost use Rattle.object_program.specs.Program.{objects_total};
 ghost use Rattle.object_program.specs.Valid.{IsProgram};
