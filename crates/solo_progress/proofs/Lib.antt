@@ -21,3 +21,4 @@ pub mod LoneReady
 pub mod LoneWaits
 pub mod OtherAnswers
 pub mod QuietWords
+pub mod NotifiedReady

@@ -31,5 +31,6 @@ pub use through::{
 };
 pub use witnesses::{
     a_thread_can_be_left_alone_before_a_revocation, a_thread_can_move_alone, calls_can_begin,
-    owners_requesters_and_waiters_can_go_on, words_can_be_quiet,
+    owners_requesters_and_waiters_can_go_on, who_was_notified_can_be_left_alone,
+    words_can_be_quiet,
 };

@@ -1,7 +1,7 @@
 //! Laws that trees which are weakened in one way each don't get through alone, and that no call answers otherwise than the laws say. The
 //! functions do nothing.
 
-ghost use Rattle.std.specs.Prelude.{◌≡◌, ◌≢◌, ℕ, ◌+◌, not, Bool, true, false, List, [], ◌∷◌, Option, Some, None, Result, Ok};
+ghost use Rattle.std.specs.Prelude.{◌≡◌, ◌≢◌, ℕ, ◌+◌, not, Bool, true, false, List, [], ◌∷◌, Some, None, Result, Ok};
 ghost use Rattle.mark_word.specs.Mark.{read_mark};
 ghost use Rattle.plain_monitor.specs.Monitor.{is_listed};
 ghost use Rattle.plain_monitor.specs.Objects.{PlainObject};

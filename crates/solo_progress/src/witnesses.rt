@@ -1,11 +1,13 @@
 //! Worlds to which small heaps come, in which a thread is left alone and may begin calls: so what these laws of `through` ask for comes
 //! about, for each call. The functions do nothing.
 
-ghost use Rattle.std.specs.Prelude.{◌≡◌, ◌≢◌, ℕ, ◌<◌, true, false, [], ◌∷◌};
+ghost use Rattle.std.specs.Prelude.{◌≡◌, ◌≢◌, ℕ, ◌<◌, true, false, [], ◌∷◌, None};
+ghost use Rattle.plain_monitor.specs.Monitor.{is_listed};
 ghost use Rattle.plain_monitor.specs.declared.entry.Ending.{Ending};
 ghost use Rattle.plain_monitor.specs.declared.entry.Value.TheVariants.{Nil};
 ghost use Rattle.core_world.specs.declared.heap_call.HeapCall.TheVariants as task;
 ghost use Rattle.core_world.specs.declared.word_id.WordId.TheVariants.{Mark, Prototype};
+ghost use Rattle.core_world.specs.Locks.{monitor_of, notified_at};
 ghost use Rattle.core_world.specs.Opening.{opening};
 ghost use Rattle.core_world.specs.Threads.ThreadView.{StepMade};
 ghost use Rattle.core_world.specs.Trees.SafepointSteps.{released_word};
@@ -14,13 +16,14 @@ ghost use Rattle.core_world.specs.Words.Forms.{waits_on};
 ghost use Rattle.core_law.specs.Reached.{IsReachable};
 ghost use Rattle.core_steps.specs.SmallWorlds.{small, looked, running, neutral, entered};
 ghost use Rattle.step_history.specs.Examples.{lone, world_of, enters, waits};
+ghost use Rattle.step_history.specs.Race.{rivals};
 ghost use Rattle.solo_progress.specs.Alone.{Quiet};
 ghost use Rattle.solo_progress.specs.Answers.{is_others_bias};
 ghost use Rattle.solo_progress.specs.LeftAlone.{IsLeftAlone, MayCallAlone, MayCall, start_in};
 ghost use Rattle.solo_progress.specs.Moves.{Moves};
 ghost use Rattle.solo_progress.specs.PairWorlds.{pair, alone};
 ghost use Rattle.solo_progress.specs.RoomyWorlds.{roomy, roomy_running};
-ghost use Rattle.solo_progress.specs.Witnesses.{unowned, owned, slotted, held, waiting, reaches};
+ghost use Rattle.solo_progress.specs.Witnesses.{unowned, owned, slotted, held, waiting, reaches, told, notified};
 
 /// In a heap without biases, of one thread and one object: where the thread runs, it may enter the object, by the whole call or by a lock
 /// record alone, ask for its hash, dump, print, finish, poll, stop, and ask for a safepoint. Where it has entered, it may leave, by the
@@ -98,4 +101,13 @@ pub fn words_can_be_quiet()
 /// A witness for `a_run_of_one_thread_finds_what_it_left`.
 pub fn a_thread_can_move_alone()
     ensures { (m : StepMade) × Moves (opening small.shape small.start small.biasing) 0 (m ∷ []) looked }
+{}
+
+/// In a heap of two threads, thread 0 waited, and thread 1 has notified it, left the object, and stopped. So thread 0 is left alone, nobody
+/// owns the object, and it may go on with its wait.
+///
+/// A witness for `a_thread_left_alone_waits_until_it_is_told`.
+pub fn who_was_notified_can_be_left_alone()
+    ensures { (now : ℕ) → MayCallAlone rivals (world_of rivals told) (notified ∷ []) 0 (task.Wait 0 now)
+        × (is_listed (notified_at (notified ∷ []) 0) 0 ≡ true) × ((monitor_of (notified ∷ []) 0).owner ≡ None) }
 {}

@@ -4,3 +4,5 @@ pub mod PlainStands
 pub mod Later
 pub mod Silent
 pub mod SilentThere
+pub mod OtherWakeUps
+pub mod NotifiedThere
