@@ -1,19 +1,17 @@
 -- The example of a program of one thread: it is a program, and its run is one.
-use Rattle.std.proofs.Common.{◌≡◌, ℕ, zero, suc, ◌+◌, ◌<◌, ◌≤◌, Bool, ◌||◌, true, false, List, [], ◌∷◌, ◌++◌, length}
-use Rattle.std.proofs.Common.{map, take, Some, refl, sym, ap, ◌∙◌, subst, inl, inr, arith}
-use Rattle.std.specs.Prelude.{slice_index, slice_index_or}
+use Rattle.std.proofs.Common.{◌≡◌, ℕ, zero, suc, Bool, ◌||◌, true, false, List, [], ◌∷◌, ◌++◌}
+use Rattle.std.proofs.Common.{Some, refl, subst, inl, inr, arith}
+use Rattle.std.specs.Prelude.{slice_index_or}
 use Rattle.std.specs.List.{AllByRecursion, list_any}
 use Rattle.core_world.specs.Clauses.Draws.{AreDraws, first_draw}
-use Rattle.lock_journal.specs.Hashes.{is_draw}
-use Rattle.object_program.specs.Valid.{IsProgram, IsThread}
+use Rattle.object_program.specs.Valid.{IsProgram}
 use Rattle.plain_machine.specs.Legal.{machine_after}
 use Rattle.plain_machine.specs.Running.{run_on}
 use Rattle.plain_history.specs.EnterPaths.{has_hash}
 use Rattle.plain_history.specs.ExactStamps.{IsExactStamp, IsTakingStamp, StampsAreExact}
 use Rattle.plain_history.specs.FirstDraws.{DrawsComeFirst}
-use Rattle.plain_monitor.specs.declared.entry.Entry.TheVariants.{Hash}
 use Rattle.plain_monitor.specs.declared.entry.Logged.{Logged}
-use Rattle.plain_monitor.specs.History.{RisesAbove, last_above, last_stamp, log_of}
+use Rattle.plain_monitor.specs.History.{RisesAbove, last_above, log_of}
 use Rattle.single_thread_law.specs.LoneExample.{lone_cut, lone_end, lone_fuel, lone_logs, lone_program, lone_shots}
 use Rattle.single_thread_law.specs.LoneRun.{IsLoneRun}
 use Rattle.single_thread_law.specs.Shots.{AreShotsOf}
