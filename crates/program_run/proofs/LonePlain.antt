@@ -15,9 +15,9 @@ use Rattle.plain_machine.specs.Legal.{machine_after}
 use Rattle.plain_machine.specs.Running.{run_on}
 use Rattle.plain_monitor.specs.declared.entry.Logged.{Logged}
 use Rattle.plain_monitor.specs.History.{log_of}
-use Rattle.single_thread_law.specs.LoneExample.{lone_cut, lone_end, lone_fuel, lone_logs, lone_program, lone_shots}
+use Rattle.single_thread_law.specs.LoneExample.{lone_end, lone_fuel, lone_logs, lone_program, lone_shots}
 use Rattle.single_thread_law.specs.LoneRun.{with_no_path, with_no_paths}
-use Rattle.single_thread_law.proofs.LoneExample.{exact, rises, under, undrawn}
+use Rattle.single_thread_law.proofs.LoneExample.{exact, lone_cut, rises, under, undrawn}
 use Rattle.program_run.specs.declared.settings.Settings.{Settings}
 use Rattle.program_run.specs.PlainRun.{IsMadeBy, IsPlainRun}
 use Rattle.program_run.specs.Ran.{IsRan}

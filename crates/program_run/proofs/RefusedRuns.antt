@@ -24,8 +24,9 @@ use Rattle.plain_monitor.specs.declared.entry.Entry.TheVariants.{Done}
 use Rattle.plain_monitor.specs.declared.entry.Logged.{Logged}
 use Rattle.plain_monitor.specs.declared.entry.Value.TheVariants.{Ref}
 use Rattle.plain_monitor.specs.History.{log_of}
-use Rattle.single_thread_law.specs.LoneExample.{lone_cut, lone_end, lone_fuel, lone_logs, lone_program, lone_shots}
+use Rattle.single_thread_law.specs.LoneExample.{lone_end, lone_fuel, lone_logs, lone_program, lone_shots}
 use Rattle.single_thread_law.specs.LoneRun.{NoneGoesOn, with_no_paths}
+use Rattle.single_thread_law.proofs.LoneExample.{lone_cut}
 use Rattle.thread_logs.specs.Passed.{IsOnTheWay}
 use Rattle.program_run.specs.declared.settings.Settings.{Settings}
 use Rattle.program_run.specs.Biases.{verdicts_on}
