@@ -6,3 +6,5 @@ pub mod DrawNumbers
 pub mod EntriesTold
 pub mod LegalJournals
 pub mod ShortJournals
+pub mod HashJournal
+pub mod RefusedJournals

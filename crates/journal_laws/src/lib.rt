@@ -5,7 +5,15 @@
 #![tactic(auto)]
 
 mod laws;
+mod refused;
+mod witnesses;
 
 pub use laws::{
     entries_of_a_run_can_be_told, exact_stamps_leave_no_gap, journals_of_runs_are_legal,
 };
+pub use refused::{
+    no_line_tells_what_is_not_of_the_program, no_other_answer_of_a_journal,
+    no_other_state_of_a_machine_that_is_over, no_short_journal_of_too_many_entries,
+    no_stamp_above_the_number_of_entries,
+};
+pub use witnesses::{a_stuck_machine_comes_about, logs_of_a_run_come_about};

@@ -23,3 +23,4 @@ pub mod ChosenPaths
 pub mod Passed
 pub mod NotDeclared
 pub mod LonePlain
+pub mod RefusedRuns

@@ -1,5 +1,5 @@
 -- The run of the small program of one thread, as a plain run and as runs of all settings.
-use Rattle.std.proofs.Common.{◌≡◌, ◌⊎◌, ℕ, zero, suc, ◌+◌, ◌<◌, ◌≤◌, Bool, true, false, if◌then◌else◌, List, [], ◌∷◌, Some, length, map}
+use Rattle.std.proofs.Common.{◌≡◌, ◌⊎◌, ℕ, zero, suc, ◌<◌, ◌≤◌, Bool, true, false, if◌then◌else◌, List, [], ◌∷◌, Some, length, map}
 use Rattle.std.proofs.Common.{refl, sym, ap, ◌∙◌, subst, inl, inr, arith}
 use Rattle.std.specs.Prelude.{slice_get, slice_index, IsSome}
 use Rattle.std.specs.List.{AllByRecursion}
@@ -15,9 +15,9 @@ use Rattle.plain_machine.specs.Legal.{machine_after}
 use Rattle.plain_machine.specs.Running.{run_on}
 use Rattle.plain_monitor.specs.declared.entry.Logged.{Logged}
 use Rattle.plain_monitor.specs.History.{log_of}
-use Rattle.single_thread_law.specs.LoneExample.{lone_cut, lone_end, lone_fuel, lone_logs, lone_program, lone_shots}
+use Rattle.single_thread_law.specs.LoneExample.{lone_end, lone_fuel, lone_logs, lone_program, lone_shots}
 use Rattle.single_thread_law.specs.LoneRun.{with_no_path, with_no_paths}
-use Rattle.single_thread_law.proofs.LoneExample.{exact, rises, under, undrawn}
+use Rattle.single_thread_law.proofs.LoneExample.{exact, lone_cut, rises, under, undrawn}
 use Rattle.program_run.specs.declared.settings.Settings.{Settings}
 use Rattle.program_run.specs.PlainRun.{IsMadeBy, IsPlainRun}
 use Rattle.program_run.specs.Ran.{IsRan}
@@ -121,8 +121,8 @@ few s r c ran same =
 pub ran : (start workers quantum tick : ℕ) (bias : Bool) → (r : RunRecord) × (c : ClosedSeen)
     × IsRan (record { fuel = lone_fuel; start = start; bias = bias; workers = workers; quantum = quantum; tick = tick })
     lone_program r c
-    × (machine_after lone_program lone_fuel r.logs ≡ Some lone_end) × (most_verdicts r < revoke_threshold)
+    × (machine_after lone_program lone_fuel r.logs ≡ Some lone_end) × (most_verdicts r < revoke_threshold) × (r.shots ≡ lone_shots)
 ran start workers quantum tick bias =
     let run = made start workers quantum tick bias in
     let after = sym (after_bare lone_program lone_fuel run.run.logs) ∙ ap (machine_after lone_program lone_fuel) run.logs_are ∙ under in
-    (run.run, run.closed, run.ran, after, few _ run.run run.closed run.ran run.logs_are)
+    (run.run, run.closed, run.ran, after, few _ run.run run.closed run.ran run.logs_are, run.shots_are)

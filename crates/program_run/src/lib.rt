@@ -20,8 +20,10 @@ mod witnesses;
 pub use laws::a_dump_shows_a_state_that_the_run_passes_through;
 pub use plain_laws::{plain_runs_are_runs_of_all_settings, runs_without_paths_are_plain};
 pub use refused::{
-    no_record_with_a_bias_from_nowhere, no_record_with_a_bias_that_wanders,
-    no_record_with_a_dump_that_leaves_out_an_earlier_entry,
+    no_dump_that_misses_an_owner, no_record_with_a_bias_from_nowhere,
+    no_record_with_a_bias_that_wanders, no_record_with_a_dump_that_leaves_out_an_earlier_entry,
+    no_run_that_leaves_its_thread_unfinished, no_run_that_leaves_out_a_stamp,
+    no_text_without_the_shots_of_its_dumps, no_verdicts_beyond_the_entries,
 };
 pub use run::run_program;
 pub use settings::{Ran, Settings};

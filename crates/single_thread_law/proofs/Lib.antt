@@ -6,3 +6,4 @@ mod Ending
 pub mod OneWay
 pub mod Texts
 pub mod LoneExample
+pub mod PairExample

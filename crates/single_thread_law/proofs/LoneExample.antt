@@ -1,20 +1,22 @@
 -- The example of a program of one thread: it is a program, and its run is one.
-use Rattle.std.proofs.Common.{◌≡◌, ℕ, zero, suc, ◌+◌, ◌<◌, ◌≤◌, Bool, ◌||◌, true, false, List, [], ◌∷◌, ◌++◌, length}
-use Rattle.std.proofs.Common.{map, take, Some, refl, sym, ap, ◌∙◌, subst, inl, inr, arith}
-use Rattle.std.specs.Prelude.{slice_index, slice_index_or}
+use Rattle.std.proofs.Common.{◌≡◌, ℕ, zero, suc, Bool, ◌||◌, true, false, List, [], ◌∷◌, ◌++◌}
+use Rattle.std.proofs.Common.{Some, None, refl, subst, inl, inr, arith}
+use Rattle.std.specs.Prelude.{slice_index_or}
 use Rattle.std.specs.List.{AllByRecursion, list_any}
 use Rattle.core_world.specs.Clauses.Draws.{AreDraws, first_draw}
-use Rattle.lock_journal.specs.Hashes.{is_draw}
-use Rattle.object_program.specs.Valid.{IsProgram, IsThread}
+use Rattle.object_program.specs.Valid.{IsProgram}
 use Rattle.plain_machine.specs.Legal.{machine_after}
+use Rattle.plain_machine.specs.Machine.{PlainMachine}
 use Rattle.plain_machine.specs.Running.{run_on}
+use Rattle.plain_machine.specs.declared.monitor_call.MonitorCall.TheVariants as call
+use Rattle.plain_machine.specs.declared.monitor_call.Mode.TheVariants.{Calling}
 use Rattle.plain_history.specs.EnterPaths.{has_hash}
 use Rattle.plain_history.specs.ExactStamps.{IsExactStamp, IsTakingStamp, StampsAreExact}
 use Rattle.plain_history.specs.FirstDraws.{DrawsComeFirst}
-use Rattle.plain_monitor.specs.declared.entry.Entry.TheVariants.{Hash}
 use Rattle.plain_monitor.specs.declared.entry.Logged.{Logged}
-use Rattle.plain_monitor.specs.History.{RisesAbove, last_above, last_stamp, log_of}
-use Rattle.single_thread_law.specs.LoneExample.{lone_cut, lone_end, lone_fuel, lone_logs, lone_program, lone_shots}
+use Rattle.plain_monitor.specs.declared.entry.Value.TheVariants.{Ref}
+use Rattle.plain_monitor.specs.History.{RisesAbove, last_above, log_of}
+use Rattle.single_thread_law.specs.LoneExample.{lone_end, lone_fuel, lone_logs, lone_program, lone_shots}
 use Rattle.single_thread_law.specs.LoneRun.{IsLoneRun}
 use Rattle.single_thread_law.specs.Shots.{AreShotsOf}
 
@@ -116,6 +118,29 @@ run start =
       one_drawn = λ o t has. let none = no_hash o t in cc;
       drawn_first = undrawn;
       exact = exact;
+    }
+
+-- the machine before the dump
+abbrev pub lone_cut : PlainMachine
+lone_cut =
+    record {
+      program = lone_program;
+      objects = record {
+        monitor = record { owner = Some 0; count = 1; waits = []; called = [] };
+        slots = [];
+        hash = None;
+      } ∷ [];
+      made = [] ∷ [];
+      threads =
+          record {
+            place = 2;
+            locals = Ref 0 ∷ [];
+            fuel = 8;
+            holds = 1 ∷ [];
+            dumps = 0;
+            made = 0;
+            mode = Calling (call.Dump 1);
+          } ∷ [];
     }
 
 pub dumps : AreShotsOf lone_program lone_fuel (log_of lone_logs 0) (slice_index_or lone_shots 0 [])

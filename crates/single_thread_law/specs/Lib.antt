@@ -1,3 +1,4 @@
 pub mod LoneRun
 pub mod Shots
 pub mod LoneExample
+pub mod PairExample

@@ -4,8 +4,7 @@ use Rattle.lock_journal.specs.declared.record.Shot.{Shot}
 use Rattle.object_program.specs.Program.{ProgramText}
 use Rattle.object_program.specs.declared.program.Code.TheVariants as code
 use Rattle.plain_machine.specs.Machine.{PlainMachine}
-use Rattle.plain_machine.specs.declared.monitor_call.MonitorCall.TheVariants as call
-use Rattle.plain_machine.specs.declared.monitor_call.Mode.TheVariants.{Calling, Ended}
+use Rattle.plain_machine.specs.declared.monitor_call.Mode.TheVariants.{Ended}
 use Rattle.plain_monitor.specs.Monitor.{free_monitor}
 use Rattle.plain_monitor.specs.declared.entry.Ending.TheVariants as ending
 use Rattle.plain_monitor.specs.declared.entry.Entry.TheVariants.{Enter, Exit, Print, Dump, Done}
@@ -44,29 +43,7 @@ lone_logs =
 abbrev pub lone_shots : List (List Shot)
 lone_shots = (record { number = 1; cut = 1 ∷ []; cells = record { owner = Some 0; count = 1 } ∷ [] } ∷ []) ∷ []
 
--- the machine before the dump, and after the logs
-abbrev pub lone_cut : PlainMachine
-lone_cut =
-    record {
-      program = lone_program;
-      objects = record {
-        monitor = record { owner = Some 0; count = 1; waits = []; called = [] };
-        slots = [];
-        hash = None;
-      } ∷ [];
-      made = [] ∷ [];
-      threads =
-          record {
-            place = 2;
-            locals = Ref 0 ∷ [];
-            fuel = 8;
-            holds = 1 ∷ [];
-            dumps = 0;
-            made = 0;
-            mode = Calling (call.Dump 1);
-          } ∷ [];
-    }
-
+-- the machine after the logs
 abbrev pub lone_end : PlainMachine
 lone_end =
     record {

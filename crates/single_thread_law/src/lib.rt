@@ -6,9 +6,14 @@
 #![tactic(auto)]
 
 mod laws;
+mod refused;
 mod witnesses;
 
 pub use laws::{
     one_thread_logs_one_way, one_thread_writes_one_text, stamps_of_one_thread_count_its_entries,
+};
+pub use refused::{
+    no_stamp_is_the_place_in_a_log_with_a_gap, two_threads_log_two_ways,
+    two_threads_write_two_texts,
 };
 pub use witnesses::a_program_of_one_thread_runs_alone;
