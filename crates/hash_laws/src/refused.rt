@@ -15,7 +15,8 @@ pub fn no_hash_beside_the_generator()
     ensures drawn { HasDraws 0 ((record { stamp = 1; entry = Hash 0 273327013 (Some 1) } ∷ []) ∷ []) → ⊥ }
 {}
 
-/// Each of two threads draws a hash for one object, whatever the hashes and the generators are. Refuses the same conclusions.
+/// Each of two threads draws a hash for one object, whatever the hashes and the generators are. Refuses the conclusions `fit` and `drawn` of
+/// `hashes_fit_just_where_they_are_draws`.
 pub fn no_hash_that_two_threads_draw()
     ensures fit { (start v w m n : ℕ) → hash_fits start (order ((record { stamp = 1; entry = Hash 0 v (Some m) } ∷ [])
         ∷ (record { stamp = 1; entry = Hash 0 w (Some n) } ∷ []) ∷ [])) 0 ≡ true → ⊥ }

@@ -68,7 +68,8 @@ pub fn no_run_that_leaves_its_thread_unfinished()
         → IsMadeBy s lone_program (cut_logs (4 ∷ []) lone_logs) shots → ⊥ }
 {}
 
-/// A run of it whose last entry has a stamp too late by one. Refuses the same conclusions.
+/// A run of it whose last entry has a stamp too late by one. Refuses the conclusions of `runs_without_paths_are_plain` and
+/// `plain_runs_are_runs_of_all_settings`.
 pub fn no_run_that_leaves_out_a_stamp()
     ensures plain { (start : ℕ) (shots : List (List Shot)) (m : PlainMachine)
         → IsPlainRun lone_program lone_fuel start

@@ -26,7 +26,8 @@ pub fn no_machine_that_forgets_who_waits()
     ensures { IsReached (waiting_by free_monitor) → ⊥ }
 {}
 
-/// Of two threads that are about to enter each other's objects one has entered its first, and the other can go on: no machine of which the law speaks.
+/// Of two threads that are about to enter each other's objects one has entered its first, and the other can go on. Refuses
+/// what `a_stuck_machine_without_a_cycle_has_one_that_waits` asks for.
 pub fn no_machine_is_stuck_where_a_thread_goes_on()
     ensures { (m : PlainMachine)
         → machine_after circle_program stuck_fuel ((record { stamp = 1; entry = Enter 0 StackFirst } ∷ []) ∷ [] ∷ []) ≡ Some m
