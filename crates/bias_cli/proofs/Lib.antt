@@ -9,6 +9,7 @@ pub mod Statuses
 pub mod LoneRuns
 pub mod PlainRuns
 pub mod JournalsLegal
+pub mod JournalsChecked
 pub mod BlocksAllowed
 pub mod BlockRuns
 pub mod Briefly
