@@ -18,3 +18,6 @@ pub mod Journals
 pub mod Searched
 mod Told
 mod Gathered
+pub mod ShortExample
+pub mod Exemplified
+pub mod Refuted
