@@ -9,6 +9,7 @@ pub mod Statuses
 pub mod LoneRuns
 pub mod PlainRuns
 pub mod JournalsLegal
+pub mod JournalsChecked
 pub mod BlocksAllowed
 pub mod BlockRuns
 pub mod Briefly
@@ -17,3 +18,6 @@ pub mod Journals
 pub mod Searched
 mod Told
 mod Gathered
+pub mod ShortExample
+pub mod Exemplified
+pub mod Refuted

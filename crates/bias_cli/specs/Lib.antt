@@ -8,4 +8,5 @@ pub mod Asked
 pub mod Outcomes
 pub mod Finish
 pub mod MayBeWritten
+pub mod Example
 pub mod inner

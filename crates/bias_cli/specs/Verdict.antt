@@ -1,9 +1,10 @@
 -- What is written of a journal that was checked, and the status.
 use Rattle.std.specs.Prelude.{◌≢◌, ℕ, if◌then◌else◌, List, [], ◌++◌, codes, decimal, length, Result, Ok, Err}
+use Rattle.plain_monitor.specs.declared.entry.Logged.{Logged}
 use Rattle.plain_monitor.specs.Order.{order}
 use Rattle.object_program.specs.Program.{ProgramText}
 use Rattle.lock_journal.specs.Words.{object_text}
-use Rattle.lock_journal.specs.RunText.{newline}
+use Rattle.lock_journal.specs.RunText.{newline, text_of_lines}
 use Rattle.lock_journal.specs.declared.record.RunRecord.{RunRecord}
 use Rattle.bias_check.specs.declared.answer.Checked.{Checked}
 use Rattle.bias_check.specs.declared.answer.Checked.TheVariants.{Legal, NoStep, BadHash}
@@ -12,6 +13,8 @@ use Rattle.bias_check.specs.declared.answer.Reached.TheVariants.{Ended, Stuck, O
 use Rattle.bias_check.specs.declared.answer.CheckFault.{CheckFault}
 use Rattle.bias_check.specs.declared.answer.CheckFault.TheVariants.{Unreadable, NoMemory}
 use Rattle.bias_check.specs.Answer.{IsTrueOf}
+use Rattle.bias_check.specs.Parts.{marker}
+use Rattle.bias_check.specs.Printed.{journal_of}
 
 abbrev pub reached_text : Reached → List ℕ
 reached_text Ended = codes "ended"
@@ -43,3 +46,7 @@ pub record IsVerdict (p : ProgramText) (fuel start : ℕ) (lines : List (List �
 -- the run was halted
 abbrev pub answer_to : RunRecord → Result Checked CheckFault
 answer_to r = Ok (Legal (length (order r.logs)) (if r.halted then Stuck else Ended))
+
+-- the text that a check reads: that of the program, the marker, and the journal of these logs
+abbrev pub with_journal : List ℕ → ProgramText → List (List Logged) → List ℕ
+with_journal text p logs = text ++ (marker ++ text_of_lines (journal_of p logs))

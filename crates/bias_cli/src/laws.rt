@@ -1,10 +1,13 @@
 //! What follows from the contract of the top call.
 
-ghost use Rattle.std.specs.Prelude.{◌≡◌, ◌≢◌, ◌⊎◌, ℕ, ◌<◌, ◌≤◌, ◌^◌, Bool, true, false, List, ◌++◌, length, Option, Some, Result};
+ghost use Rattle.std.specs.Prelude.{◌≡◌, ◌≢◌, ◌⊎◌, ℕ, ◌<◌, ◌≤◌, ◌^◌, Bool, true, false, List, ◌++◌, length};
+ghost use Rattle.std.specs.Prelude.{IsTrue, Option, Some, Result, Ok};
+ghost use Rattle.run_io.specs.Faults.{rose};
 ghost use Rattle.plain_monitor.specs.Limits.{most_fuel};
 ghost use Rattle.heap_table.specs.Seen.{ClosedSeen};
 ghost use Rattle.object_program.specs.Program.{ProgramText};
 ghost use Rattle.object_program.specs.Valid.{IsProgram};
+ghost use Rattle.program_syntax.specs.Refusal.{program_of};
 ghost use Rattle.plain_machine.specs.Legal.{IsLegal};
 ghost use Rattle.plain_machine.specs.Machine.{PlainMachine};
 ghost use Rattle.lock_journal.specs.RunText.{lines_of_run, text_of_lines, text_of_run};
@@ -14,14 +17,17 @@ ghost use Rattle.bias_check.specs.declared.answer.Checked.{Checked};
 ghost use Rattle.bias_check.specs.declared.answer.CheckFault.{CheckFault};
 ghost use Rattle.bias_check.specs.Answer.{IsTrueOf};
 ghost use Rattle.bias_check.specs.Lines.{lines_of};
+ghost use Rattle.bias_check.specs.Parts.{lines_are_terminated};
 ghost use Rattle.bias_check.specs.Printed.{journal_of};
 ghost use Rattle.cli_args.specs.Command.{accepted};
 ghost use Rattle.cli_args.specs.declared.options.Command.{Command};
+ghost use Rattle.cli_args.specs.declared.options.Command.TheVariants.{Check};
 ghost use Rattle.cli_args.specs.declared.options.Options.{Options};
 ghost use Rattle.bias_cli.specs.declared.finish.Finish.{Finish};
 ghost use Rattle.bias_cli.specs.Seen.{SourceSeen, SinkSeen};
-ghost use Rattle.bias_cli.specs.Finish.{IsGivenUp, IsFinish, IsRunOf, status_of};
-ghost use Rattle.bias_cli.specs.Verdict.{IsVerdict, answer_to};
+ghost use Rattle.bias_cli.specs.Input.{most_of_journal};
+ghost use Rattle.bias_cli.specs.Finish.{Checks, IsGivenUp, IsFinish, IsRunOf, IsWritten, check_due, status_of};
+ghost use Rattle.bias_cli.specs.Verdict.{IsVerdict, answer_to, verdict_text, with_journal};
 
 /// Status 7 says that memory was wanting, and no other call has it: what is due has a status from 0 to 5, or 8, and a failed write has 6.
 /// So by the two clauses of `biasrun` each call either was given up or did what was due.
@@ -78,6 +84,10 @@ pub fn one_thread_decides_what_is_written()
 /// logged, and that all threads have ended, or are stuck where the run was halted. No other answer holds, and the lines have fewer than 2^32
 /// bytes, as `check_journal` asks; so by its own contract, and unless memory runs out, it answers just this to the lines, under the fuel
 /// and the start of the generators of hashes that the run had. A record that any call leaves is that of such a run.
+///
+/// So where `check` reads a text of the program, whose lines are all terminated, the marker and that journal, and this is no longer than it takes,
+/// then a check of just these lines is due of it (`joined`), and whoever does what is due writes this answer with status 0, but for faults
+/// (`answered`).
 pub fn the_journal_of_each_run_is_legal_for_check()
     ensures written { (o : Options) (p : ProgramText) (r : RunRecord) (c : ClosedSeen) (m : PlainMachine) (stats : Bool)
         → IsRunOf o p r c m → lines_of_run stats true r m ≡ lines_of_run stats false r m ++ journal_of p r.logs }
@@ -98,4 +108,17 @@ pub fn the_journal_of_each_run_is_legal_for_check()
         (sink_before sink_after : SinkSeen) (finish : Finish) (r : RunRecord)
         → IsFinish (accepted words) source_before source_after sink_before sink_after finish
         → finish.run ≡ Some r → IsVerdict r.program r.fuel r.start (journal_of r.program r.logs) (answer_to r) }
+    ensures joined { (o : Options) (p : ProgramText) (r : RunRecord) (c : ClosedSeen) (m : PlainMachine)
+        (text : List ℕ)
+        → program_of text ≡ Ok p → lines_are_terminated text ≡ true → o.fuel ≤ most_fuel → IsRunOf o p r c m
+        → length (with_journal text p r.logs) ≤ most_of_journal
+        → check_due o.fuel o.start (with_journal text p r.logs) ≡ Checks p o.fuel o.start (journal_of p r.logs) }
+    ensures answered { (o : Options) (p : ProgramText) (r : RunRecord) (c : ClosedSeen) (m : PlainMachine)
+        (text : List ℕ) (source_before source_after : SourceSeen) (sink_before sink_after : SinkSeen) (finish : Finish)
+        → program_of text ≡ Ok p → lines_are_terminated text ≡ true → o.fuel ≤ most_fuel → IsRunOf o p r c m
+        → length (with_journal text p r.logs) ≤ most_of_journal
+        → source_before.left ≡ Some (with_journal text p r.logs)
+        → IsFinish (Some (Check o.fuel o.start)) source_before source_after sink_before sink_after finish
+        → IsTrue (rose source_before.faults source_after.faults)
+        ⊎ IsWritten sink_before sink_after finish.status 0 (verdict_text p (answer_to r)) }
 {}

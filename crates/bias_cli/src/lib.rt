@@ -22,11 +22,13 @@ mod outcome_laws;
 mod outcomes;
 mod output;
 mod refusal;
+mod refused;
 mod report;
 mod run;
 mod settings_laws;
 mod text;
 mod verdict;
+mod witnesses;
 
 pub use block_laws::compiling_first_changes_nothing;
 pub use cli_args::{Command, Options, WordsFault, read_words};
@@ -38,11 +40,19 @@ pub use laws::{
 };
 pub use lock_journal::{Cell, ClassLine, Line, Lines, Merge, RunRecord, Shot, replay};
 pub use outcome_laws::runs_end_as_a_search_found;
+pub use refused::{
+    no_end_that_a_search_may_miss, no_other_answer_to_a_journal, no_other_status_by_other_settings,
+    no_replay_of_a_wrong_record, no_run_without_a_record_of_its_program,
+    no_same_run_by_another_stamp_fuel_print_or_end, no_status_7_of_a_call_that_wrote,
+};
 use run_io::{Clock, Gate, Sink, Source};
 pub use settings_laws::settings_change_nothing_that_may_be_written;
 use std::alloc::Global;
 use std::sync::Wait;
 use std::thread::Threads;
+pub use witnesses::{
+    a_small_program_can_be_run, a_small_program_with_a_block_can_be_run, calls_can_do_what_is_due,
+};
 
 /// Does what the arguments, `words`, ask for, and writes what is due to the sink. `words[0]` is the program's name.
 ///
