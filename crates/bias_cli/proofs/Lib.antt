@@ -16,4 +16,5 @@ pub mod RunsFound
 pub mod Journals
 pub mod Searched
 mod Told
+mod WaysShown
 mod Gathered
