@@ -17,6 +17,7 @@ pub mod RunsFound
 pub mod Journals
 pub mod Searched
 mod Told
+mod WaysShown
 mod Gathered
 pub mod ShortExample
 pub mod Exemplified

@@ -8,7 +8,7 @@ use Rattle.outcome_search.specs.declared.ends.End.{End}
 use Rattle.outcome_search.specs.declared.ends.End.TheVariants.{Stuck, Faulted}
 use Rattle.outcome_search.specs.declared.outcome.Outcomes.{Outcomes}
 use Rattle.outcome_search.specs.EveryEnd.{IsEveryEnd}
-use Rattle.outcome_search.specs.Witness.{IsWitness}
+use Rattle.outcome_search.specs.Witness.{IsWitness, IsCutShort}
 
 -- 4 where some end is stuck; else 1 where one has a fault, or a thread was spent; else 8 where the search stopped at its limit; else 0
 abbrev pub outcome_status : Outcomes → ℕ
@@ -34,11 +34,12 @@ outcome_lines o =
 abbrev pub end_to_show : Outcomes → Option End
 end_to_show o = if nat_lt 0 o.stuck then Some Stuck else if nat_lt 0 o.faulted then Some Faulted else None
 
--- where one is to be shown, the lines after the marker are a journal that leads to such an end, or it is said that there is none
+-- where one is to be shown, the lines after the marker are a journal that leads to such an end; or it is said that there is none, and a way to such an
+-- end is cut short
 abbrev pub IsShown : ProgramText → Option End → List (List ℕ) → Type 0
 IsShown p None lines = lines ≡ []
 IsShown p (Some end) lines =
-    (lines ≡ codes "witness none\n" ∷ [])
+    ((lines ≡ codes "witness none\n" ∷ []) × IsCutShort p end)
     ⊎ ((entries : List (ℕ × Logged)) × IsWitness p end entries × (lines ≡ marker ∷ map (journal_line p) entries))
 
 -- a search of the program that keeps at most so many states: its counts, and where it is asked for the way to an end

@@ -1,15 +1,14 @@
 //! Every way in which a program may end: the search, its counts, and the way to an end.
 
-ghost use Rattle.std.specs.Prelude.{◌≡◌, ◌⊎◌, ℕ, ◌≤◌, ◌++◌, ◌∷◌, length, map, IfOk, IfSome, OnOk, Ok, Some};
+ghost use Rattle.std.specs.Prelude.{◌≡◌, ◌⊎◌, ◌≤◌, ◌++◌, ◌∷◌, length, map, IfOk, IfSome, OnOk, Ok, Some, None};
 ghost use Rattle.lock_journal.specs.RunText.{journal_line, text_of_lines};
 ghost use Rattle.object_program.specs.Valid.{IsProgram};
-ghost use Rattle.outcome_search.specs.EveryEnd.{IsEveryEnd};
 ghost use Rattle.program_syntax.specs.Refusal.{program_of};
 ghost use Rattle.cli_args.specs.declared.options.Command.TheVariants as asked;
 ghost use Rattle.program_syntax.specs.Text.{most_bytes};
 ghost use Rattle.bias_check.specs.Parts.{marker};
-ghost use Rattle.outcome_search.specs.Witness.{IsWitness};
-ghost use Rattle.bias_cli.specs.inner.Ends.{Adds, TellsEnds};
+ghost use Rattle.outcome_search.specs.Witness.{IsWitness, IsCutShort};
+ghost use Rattle.bias_cli.specs.inner.Ends.{Adds, TellsEnds, IsSearchOf, first_of};
 ghost use Rattle.bias_cli.specs.Outcomes.{IsShown, end_to_show, outcome_line, rare_line, outcome_lines, outcome_status};
 ghost use Rattle.bias_cli.specs.Seen.{source_seen, sink_seen};
 ghost use Rattle.bias_cli.specs.Finish.{Finds, IsFinish, IsGivenUp, Meets, TakesAtMost, finds_due};
@@ -98,8 +97,8 @@ fn write_ends<K: Sink>(
     found: &Found,
     sink: &mut K,
 ) -> Finish
-    ensures { (states : ℕ) → IsEveryEnd program.now states counts.now → IsGivenUp sink.old sink.new result
-        ⊎ Meets (sink_seen K.Sink sink.old) (sink_seen K.Sink sink.new) result (Finds program.now states witness) }
+    ensures { (search : IsSearchOf program.now found.now counts.now) → IsGivenUp sink.old sink.new result
+        ⊎ Meets (sink_seen K.Sink sink.old) (sink_seen K.Sink sink.new) result (Finds program.now search.states witness) }
 {
     match ends_text(alloc, witness, program, counts, found) {
         Ok(text) => finish_with(sink, outcome_status(counts), text.as_slice()),
@@ -115,7 +114,8 @@ fn ends_text(
     counts: &Outcomes,
     found: &Found,
 ) -> Result<Vec<u8>, NoMemory>
-    ensures { IfOk result (λ text. TellsEnds program.now witness counts.now text.items) }
+    ensures { IsSearchOf program.now found.now counts.now
+        → IfOk result (λ text. TellsEnds program.now witness counts.now text.items) }
 {
     let mut text = Vec::new(alloc);
     push_counts(counts, &mut text)?;
@@ -176,7 +176,8 @@ fn push_witness(
     found: &Found,
     text: &mut Vec<u8>,
 ) -> Result<(), NoMemory>
-    ensures { OnOk result (Adds (IsShown program.now (end_to_show counts.now)) text.old.items text.new.items) }
+    ensures { IsSearchOf program.now found.now counts.now
+        → OnOk result (Adds (IsShown program.now (end_to_show counts.now)) text.old.items text.new.items) }
 {
     match end_to_show(counts) {
         Some(end) => push_way(alloc, program, counts, found, end, text),
@@ -193,7 +194,8 @@ fn push_way(
     end: End,
     text: &mut Vec<u8>,
 ) -> Result<(), NoMemory>
-    ensures { OnOk result (Adds (IsShown program.now (Some end)) text.old.items text.new.items) }
+    ensures { IsSearchOf program.now found.now counts.now → end_to_show counts.now ≡ Some end
+        → OnOk result (Adds (IsShown program.now (Some end)) text.old.items text.new.items) }
 {
     match way_to(alloc, program, counts, found, end)? {
         Some(entries) => push_journal(program, entries.as_slice(), text),
@@ -209,7 +211,9 @@ fn way_to(
     found: &Found,
     end: End,
 ) -> Result<Option<Vec<(u32, Logged)>>, NoMemory>
-    ensures { IfOk result (λ found. IfSome found (λ entries. IsWitness program.now end entries.items)) }
+    ensures entries { IfOk result (λ way. IfSome way (λ entries. IsWitness program.now end entries.items)) }
+    ensures none { IsSearchOf program.now found.now counts.now → end_to_show counts.now ≡ Some end
+        → IfOk result (λ way. way ≡ None → IsCutShort program.now end) }
 {
     match first_end(counts, end) {
         Some(number) => {
@@ -221,7 +225,9 @@ fn way_to(
 }
 
 /// The number of the first state that ends so.
-fn first_end(counts: &Outcomes, end: End) -> Option<usize> {
+fn first_end(counts: &Outcomes, end: End) -> Option<usize>
+    ensures { result ≡ first_of end counts.now }
+{
     match end {
         End::Stuck => counts.first_stuck,
         End::Faulted => counts.first_faulted,

@@ -63,4 +63,5 @@ gone_in (Err e) after steps m k t is to = tt
 
 -- the first machine, with no entry yet
 pub first_trail : (p : ProgramText) (m : PlainMachine) (entries : List (ℕ × Logged)) → m ≡ new_machine p most_fuel → entries ≡ [] → IsTrail p m entries
-first_trail p m entries is none = record { stamps = subst (CountOn 0) (sym none) tt; leads = (λ i. after_all (new_machine p most_fuel) (none i)) ∙ ap Some (sym is) }
+first_trail p m entries is none =
+    record { stamps = subst (CountOn 0) (sym none) tt; leads = (λ i. after_all (new_machine p most_fuel) (none i)) ∙ ap Some (sym is) }

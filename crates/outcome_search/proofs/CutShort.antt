@@ -158,7 +158,8 @@ module _ (p : ProgramText) (top steps : ℕ) where
           )
 
   settled_on : (n : ℕ) (a b : PlainMachine) → Together a (refuelled top b)
-      → (Beside a → Together (settled_by unchanged n a) (settled top n (refuelled top a))) → Together (settled_by unchanged n a) (settled top n (refuelled top b))
+      → (Beside a → Together (settled_by unchanged n a) (settled top n (refuelled top a)))
+      → Together (settled_by unchanged n a) (settled top n (refuelled top b))
   settled_on n a b (inl k) goes = subst (λ (z : PlainMachine). Together (settled_by unchanged n a) (settled top n z)) k.1 (goes k.0)
   settled_on n a b (inr c) goes = inr (cut_settled n (refuelled top b) c)
 

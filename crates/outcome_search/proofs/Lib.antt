@@ -16,3 +16,4 @@ pub mod Spinning
 pub mod Filled
 pub mod Choosing
 pub mod CutShort
+pub mod Idle

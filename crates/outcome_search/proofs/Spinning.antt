@@ -27,7 +27,7 @@ use Rattle.outcome_search.specs.NextWords.{first_key, next_key}
 use Rattle.outcome_search.specs.Outcomes.{top_fuel, top_steps, has_hash, is_end}
 use Rattle.outcome_search.specs.Real.{LeadsRefuelled, IsLed}
 use Rattle.outcome_search.specs.Settled.{entry_in, after_next, first_alone, go_on, settled_by, settled, walked}
-use Rattle.outcome_search.specs.Spinning.{spinning, one_spent}
+use Rattle.outcome_search.specs.SmallPrograms.{spinning, one_spent}
 use Rattle.outcome_search.specs.Witness.{end_by, IsCutShort}
 use Rattle.outcome_search.proofs.Chains.{IsAfterAlone, alone_among, settles}
 use Rattle.outcome_search.proofs.EveryEnds.{more_so}
@@ -90,7 +90,8 @@ is_program = record {
 
 counted : (end : End) (n : ℕ) → cond (is_end end (Some Spent)) 1 0 ≡ n → so_many end (spun_machine ∷ []) ≡ n
 counted end n is =
-    let here : cond (is_end end (end_of spun_machine)) 1 0 ≡ n = ap (λ e. cond (is_end end e) 1 0) (spent_end spun_machine (any_spent spun_machine spent_machine)) ∙ is in
+    let spent = spent_end spun_machine (any_spent spun_machine spent_machine) in
+    let here : cond (is_end end (end_of spun_machine)) 1 0 ≡ n = ap (λ e. cond (is_end end e) 1 0) spent ∙ is in
     omega (arith, more_so end spun_machine [], here)
 
 seen_spent : (m : PlainMachine) → IsSeen (spun_machine ∷ []) m → HasSpent m
@@ -114,7 +115,10 @@ every_end = record {
   within = omega arith;
   stops = inl refl;
   all = λ none less logs n few after over. inl (spent_later (order logs) (new_machine spinning less) n (spent_first less) after);
-  gone = λ none. record { first = record { entries = []; machine = spun_machine; alone = refl; is_seen = (0, refl) }; next = λ m n t e seen takes. inl (seen_spent m seen) };
+  gone = λ none. record {
+    first = record { entries = []; machine = spun_machine; alone = refl; is_seen = (0, refl) };
+    next = λ m n t e seen takes. inl (seen_spent m seen);
+  };
 }
   where
     first_alone : (j k : ℕ) (m : PlainMachine) → slice_get (spun_machine ∷ []) j ≡ Some m → slice_get (spun_machine ∷ []) k ≡ Some m → j ≡ k
@@ -147,7 +151,8 @@ settled_spent zero m spent = spent
 settled_spent (suc steps) m spent =
     go (first_alone m 0 (length m.threads)) (λ a h. alone_among m a 0 (length m.threads) h) (λ a h. settled_spent steps a h)
   where
-    go : (r : Option PlainMachine) → ((a : PlainMachine) → r ≡ Some a → IsAfterAlone m a) → ((a : PlainMachine) → HasSpent a → HasSpent (settled_by (λ m. m) steps a))
+    go : (r : Option PlainMachine) → ((a : PlainMachine) → r ≡ Some a → IsAfterAlone m a)
+        → ((a : PlainMachine) → HasSpent a → HasSpent (settled_by (λ m. m) steps a))
         → HasSpent (go_on (settled_by (λ m. m) steps) (λ m. m) m r)
     go None alone ih = spent
     go (Some a) alone ih = let k = alone a refl in ih a (spent_after m a k.thread k.entry spent k.takes)
@@ -158,7 +163,8 @@ walked_spent (t ∷ ts) m walks =
     option_and_then_some _ (walked (λ m. m) top_steps (new_machine spinning most_fuel) ts) m walks (λ k before last.
     go k (after_next k t) (walked_spent ts k before) refl last)
   where
-    go : (k : PlainMachine) (r : Option PlainMachine) → HasSpent k → after_next k t ≡ r → option_map (λ n. settled_by (λ m. m) top_steps n) r ≡ Some m → HasSpent m
+    go : (k : PlainMachine) (r : Option PlainMachine) → HasSpent k → after_next k t ≡ r
+        → option_map (λ n. settled_by (λ m. m) top_steps n) r ≡ Some m → HasSpent m
     go k None spent next last = absurd (none-some m last)
     go k (Some a) spent next last = subst HasSpent (same_Some _ m last) (settled_spent top_steps a (gone_spent k a t spent next))
 
@@ -186,7 +192,8 @@ pub leads_there : IsProgram spinning × (has_hash spinning ≡ false)
     × LeadsBy (next_key spinning top_fuel top_steps) 1 (first_key spinning top_fuel top_steps) [] (first_key spinning top_fuel top_steps)
     × (end_of (machine_of spinning top_fuel (first_key spinning top_fuel top_steps)) ≡ Some Spent)
 leads_there =
-    let read = settled_read spinning top_fuel top_steps (new_machine spinning top_fuel) some_fuel (good_first spinning top_fuel is_program (refl, tt) some_fuel) in
+    let good = good_first spinning top_fuel is_program (refl, tt) some_fuel in
+    let read = settled_read spinning top_fuel top_steps (new_machine spinning top_fuel) some_fuel good in
     let spent : HasSpent (settled top_fuel top_steps spun_machine) =
     settles HasSpent top_fuel top_steps spun_machine (λ m a h k. spent_full top_fuel a (spent_after m a k.thread k.entry h k.takes)) spent_machine in (
       is_program,

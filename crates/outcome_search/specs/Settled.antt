@@ -35,7 +35,8 @@ abbrev pub first_alone : PlainMachine → ℕ → ℕ → Option PlainMachine
 first_alone m t zero = None
 first_alone m t (suc n) = or_else (after_alone m t) (first_alone m (t + 1) n)
 
-abbrev pub go_on : (PlainMachine → PlainMachine) → (PlainMachine → PlainMachine) → PlainMachine → Option PlainMachine → PlainMachine
+abbrev pub go_on : (PlainMachine → PlainMachine) → (PlainMachine → PlainMachine) → PlainMachine → Option PlainMachine
+    → PlainMachine
 go_on settle after m None = m
 go_on settle after m (Some a) = settle (after a)
 

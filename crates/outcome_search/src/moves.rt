@@ -243,7 +243,7 @@ fn settle_first(machine: &mut Machine, fuel: u32, steps: u32) -> Result<(), NoMe
     Ok(())
 }
 
-/// Makes the machine that is at hand that of a key. After an error there is none.
+/// Makes the machine that is at hand that of a key. After an error there is none, and each later call fails with `NoMemory`.
 fn load_key(scratch: &mut Scratch, key: &[u64], fuel: u32) -> Result<(), SearchError>
     requires kept { IsScratch scratch.old.program fuel scratch.old.machine }
     requires key { IsKey scratch.old.program fuel key.now }
@@ -251,8 +251,9 @@ fn load_key(scratch: &mut Scratch, key: &[u64], fuel: u32) -> Result<(), SearchE
     ensures kept { IsScratch scratch.old.program fuel scratch.new.machine }
     ensures found { OnOk result (scratch.new.machine ≡ Some (machine_of scratch.old.program fuel key.now)) }
 {
+    // It was lost where memory gave out.
     let Some(machine) = scratch.machine.take() else {
-        return Err(SearchError::NoState);
+        return Err(SearchError::NoMemory);
     };
     match load(machine, key, fuel) {
         Ok(found) => {

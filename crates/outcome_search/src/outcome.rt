@@ -87,7 +87,7 @@ pub(crate) fn count_ends(moves: &mut MachineMoves, found: &Found) -> Result<Outc
     let mut outcomes = uncounted(found);
     for number in 0..found.len() {
         let Some(key) = found.key(number) else {
-            return Err(SearchError::NoState);
+            unreachable!()
         };
         let end = moves.end(key)?;
         add(&mut outcomes, number, end);

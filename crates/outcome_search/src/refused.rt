@@ -16,11 +16,12 @@ ghost use Rattle.outcome_search.specs.declared.outcome.Outcomes.{Outcomes};
 ghost use Rattle.outcome_search.specs.EveryEnd.{IsGoneInto, IsEveryEnd};
 ghost use Rattle.outcome_search.specs.Outcomes.{top_fuel};
 ghost use Rattle.outcome_search.specs.Real.{IsLed};
-ghost use Rattle.outcome_search.specs.Spinning.{spinning};
+ghost use Rattle.outcome_search.specs.SmallPrograms.{idle, spinning};
 ghost use Rattle.outcome_search.specs.Witness.{end_by, IsCutShort};
 
-/// Counts that are all 0, with nothing open, are those of no program, whatever its threads do.
-/// Refuses the conclusion of `spent_threads_are_counted_where_entries_lead_to_one`.
+/// Counts that are all 0, with nothing open, are those of no program, whatever its threads do; and where entries lead to a spent thread they count one.
+/// None lead to one where the only thread ends at once, so that no counts of that program have one.
+/// Refuses the conclusions of `spent_threads_are_counted_where_entries_lead_to_one`.
 pub fn counts_that_are_all_0_are_refused()
     ensures none { (p : ProgramText) (most : ℕ) → IsEveryEnd p most (record {
       states = 0;
@@ -34,6 +35,8 @@ pub fn counts_that_are_all_0_are_refused()
     }) → ⊥ }
     ensures spent { (p : ProgramText) (most : ℕ) (o : Outcomes) (m : PlainMachine)
         → IsProgram p → IsEveryEnd p most o → o.«open» ≡ 0 → o.spent ≡ 0 → IsLed p top_fuel m → HasSpent m → ⊥ }
+    ensures led { (m : PlainMachine) → IsLed idle top_fuel m → HasSpent m → ⊥ }
+    ensures counted { (most : ℕ) (o : Outcomes) → IsEveryEnd idle most o → o.spent ≡ 0 }
 {}
 
 /// A list with the first machine alone isn't gone into, where an entry leads from that to one that takes nothing more.
@@ -47,8 +50,8 @@ pub fn a_list_of_the_first_machine_alone_is_refused()
 /// Refuses the conclusion of `ways_to_ends_are_walked_or_cut_short`.
 pub fn ways_on_which_no_thread_is_spent_are_not_cut_short()
     ensures alive { (p : ProgramText) (end : End)
-        → ((entries : List (ℕ × Logged)) (m : PlainMachine) → after_all (new_machine p most_fuel) entries ≡ Some m → HasSpent m → ⊥)
-        → IsCutShort p end → ⊥ }
+        → ((entries : List (ℕ × Logged)) (m : PlainMachine) → after_all (new_machine p most_fuel) entries ≡ Some m
+        → HasSpent m → ⊥) → IsCutShort p end → ⊥ }
     ensures walked { (choices : List ℕ) → end_by spinning choices ≢ Some Ended }
     ensures cut { IsCutShort spinning Ended → ⊥ }
 {}

@@ -26,7 +26,8 @@ pub(crate) trait Walker {
     fn make(&mut self, machine: &mut Machine, t: u32, entry: &Entry) -> Result<bool, NoMemory>
         requires t { t < length machine.old.threads }
         ensures made { IfOk result (λ made. made ≡ is_some (take machine.old t entry.now)) }
-        ensures machine { OnOk result (machine.new ≡ gone_on (after self.old) machine.old (take machine.old t entry.now)) }
+        ensures machine { OnOk result (machine.new
+            ≡ gone_on (after self.old) machine.old (take machine.old t entry.now)) }
         ensures threads { length machine.new.threads ≡ length machine.old.threads }
         ensures after_stays { after self.new ≡ after self.old }
         ensures trail { OnOk result ((p : ProgramText) → trail self.old p machine.old → trail self.new p machine.new) };
@@ -38,7 +39,8 @@ fn make_next<W: Walker>(walker: &mut W, machine: &mut Machine, t: u32) -> Result
     ensures made { IfOk result (λ made. made ≡ is_some (after_next machine.old t)) }
     ensures machine { OnOk result (machine.new ≡ gone_on (W.after walker.old) machine.old (after_next machine.old t)) }
     ensures after_stays { W.after walker.new ≡ W.after walker.old }
-    ensures trail { OnOk result ((p : ProgramText) → W.trail walker.old p machine.old → W.trail walker.new p machine.new) }
+    ensures trail { OnOk result ((p : ProgramText) → W.trail walker.old p machine.old
+        → W.trail walker.new p machine.new) }
 {
     match next_entry(machine, t) {
         Some(entry) => walker.make(machine, t, &entry),
@@ -55,10 +57,12 @@ fn make_where_alone<W: Walker>(
 ) -> Result<bool, NoMemory>
     requires { t < length machine.old.threads }
     ensures made { IfOk result (λ made. made ≡ is_some (taken_alone machine.old t entry.now)) }
-    ensures machine { OnOk result (machine.new ≡ gone_on (W.after walker.old) machine.old (taken_alone machine.old t entry.now)) }
+    ensures machine { OnOk result (machine.new
+        ≡ gone_on (W.after walker.old) machine.old (taken_alone machine.old t entry.now)) }
     ensures threads { length machine.new.threads ≡ length machine.old.threads }
     ensures after_stays { W.after walker.new ≡ W.after walker.old }
-    ensures trail { OnOk result ((p : ProgramText) → W.trail walker.old p machine.old → W.trail walker.new p machine.new) }
+    ensures trail { OnOk result ((p : ProgramText) → W.trail walker.old p machine.old
+        → W.trail walker.new p machine.new) }
 {
     if goes_alone(machine, t, entry) {
         return walker.make(machine, t, entry);
@@ -73,7 +77,8 @@ fn make_alone<W: Walker>(walker: &mut W, machine: &mut Machine, t: u32) -> Resul
     ensures machine { OnOk result (machine.new ≡ gone_on (W.after walker.old) machine.old (after_alone machine.old t)) }
     ensures threads { length machine.new.threads ≡ length machine.old.threads }
     ensures after_stays { W.after walker.new ≡ W.after walker.old }
-    ensures trail { OnOk result ((p : ProgramText) → W.trail walker.old p machine.old → W.trail walker.new p machine.new) }
+    ensures trail { OnOk result ((p : ProgramText) → W.trail walker.old p machine.old
+        → W.trail walker.new p machine.new) }
 {
     match next_entry(machine, t) {
         Some(entry) => make_where_alone(walker, machine, t, &entry),
@@ -87,7 +92,8 @@ fn make_first<W: Walker>(walker: &mut W, machine: &mut Machine) -> Result<bool, 
     ensures machine { OnOk result (machine.new
         ≡ gone_on (W.after walker.old) machine.old (first_alone machine.old 0 (length machine.old.threads))) }
     ensures after_stays { W.after walker.new ≡ W.after walker.old }
-    ensures trail { OnOk result ((p : ProgramText) → W.trail walker.old p machine.old → W.trail walker.new p machine.new) }
+    ensures trail { OnOk result ((p : ProgramText) → W.trail walker.old p machine.old
+        → W.trail walker.new p machine.new) }
 {
     machine.is_sound();
     let threads = machine.threads().len();
@@ -107,7 +113,8 @@ pub(crate) fn settle<W: Walker>(
 ) -> Result<(), NoMemory>
     ensures machine { OnOk result (machine.new ≡ settled_by (W.after walker.old) steps machine.old) }
     ensures after_stays { W.after walker.new ≡ W.after walker.old }
-    ensures trail { OnOk result ((p : ProgramText) → W.trail walker.old p machine.old → W.trail walker.new p machine.new) }
+    ensures trail { OnOk result ((p : ProgramText) → W.trail walker.old p machine.old
+        → W.trail walker.new p machine.new) }
 {
     for _ in 0..steps {
         if !make_first(walker, machine)? {
@@ -129,7 +136,8 @@ pub(crate) fn go<W: Walker>(
     ensures machine { OnOk result (machine.new
         ≡ go_on (settled_by (W.after walker.old) steps) (W.after walker.old) machine.old (after_next machine.old t)) }
     ensures after_stays { W.after walker.new ≡ W.after walker.old }
-    ensures trail { OnOk result ((p : ProgramText) → W.trail walker.old p machine.old → W.trail walker.new p machine.new) }
+    ensures trail { OnOk result ((p : ProgramText) → W.trail walker.old p machine.old
+        → W.trail walker.new p machine.new) }
 {
     if !make_next(walker, machine, t)? {
         return Ok(false);

@@ -74,7 +74,8 @@ fn walk_by(
 
 /// Goes on by an entry of thread t, where there is such a thread and it has one; whether it has one.
 fn choose(log: &mut Log, machine: &mut Machine, t: u32) -> Result<bool, NoMemory>
-    ensures machine { IfOk result (λ made. (if made then Some machine.new else None) ≡ gone (λ m. m) top_steps machine.old t) }
+    ensures machine { IfOk result (λ made. (if made then Some machine.new else None)
+        ≡ gone (λ m. m) top_steps machine.old t) }
     ensures trail { OnOk result ((p : ProgramText) → IsTrail p machine.old log.old.entries.items
         → IsTrail p machine.new log.new.entries.items) }
 {

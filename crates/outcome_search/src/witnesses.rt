@@ -12,7 +12,7 @@ ghost use Rattle.outcome_search.specs.EveryEnd.{IsEveryEnd};
 ghost use Rattle.outcome_search.specs.NextWords.{first_key, next_key};
 ghost use Rattle.outcome_search.specs.Outcomes.{top_fuel, top_steps, has_hash};
 ghost use Rattle.outcome_search.specs.Real.{IsLed};
-ghost use Rattle.outcome_search.specs.Spinning.{spinning, one_spent};
+ghost use Rattle.outcome_search.specs.SmallPrograms.{spinning, one_spent};
 
 /// A thread that jumps to where it is: of its one state `spent 1` is counted, and no state is left open. So it is with
 /// each program that meets the premises of `spent_threads_are_counted_where_entries_lead_to_one`.
@@ -25,6 +25,7 @@ pub fn a_thread_can_be_spent()
 /// `ways_to_ends_are_walked_or_cut_short` are met.
 pub fn a_way_can_lead_to_an_end()
     ensures { IsProgram spinning × (has_hash spinning ≡ false)
-        × LeadsBy (next_key spinning top_fuel top_steps) 1 (first_key spinning top_fuel top_steps) [] (first_key spinning top_fuel top_steps)
+        × LeadsBy (next_key spinning top_fuel top_steps) 1 (first_key spinning top_fuel top_steps) []
+        (first_key spinning top_fuel top_steps)
         × (end_of (machine_of spinning top_fuel (first_key spinning top_fuel top_steps)) ≡ Some Spent) }
 {}

@@ -5,9 +5,9 @@ use plain_monitor::NoMemory;
 /// Why a search has no answer.
 #[derive(Clone, Copy, Debug, PartialEq, Eq)]
 pub enum SearchError {
-    /// Out of memory.
+    /// Out of memory, now or at an earlier call that lost what is wanted.
     NoMemory,
-    /// The moves make no state of a key, or have none to make it in since an earlier error.
+    /// The moves make no state of a key.
     NoState,
 }
 

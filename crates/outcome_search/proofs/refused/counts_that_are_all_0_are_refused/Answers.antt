@@ -1,4 +1,5 @@
 use Rattle.std.proofs.Common.{refl, arith}
+use Rattle.outcome_search.proofs.Idle.{idle_is_never_spent, idle_counts_none}
 use Rattle.outcome_search.proofs.SpentKept.{some_state_is_kept, spent_is_counted}
 use Rattle.outcome_search.proofs.refused.counts_that_are_all_0_are_refused.Goals as goal
 
@@ -7,3 +8,9 @@ returns-clause-none c = λ p most h. absurd (omega (arith, some_state_is_kept p 
 
 pub returns-clause-spent : goal.returns-clause-spent
 returns-clause-spent c = λ p most o m valid h none zero led spent. absurd (omega (arith, spent_is_counted p most o m valid h none led spent, zero))
+
+pub returns-clause-led : goal.returns-clause-led
+returns-clause-led c = idle_is_never_spent
+
+pub returns-clause-counted : goal.returns-clause-counted
+returns-clause-counted c = idle_counts_none

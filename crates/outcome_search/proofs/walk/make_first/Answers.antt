@@ -25,8 +25,12 @@ returns-then-branch-clause-machine g c =
     let left : length c.threads-threads.result.now - t ≡ suc less = omega arith in
     let some : is_some (after_alone c.loop-t.machine t) ≡ true = sym c.in_ok-make_alone.ensures.made ∙ c.if-branch.true in
     let here : is_some (after_alone first t) ≡ true = subst (λ (z : PlainMachine). is_some (after_alone z t) ≡ true) inv.same some in
-    c.in_ok-make_alone.ensures.machine ∙ (λ i. gone_on (inv.after i) (inv.same i) (after_alone (inv.same i) t))
-    ∙ ap (gone_on (g.W.Walker.after c.args.walker.now) first) (sym (first_here first t less here) ∙ ap (first_alone first t) (sym left) ∙ inv.first)
+    let after = g.W.Walker.after c.args.walker.now in
+    let made : c.make_alone.new.machine ≡ gone_on after first (after_alone first t) =
+    c.in_ok-make_alone.ensures.machine ∙ (λ i. gone_on (inv.after i) (inv.same i) (after_alone (inv.same i) t)) in
+    let first_one : after_alone first t ≡ first_alone first 0 (length first.threads) =
+    sym (first_here first t less here) ∙ ap (first_alone first t) (sym left) ∙ inv.first in
+    made ∙ ap (gone_on after first) first_one
 
 pub loop-t-preserved : goal.loop-t-preserved
 loop-t-preserved g c =

@@ -1,9 +1,10 @@
--- A program that is spent whatever its fuel: its only thread jumps to where it is.
+-- Small programs, and the counts of one.
 use Rattle.std.specs.Prelude.{[], ◌∷◌, codes, None}
 use Rattle.object_program.specs.declared.program.Code.TheVariants.{Jump, End}
 use Rattle.object_program.specs.Program.{ProgramText}
 use Rattle.outcome_search.specs.declared.outcome.Outcomes.{Outcomes}
 
+-- it is spent whatever its fuel: its only thread jumps to where it is
 abbrev pub spinning : ProgramText
 spinning = record {
   classes = [];
@@ -16,7 +17,15 @@ spinning = record {
   }) ∷ [];
 }
 
--- one state, in which it is spent
+-- it ends at once
+abbrev pub idle : ProgramText
+idle = record {
+  classes = [];
+  objects = [];
+  threads = (record { name = codes "t"; locals = []; labels = []; code = End ∷ [] }) ∷ [];
+}
+
+-- of the first: one state, in which it is spent
 abbrev pub one_spent : Outcomes
 one_spent = record {
   states = 1;
