@@ -22,7 +22,7 @@ alone_at m a t h = option_and_then_some _ (entry_in (offered m t)) a h (λ e off
     go e true own takes = record { thread = t; entry = e; alone = own; takes = rw own at takes }
     go e false own takes = absurd (none-some a (rw own at takes))
 
-alone_among : (m a : PlainMachine) (t n : ℕ) → first_alone m t n ≡ Some a → IsAfterAlone m a
+pub alone_among : (m a : PlainMachine) (t n : ℕ) → first_alone m t n ≡ Some a → IsAfterAlone m a
 alone_among m a t zero h = absurd (none-some a h)
 alone_among m a t (suc n) h = go (after_alone m t) refl h (alone_among m a (t + 1) n)
   where
@@ -39,7 +39,7 @@ settles P fuel (suc steps) m each here = go (first_alone m 0 (length m.threads))
   where
     go : (r : Option PlainMachine) → first_alone m 0 (length m.threads) ≡ r
         → ((a : PlainMachine) → P (refuelled fuel a) → P (settled fuel steps (refuelled fuel a)))
-        → P (go_on (settled fuel steps) fuel m r)
+        → P (go_on (settled fuel steps) (refuelled fuel) m r)
     go None e ih = here
     go (Some a) e ih = ih a (each m a here (alone_among m a 0 (length m.threads) e))
 
@@ -54,7 +54,7 @@ chain fuel (suc steps) m = go (first_alone m 0 (length m.threads)) refl (λ a. c
   where
     go : (r : Option PlainMachine) → first_alone m 0 (length m.threads) ≡ r
         → ((a : PlainMachine) → Chain fuel (refuelled fuel a) (settled fuel steps (refuelled fuel a)))
-        → Chain fuel m (go_on (settled fuel steps) fuel m r)
+        → Chain fuel m (go_on (settled fuel steps) (refuelled fuel) m r)
     go None e ih = record { entries = []; alone = refl }
     go (Some a) e ih =
         let k = alone_among m a 0 (length m.threads) e in

@@ -30,6 +30,7 @@ use Rattle.machine_words.specs.MachineWords.{words_of, machine_of}
 use Rattle.machine_words.proofs.ReadBack.{no_words_of_fuel}
 use Rattle.state_search.specs.Found.{Keys}
 use Rattle.state_search.specs.Search.{Has, IsSearch}
+use Rattle.outcome_search.specs.EveryEnd.{IsGoneInto}
 use Rattle.outcome_search.specs.Settled.{entry_in, after_next, settled}
 use Rattle.outcome_search.specs.NextWords.{is_any_spent, key_of, first_key, next_of, next_key}
 use Rattle.outcome_search.specs.Real.{IsLed, IsReal}
@@ -105,11 +106,11 @@ module _ (p : ProgramText) (fuel steps most : ℕ) (f : Keys) (valid : IsProgram
   found_at = good_at p fuel steps most f valid free some h
 
   next_known : (k : ℕ) (key : List ℕ) (m n : PlainMachine) (t : ℕ) (e : Entry) → slice_get f.keys k ≡ Some key → machine_of p fuel key ≡ m
-      → IsGood p fuel m → take m t e ≡ Some n → HasSpent n ⊎ IsCoveredFull fuel (map (machine_of p fuel) f.keys) (refuelled fuel n)
+      → IsGood p fuel m → take m t e ≡ Some n → HasSpent m ⊎ IsCoveredFull fuel (map (machine_of p fuel) f.keys) (refuelled fuel n)
   next_known k key m n t e at is good takes = go (is_any_spent m) refl
     where
-      go : (b : Bool) → is_any_spent m ≡ b → HasSpent n ⊎ IsCoveredFull fuel (map (machine_of p fuel) f.keys) (refuelled fuel n)
-      go true spent = inl (spent_after m n t e (has_spent m spent) takes)
+      go : (b : Bool) → is_any_spent m ≡ b → HasSpent m ⊎ IsCoveredFull fuel (map (machine_of p fuel) f.keys) (refuelled fuel n)
+      go true spent = inl (has_spent m spent)
       go false alive =
           let leads : next_of fuel steps t m ≡ Some (key_of fuel steps n) =
           rw alive (ap (option_map (λ z. key_of fuel steps z)) (after_taken p fuel m n t e good takes)) in
@@ -123,17 +124,29 @@ module _ (p : ProgramText) (fuel steps most : ℕ) (f : Keys) (valid : IsProgram
           let has = h.found.closed k key gone at t (key_of fuel steps n) within by_key in
           inr (covered_by p fuel steps f.keys n (settled_read p fuel steps n some (good_after p fuel m n t e some good takes)) has)
 
-  pub closed : IsClosedFull p fuel (map (machine_of p fuel) f.keys)
-  closed = record {
+  pub gone_into : IsGoneInto p fuel (map (machine_of p fuel) f.keys)
+  gone_into = record {
     first =
-        inr (covered_by p fuel steps f.keys (new_machine p fuel) (settled_read p fuel steps (new_machine p fuel) some (good_first p fuel valid free some))
-        (0, h.found.first_key));
+        covered_by p fuel steps f.keys (new_machine p fuel) (settled_read p fuel steps (new_machine p fuel) some (good_first p fuel valid free some))
+        (0, h.found.first_key);
     next = λ m n t e seen takes.
         let u = get_unmap (machine_of p fuel) f.keys seen.0 m seen.1 in
         let k = found_at seen.0 u.0 u.1 in
         let same : k.machine ≡ m = sym (key_read p fuel u.0 k) ∙ u.2 in
         next_known seen.0 u.0 m n t e u.1 u.2 (subst (IsGood p fuel) same k.good) takes;
   }
+
+  pub closed : IsClosedFull p fuel (map (machine_of p fuel) f.keys)
+  closed = record {
+    first = inr gone_into.first;
+    next = λ m n t e seen takes. spent_or m n t e takes (gone_into.next m n t e seen takes);
+  }
+    where
+      spent_or : (m n : PlainMachine) (t : ℕ) (e : Entry) → take m t e ≡ Some n
+          → HasSpent m ⊎ IsCoveredFull fuel (map (machine_of p fuel) f.keys) (refuelled fuel n)
+          → HasSpent n ⊎ IsCoveredFull fuel (map (machine_of p fuel) f.keys) (refuelled fuel n)
+      spent_or m n t e takes (inl spent) = inl (spent_after m n t e spent takes)
+      spent_or m n t e takes (inr covered) = inr covered
 
   pub has_end : (less : ℕ) (logs : List (List Logged)) (n : PlainMachine) → less ≤ fuel → machine_after p less logs ≡ Some n → IsOver n
       → HasSpent n ⊎ Has f.keys (words_of n)

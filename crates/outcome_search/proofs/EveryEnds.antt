@@ -22,7 +22,7 @@ use Rattle.outcome_search.specs.NextWords.{is_any_spent}
 use Rattle.outcome_search.specs.Real.{IsLed, IsReal}
 use Rattle.outcome_search.specs.Outcomes.{top_fuel, top_steps, has_hash, is_end, ends_so, IsCountedBy, IsCounted}
 use Rattle.outcome_search.specs.EveryEnd.{so_many, AreReal, HaveEveryEnd, IsEveryEndWith, IsEveryEnd}
-use Rattle.outcome_search.proofs.Closed.{closed, led_at, real_at, once_at}
+use Rattle.outcome_search.proofs.Closed.{closed, gone_into, led_at, real_at, once_at}
 use Rattle.outcome_search.proofs.Counting.{more}
 use Rattle.outcome_search.proofs.Hashes.{none_has}
 use Rattle.outcome_search.proofs.KnownEnds.{some_fuel, end_full, faulted_end, stuck_end}
@@ -76,6 +76,7 @@ module _ (p : ProgramText) (fuel steps most : ℕ) (f : Keys) (o : Outcomes) (va
     within = omega (arith, h.states, h.«open»);
     stops = stops h.search.ends;
     all = have_every_end;
+    gone = λ none. gone_into p fuel steps most f valid free some h.search (omega (arith, h.«open», none));
   }
     where
       stops : (f.gone ≡ length f.keys) ⊎ (length f.keys ≡ most) → (o.«open» ≡ 0) ⊎ (o.states ≡ most)
@@ -87,10 +88,10 @@ every_end p most f o valid free h = every_end_with p top_fuel top_steps most f o
 
 -- ---- where none is counted, none is there
 
-abbrev one_so : End → PlainMachine → ℕ
+abbrev pub one_so : End → PlainMachine → ℕ
 one_so end m = cond (is_end end (end_of m)) 1 0
 
-more_so : (end : End) (m : PlainMachine) (ms : List PlainMachine) → so_many end (m ∷ ms) ≡ one_so end m + so_many end ms
+pub more_so : (end : End) (m : PlainMachine) (ms : List PlainMachine) → so_many end (m ∷ ms) ≡ one_so end m + so_many end ms
 more_so end m ms = sum_by-cons (one_so end) m ms
 
 none_so : (end : End) (machines : List PlainMachine) (k : ℕ) (m : PlainMachine) → so_many end machines ≡ 0 → slice_get machines k ≡ Some m

@@ -1,8 +1,8 @@
 -- What the loops that make entries that go alone have done so far.
-use Rattle.std.proofs.Common.{◌≡◌, ℕ, suc, ◌+◌, true, false, length, Option, Some, None, is_some, refl}
+use Rattle.std.proofs.Common.{◌≡◌, ℕ, suc, ◌+◌, true, false, length, Option, Some, None, is_some, refl, ap, ◌∙◌}
 use Rattle.std.proofs.lemmas.Bool.{false≢true, true≢false}
 use Rattle.plain_machine.specs.Machine.{PlainMachine}
-use Rattle.outcome_search.specs.Settled.{after_alone, or_else, first_alone, go_on, settled}
+use Rattle.outcome_search.specs.Settled.{after_alone, or_else, first_alone, go_on, settled_by}
 use Rattle.outcome_search.specs.inner.Going.{gone_on}
 
 -- where the first thread has no such entry, the next ones decide
@@ -22,26 +22,37 @@ first_here m t n some = go (after_alone m t) refl some
     go (Some a) e h = rw e refl
 
 -- one entry more is made, where there is one
-pub settles_on : (fuel steps : ℕ) (m n : PlainMachine) → is_some (first_alone m 0 (length m.threads)) ≡ true
-    → n ≡ gone_on fuel m (first_alone m 0 (length m.threads)) → settled fuel steps n ≡ settled fuel (suc steps) m
-settles_on fuel steps m n some is = go (first_alone m 0 (length m.threads)) refl some is
+pub settles_on : (after : PlainMachine → PlainMachine) (steps : ℕ) (m n : PlainMachine) → is_some (first_alone m 0 (length m.threads)) ≡ true
+    → n ≡ gone_on after m (first_alone m 0 (length m.threads)) → settled_by after steps n ≡ settled_by after (suc steps) m
+settles_on after steps m n some is = go (first_alone m 0 (length m.threads)) refl some is
   where
-    go : (r : Option PlainMachine) → first_alone m 0 (length m.threads) ≡ r → is_some r ≡ true → n ≡ gone_on fuel m r
-        → settled fuel steps n ≡ go_on (settled fuel steps) fuel m (first_alone m 0 (length m.threads))
+    go : (r : Option PlainMachine) → first_alone m 0 (length m.threads) ≡ r → is_some r ≡ true → n ≡ gone_on after m r
+        → settled_by after steps n ≡ go_on (settled_by after steps) after m (first_alone m 0 (length m.threads))
     go None e h to = absurd (false≢true h)
     go (Some a) e h to = rw (e, to) refl
 
 -- where there is none, it has settled
-pub settles_there : (fuel steps : ℕ) (m n : PlainMachine) → is_some (first_alone m 0 (length m.threads)) ≡ false
-    → n ≡ gone_on fuel m (first_alone m 0 (length m.threads)) → n ≡ settled fuel (suc steps) m
-settles_there fuel steps m n none is = go (first_alone m 0 (length m.threads)) refl none is
+pub settles_there : (after : PlainMachine → PlainMachine) (steps : ℕ) (m n : PlainMachine) → is_some (first_alone m 0 (length m.threads)) ≡ false
+    → n ≡ gone_on after m (first_alone m 0 (length m.threads)) → n ≡ settled_by after (suc steps) m
+settles_there after steps m n none is = go (first_alone m 0 (length m.threads)) refl none is
   where
-    go : (r : Option PlainMachine) → first_alone m 0 (length m.threads) ≡ r → is_some r ≡ false → n ≡ gone_on fuel m r
-        → n ≡ go_on (settled fuel steps) fuel m (first_alone m 0 (length m.threads))
+    go : (r : Option PlainMachine) → first_alone m 0 (length m.threads) ≡ r → is_some r ≡ false → n ≡ gone_on after m r
+        → n ≡ go_on (settled_by after steps) after m (first_alone m 0 (length m.threads))
     go None e h to = rw e to
     go (Some a) e h to = absurd (true≢false h)
 
 -- nothing is made
-pub unmade : (fuel : ℕ) (m n : PlainMachine) (r : Option PlainMachine) → is_some r ≡ false → n ≡ gone_on fuel m r → n ≡ m
-unmade fuel m n None none is = is
-unmade fuel m n (Some a) none is = absurd (true≢false none)
+pub unmade : (after : PlainMachine → PlainMachine) (m n : PlainMachine) (r : Option PlainMachine) → is_some r ≡ false → n ≡ gone_on after m r → n ≡ m
+unmade after m n None none is = is
+unmade after m n (Some a) none is = absurd (true≢false none)
+
+-- one is made, and then others
+pub goes_on : (settle after : PlainMachine → PlainMachine) (m n k : PlainMachine) (r : Option PlainMachine) → is_some r ≡ true → n ≡ gone_on after m r
+    → k ≡ settle n → k ≡ go_on settle after m r
+goes_on settle after m n k None some is to = absurd (false≢true some)
+goes_on settle after m n k (Some a) some is to = to ∙ ap settle is
+
+pub goes_nowhere : (settle after : PlainMachine → PlainMachine) (m n : PlainMachine) (r : Option PlainMachine) → is_some r ≡ false → n ≡ gone_on after m r
+    → n ≡ go_on settle after m r
+goes_nowhere settle after m n None none is = is
+goes_nowhere settle after m n (Some a) none is = absurd (true≢false none)

@@ -127,8 +127,19 @@ without_stuck p most less f o logs n valid h all none free few after = go (is_st
     go true false stuck alive = seen stuck alive (found_end p most f o less logs n valid h all free few after (inl stuck))
 
 -- each end that is counted is real
-spent_end : (m : PlainMachine) → is_any_spent m ≡ true → end_of m ≡ Some Spent
+pub spent_end : (m : PlainMachine) → is_any_spent m ≡ true → end_of m ≡ Some Spent
 spent_end m spent = λ i. end_by (spent i) (is_stuck m) (have_ended m) (has_any_trapped m)
+
+alive_by : (stuck ended trapped : Bool) → is_end Spent (end_by false stuck ended trapped) ≡ false
+alive_by true ended trapped = refl
+alive_by false false trapped = refl
+alive_by false true true = refl
+alive_by false true false = refl
+
+pub alive_end : (m : PlainMachine) → is_any_spent m ≡ false → is_end Spent (end_of m) ≡ false
+alive_end m alive =
+    (λ i. is_end Spent (end_by (alive i) (is_stuck m) (have_ended m) (has_any_trapped m)))
+    ∙ alive_by (is_stuck m) (have_ended m) (has_any_trapped m)
 
 pub real_end : (p : ProgramText) (most k : ℕ) (f : Keys) (o : Outcomes) (key : List ℕ) (end : End) → IsProgram p → IsCounted p most f o
     → has_hash p ≡ false → slice_get f.keys k ≡ Some key → end_of (machine_of p top_fuel key) ≡ Some end → (end ≡ Spent → ⊥)

@@ -10,3 +10,9 @@ pub mod Hashes
 pub mod KnownEnds
 pub mod Trails
 pub mod EveryEnds
+pub mod SpentKept
+pub mod KeptAlone
+pub mod Spinning
+pub mod Filled
+pub mod Choosing
+pub mod CutShort

@@ -5,11 +5,11 @@ use Rattle.std.proofs.lemmas.Option.{option_and_then_some}
 use Rattle.object_program.specs.Program.{ProgramText}
 use Rattle.plain_machine.specs.Machine.{PlainMachine}
 use Rattle.plain_machine.specs.Offering.{offered}
+use Rattle.every_outcome.specs.Fuel.{refuelled}
 use Rattle.machine_words.specs.MachineWords.{words_of}
 use Rattle.outcome_search.specs.Keys.{IsFound}
 use Rattle.outcome_search.specs.NextWords.{is_any_spent, next_of}
-use Rattle.outcome_search.specs.Settled.{entry_in, after_next, settled}
-use Rattle.outcome_search.specs.inner.Going.{gone_on}
+use Rattle.outcome_search.specs.Settled.{entry_in, after_next, go_on, settled}
 use Rattle.outcome_search.proofs.Found.{found_after, found_settled}
 
 pub none_where_spent : (fuel steps t : ℕ) (m : PlainMachine) → is_any_spent m ≡ true → None ≡ next_of fuel steps t m
@@ -22,23 +22,22 @@ none_where_none fuel steps t m alive none = go (after_next m t) refl none
     go None e h = rw (alive, e) refl
     go (Some a) e h = absurd (true≢false h)
 
-pub next_is : (fuel steps t : ℕ) (m n k : PlainMachine) (ws : List ℕ) → is_any_spent m ≡ false → is_some (after_next m t) ≡ true
-    → n ≡ gone_on fuel m (after_next m t) → k ≡ settled fuel steps n → ws ≡ words_of k → Some ws ≡ next_of fuel steps t m
-next_is fuel steps t m n k ws alive some to settles is = go (after_next m t) refl some to
+pub next_is : (fuel steps t : ℕ) (m k : PlainMachine) (ws : List ℕ) → is_any_spent m ≡ false → is_some (after_next m t) ≡ true
+    → k ≡ go_on (settled fuel steps) (refuelled fuel) m (after_next m t) → ws ≡ words_of k → Some ws ≡ next_of fuel steps t m
+next_is fuel steps t m k ws alive some to is = go (after_next m t) refl some to
   where
-    go : (r : Option PlainMachine) → after_next m t ≡ r → is_some r ≡ true → n ≡ gone_on fuel m r → Some ws ≡ next_of fuel steps t m
-    go None e h is_n = absurd (false≢true h)
-    go (Some a) e h is_n = rw (alive, e) (ap Some (is ∙ ap words_of (settles ∙ ap (settled fuel steps) is_n)))
+    go : (r : Option PlainMachine) → after_next m t ≡ r → is_some r ≡ true → k ≡ go_on (settled fuel steps) (refuelled fuel) m r
+        → Some ws ≡ next_of fuel steps t m
+    go None e h is_k = absurd (false≢true h)
+    go (Some a) e h is_k = rw (alive, e) (ap Some (is ∙ ap words_of is_k))
 
 -- it is one that the search finds
-pub found_next : (p : ProgramText) (fuel steps t : ℕ) (m n k : PlainMachine) → 1 ≤ fuel → IsFound p fuel m → is_some (after_next m t) ≡ true
-    → n ≡ gone_on fuel m (after_next m t) → k ≡ settled fuel steps n → IsFound p fuel k
-found_next p fuel steps t m n k enough h some to settles = go (after_next m t) refl some to
+pub found_next : (p : ProgramText) (fuel steps t : ℕ) (m k : PlainMachine) → 1 ≤ fuel → IsFound p fuel m
+    → k ≡ go_on (settled fuel steps) (refuelled fuel) m (after_next m t) → IsFound p fuel k
+found_next p fuel steps t m k enough h to = go (after_next m t) refl to
   where
-    go : (r : Option PlainMachine) → after_next m t ≡ r → is_some r ≡ true → n ≡ gone_on fuel m r → IsFound p fuel k
-    go None e some is_n = absurd (false≢true some)
-    go (Some a) e some is_n =
-        let found : IsFound p fuel n =
+    go : (r : Option PlainMachine) → after_next m t ≡ r → k ≡ go_on (settled fuel steps) (refuelled fuel) m r → IsFound p fuel k
+    go None e is_k = subst (IsFound p fuel) (sym is_k) h
+    go (Some a) e is_k =
         option_and_then_some _ (entry_in (offered m t)) a e (λ entry offers takes.
-        subst (IsFound p fuel) (sym is_n) (found_after p fuel m a t entry enough h takes)) in
-        subst (IsFound p fuel) (sym settles) (found_settled p fuel steps n enough found)
+        subst (IsFound p fuel) (sym is_k) (found_settled p fuel steps (refuelled fuel a) enough (found_after p fuel m a t entry enough h takes)))

@@ -46,7 +46,7 @@ lead_more fuel [] m b a x leads takes alive =
 lead_more fuel (y ∷ xs) m b a x leads takes alive = (leads.0, leads.1, leads.2, lead_more fuel xs (refuelled fuel leads.0) b a x leads.3 takes alive)
 
 -- the same whoever is spent
-led_more : (fuel : ℕ) (xs : List (ℕ × Logged)) (m b a : PlainMachine) (x : ℕ × Logged) → LeadsRefuelled fuel m xs b → take b x.0 x.1.entry ≡ Some a
+pub led_more : (fuel : ℕ) (xs : List (ℕ × Logged)) (m b a : PlainMachine) (x : ℕ × Logged) → LeadsRefuelled fuel m xs b → take b x.0 x.1.entry ≡ Some a
     → LeadsRefuelled fuel m (xs ++ x ∷ []) (refuelled fuel a)
 led_more fuel [] m b a x leads takes = (a, subst (λ (z : PlainMachine). take z x.0 x.1.entry ≡ Some a) (sym leads) takes, refl)
 led_more fuel (y ∷ xs) m b a x leads takes = (leads.0, leads.1, led_more fuel xs (refuelled fuel leads.0) b a x leads.2 takes)

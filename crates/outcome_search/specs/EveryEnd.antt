@@ -1,11 +1,12 @@
 -- Every end of a program: what a search for them says, with neither words nor keys.
 use Rattle.std.specs.Prelude.{◌≡◌, ◌⊎◌, ℕ, ◌≤◌, List, length, slice_get, Some, count_by}
+use Rattle.plain_monitor.specs.declared.entry.Entry.{Entry}
 use Rattle.plain_monitor.specs.declared.entry.Logged.{Logged}
 use Rattle.object_program.specs.Program.{ProgramText}
-use Rattle.plain_machine.specs.Machine.{PlainMachine}
+use Rattle.plain_machine.specs.Machine.{PlainMachine, new_machine, take}
 use Rattle.plain_machine.specs.Legal.{machine_after}
 use Rattle.every_outcome.specs.Covered.{IsSeen}
-use Rattle.every_outcome.specs.Fuel.{refuelled, HasSpent}
+use Rattle.every_outcome.specs.Fuel.{refuelled, HasSpent, IsCoveredFull}
 use Rattle.every_outcome.specs.Led.{IsOver}
 use Rattle.outcome_search.specs.declared.ends.End.{End}
 use Rattle.outcome_search.specs.declared.ends.End.TheVariants.{Spent, Stuck, Faulted, Ended}
@@ -31,6 +32,13 @@ HaveEveryEnd p fuel machines =
     (less : ℕ) (logs : List (List Logged)) (n : PlainMachine) → less ≤ fuel → machine_after p less logs ≡ Some n → IsOver n
     → HasSpent n ⊎ IsSeen machines (refuelled fuel n)
 
+-- the search went on from each machine without a spent thread: the list covers the first machine, and each one after an entry of such a one, so
+-- that a spent thread to which entries lead is in the list
+pub record IsGoneInto (p : ProgramText) (fuel : ℕ) (machines : List PlainMachine) : Type 0 where
+  pub first : IsCoveredFull fuel machines (refuelled fuel (new_machine p fuel))
+  pub next : (m n : PlainMachine) (t : ℕ) (e : Entry) → IsSeen machines m → take m t e ≡ Some n
+      → HasSpent m ⊎ IsCoveredFull fuel machines (refuelled fuel n)
+
 -- these are the counts of so many machines at most, each with this fuel; and where none of them is open, they have every end
 pub record IsEveryEndWith (p : ProgramText) (fuel most : ℕ) (o : Outcomes) : Type 0 where
   pub kept : List PlainMachine
@@ -45,6 +53,7 @@ pub record IsEveryEndWith (p : ProgramText) (fuel most : ℕ) (o : Outcomes) : T
   -- it stops only where there are as many as may be
   pub stops : (o.«open» ≡ 0) ⊎ (o.states ≡ most)
   pub all : o.«open» ≡ 0 → HaveEveryEnd p fuel kept
+  pub gone : o.«open» ≡ 0 → IsGoneInto p fuel kept
 
 -- the same with the most fuel that a run may have
 abbrev pub IsEveryEnd : ProgramText → ℕ → Outcomes → Type 0

@@ -7,4 +7,5 @@ pub mod MovesView
 pub mod Real
 pub mod EveryEnd
 pub mod Witness
+pub mod Spinning
 pub mod inner

@@ -12,15 +12,16 @@ ghost use Rattle.every_outcome.specs.Led.{IsOver};
 ghost use Rattle.every_outcome.specs.NoHash.{HasNoHash};
 ghost use Rattle.machine_words.specs.MachineWords.{words_of, machine_of};
 ghost use Rattle.state_search.specs.Found.{Keys};
-ghost use Rattle.state_search.specs.Search.{Has, IsSearch};
+ghost use Rattle.state_search.specs.Search.{Has, IsSearch, LeadsBy};
 ghost use Rattle.outcome_search.specs.declared.ends.End.{End};
 ghost use Rattle.outcome_search.specs.declared.ends.End.TheVariants.{Spent, Stuck, Faulted};
 ghost use Rattle.outcome_search.specs.declared.outcome.Outcomes.{Outcomes};
 ghost use Rattle.outcome_search.specs.Ends.{have_ended, has_any_trapped, end_of};
 ghost use Rattle.outcome_search.specs.EveryEnd.{IsEveryEnd};
 ghost use Rattle.outcome_search.specs.NextWords.{first_key, next_key};
-ghost use Rattle.outcome_search.specs.Outcomes.{top_fuel, has_hash, IsCounted};
-ghost use Rattle.outcome_search.specs.Real.{IsReal};
+ghost use Rattle.outcome_search.specs.Outcomes.{top_fuel, top_steps, has_hash, IsCounted};
+ghost use Rattle.outcome_search.specs.Real.{IsLed, IsReal};
+ghost use Rattle.outcome_search.specs.Witness.{end_by, IsCutShort};
 
 /// The machines of the keys are a list that is closed, where the search went into all keys and the program has no `hash`.
 pub fn searches_are_closed()
@@ -112,4 +113,22 @@ pub fn every_end_says_how_runs_end()
     ensures faulted { (p : ProgramText) (most less : ℕ) (o : Outcomes) (logs : List (List Logged)) (n : PlainMachine)
         → IsEveryEnd p most o → o.«open» ≡ 0 → o.faulted ≡ 0 → less ≤ top_fuel → machine_after p less logs ≡ Some n
         → have_ended n ≡ true → HasSpent n ⊎ (has_any_trapped n ≡ false) }
+{}
+
+/// Where none is left open some state is kept; and a spent thread is counted where entries of the program lead to one, with the fuel given back
+/// after each entry, and only there. So the status of a search that leaves none open is 0 only where no entries do.
+pub fn spent_threads_are_counted_where_entries_lead_to_one()
+    ensures some { (p : ProgramText) (most : ℕ) (o : Outcomes) → IsEveryEnd p most o → o.«open» ≡ 0 → 1 ≤ o.states }
+    ensures counted { (p : ProgramText) (most : ℕ) (o : Outcomes) (m : PlainMachine)
+        → IsProgram p → IsEveryEnd p most o → o.«open» ≡ 0 → IsLed p top_fuel m → HasSpent m → 1 ≤ o.spent }
+    ensures led { (p : ProgramText) (most : ℕ) (o : Outcomes) → IsEveryEnd p most o → 1 ≤ o.spent
+        → (m : PlainMachine) × IsLed p top_fuel m × HasSpent m }
+{}
+
+/// By the way on which a search found an end, the walk of a witness comes to such an end, too, unless the way is cut short: with the most fuel that a
+/// run may have, and none given back, a thread is spent on it.
+pub fn ways_to_ends_are_walked_or_cut_short()
+    ensures { (p : ProgramText) (choices key : List ℕ) (end : End) → IsProgram p → has_hash p ≡ false
+        → LeadsBy (next_key p top_fuel top_steps) (length p.threads) (first_key p top_fuel top_steps) choices key
+        → end_of (machine_of p top_fuel key) ≡ Some end → (end_by p choices ≡ Some end) ⊎ IsCutShort p end }
 {}

@@ -11,8 +11,8 @@ ghost use Rattle.outcome_search.specs.Ends.{end_of};
 ghost use Rattle.outcome_search.specs.Keys.{IsFound, IsKept, IsKey, IsScratch};
 ghost use Rattle.outcome_search.specs.NextWords.{is_any_spent, first_key, next_of, next_key};
 
-use crate::alone::{make_next, settle};
 use crate::ends::{End, end_of};
+use crate::walk::{Refuels, go, settle};
 use machine_words::{Unread, add_words, load};
 use object_program::Program;
 use plain_machine::{Machine, Mode};
@@ -98,7 +98,7 @@ pub(crate) fn is_any_spent(machine: &Machine) -> bool
     false
 }
 
-/// The key after the next entry of thread t, if there is one. The machine is left as that entry makes it.
+/// The key after the next entry of thread t, if there is one. The machine is left as that entry makes it, where nothing fails.
 fn step(
     alloc: Global,
     machine: &mut Machine,
@@ -112,15 +112,14 @@ fn step(
     requires found { IsFound machine.old.program fuel machine.old }
     ensures next { IfOk result (λ to. option_map (λ v. v.items) to ≡ next_of fuel steps t machine.old) }
     ensures again { IfOk result (λ to. IfSome to (λ v. IsKey machine.old.program fuel v.items)) }
-    ensures found { IsFound machine.old.program fuel machine.new }
+    ensures found { OnOk result (IsFound machine.old.program fuel machine.new) }
 {
     if is_any_spent(machine) {
         return Ok(None);
     }
-    if !make_next(machine, t, fuel) {
+    if !go(&mut Refuels { fuel }, machine, t, steps)? {
         return Ok(None);
     }
-    settle(machine, fuel, steps);
     machine.is_sound();
     let words = words_of(alloc, machine, room)?;
     Ok(Some(words))
@@ -225,22 +224,23 @@ fn first_key(
     let Some(machine) = &mut scratch.machine else {
         unreachable!()
     };
-    settle_first(machine, fuel, steps);
+    settle_first(machine, fuel, steps)?;
     let words = words_of(alloc, machine, 0)?;
     Ok(words)
 }
 
 /// Where the first machine comes to by entries that go alone.
-fn settle_first(machine: &mut Machine, fuel: u32, steps: u32)
+fn settle_first(machine: &mut Machine, fuel: u32, steps: u32) -> Result<(), NoMemory>
     requires some { 1 ≤ fuel }
     requires first { machine.old ≡ new_machine machine.old.program fuel }
-    ensures settled { machine.new ≡ settled fuel steps (refuelled fuel machine.old) }
-    ensures kept { IsKept machine.old.program fuel machine.new }
+    ensures settled { OnOk result (machine.new ≡ settled fuel steps (refuelled fuel machine.old)) }
+    ensures kept { OnOk result (IsKept machine.old.program fuel machine.new) }
 {
     machine.is_sound();
     machine.refuel(fuel);
-    settle(machine, fuel, steps);
+    settle(&mut Refuels { fuel }, machine, steps)?;
     machine.is_sound();
+    Ok(())
 }
 
 /// Makes the machine that is at hand that of a key. After an error there is none.

@@ -12,10 +12,6 @@ pub record IsTrail (p : ProgramText) (m : PlainMachine) (entries : List (ℕ × 
   pub stamps : CountOn 0 entries
   pub leads : after_all (new_machine p most_fuel) entries ≡ Some m
 
--- from whichever program's first machine the entries lead to m, these lead to n
-abbrev pub LeadsOn : PlainMachine → List (ℕ × Logged) → PlainMachine → List (ℕ × Logged) → Type 0
-LeadsOn m before n after = (p : ProgramText) → IsTrail p m before → IsTrail p n after
-
 -- the entry with the stamp after those of these
 abbrev pub stamped : List (ℕ × Logged) → Entry → Logged
 stamped before entry = record { stamp = length before + 1; entry = entry }

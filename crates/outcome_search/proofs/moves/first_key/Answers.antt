@@ -16,7 +16,7 @@ settle_first-requires-clause-first c =
     is ∙ ap (λ (q : ProgramText). new_machine q c.args.fuel) (sym (ap (λ (m : PlainMachine). m.program) is))
 
 pub words_of-requires : goal.words_of-requires
-words_of-requires c = record { reached = c.settle_first.ensures.kept.0.reached; untouched = c.settle_first.ensures.kept.0.untouched }
+words_of-requires c = record { reached = c.in_ok-settle_first.ensures.kept.0.reached; untouched = c.in_ok-settle_first.ensures.kept.0.untouched }
 
 pub returns : goal.returns
 returns c =
@@ -25,12 +25,12 @@ returns c =
     let is : c.in-Some.machine ≡ new_machine p fuel =
     same_Some c.in-Some.machine (new_machine p fuel) (sym c.in-Some.is ∙ c.in_ok-make_machine.ensures.machine) in
     let kept : IsKept p fuel c.settle_first.new.machine =
-    subst (λ (q : ProgramText). IsKept q fuel c.settle_first.new.machine) (ap (λ (m : PlainMachine). m.program) is) c.settle_first.ensures.kept in
+    subst (λ (q : ProgramText). IsKept q fuel c.settle_first.new.machine) (ap (λ (m : PlainMachine). m.program) is) c.in_ok-settle_first.ensures.kept in
     record {
       program = c.make_machine.ensures.program;
       kept = kept;
       first =
           c.in_ok-words.ensures
-          ∙ ap words_of (c.settle_first.ensures.settled ∙ ap (λ (m : PlainMachine). settled fuel c.args.steps (refuelled fuel m)) is);
+          ∙ ap words_of (c.in_ok-settle_first.ensures.settled ∙ ap (λ (m : PlainMachine). settled fuel c.args.steps (refuelled fuel m)) is);
       key = record { machine = c.settle_first.new.machine; kept = kept; words = sym c.in_ok-words.ensures };
     }

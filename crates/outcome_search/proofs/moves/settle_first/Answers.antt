@@ -12,7 +12,7 @@ returns c =
     let fuel = c.args.fuel in
     let first = refuelled fuel (new_machine p fuel) in
     let is : c.settle.new.machine ≡ settled fuel c.args.steps (refuelled fuel c.args.machine.now) =
-    c.settle.ensures ∙ ap (settled fuel c.args.steps) c.refuel.ensures in
+    c.in_ok-settle.ensures.machine ∙ ap (settled fuel c.args.steps) c.refuel.ensures in
     let same : settled fuel c.args.steps first ≡ c.settle.new.machine =
     sym (is ∙ ap (λ (m : PlainMachine). settled fuel c.args.steps (refuelled fuel m)) c.requires.first) in
     let found : IsFound p fuel (settled fuel c.args.steps first) =
