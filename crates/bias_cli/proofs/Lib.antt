@@ -21,3 +21,4 @@ mod Gathered
 pub mod ShortExample
 pub mod Exemplified
 pub mod Refuted
+pub mod SearchExample
