@@ -41,7 +41,7 @@ use Rattle.cli_args.specs.declared.options.Options.{Options}
 use Rattle.sync_source.specs.Compiled.{compiled}
 use Rattle.sync_source.specs.Source.{SyncText}
 use Rattle.bias_cli.specs.declared.finish.Finish.{Finish}
-use Rattle.bias_cli.specs.Example.{faulted_end, in_mode, later_logs, lone_lines, lone_options, printing, waiting_end}
+use Rattle.bias_cli.specs.Example.{faulted_end, in_mode, later_logs, lone_lines, lone_options, nothing_held, printing, waiting_end}
 use Rattle.bias_cli.specs.Finish.{Checks, Due, Finds, IsFinish, IsGivenUp, IsRunOf, IsWritten, LeavesRun, Meets, Runs, RunsBlocks, Tells}
 use Rattle.bias_cli.specs.Finish.{check_due, journal_due, run_due, status_of, sync_due}
 use Rattle.bias_cli.specs.Input.{most_of_journal}
@@ -170,6 +170,11 @@ too_long fuel start p logs text long e =
 pub other_status_written : (kb ka : SinkSeen) (text : List ℕ) → IsWritten kb ka 1 0 text → ⊥
 other_status_written kb ka text (inl written) = absurd (cc written.0)
 other_status_written kb ka text (inr failed) = absurd (cc failed.0)
+
+pub other_line_written : (text other : List ℕ) (faults : ℕ) → other ≢ text
+    → IsWritten nothing_held (record { held = Some other; faults = faults }) 0 0 text → ⊥
+other_line_written text other faults differ (inl written) = differ (same_Some other text (written.1 [] refl))
+other_line_written text other faults differ (inr failed) = absurd (cc failed.0)
 
 -- RUN AND SYNC
 module _ (o : Options) (before after : SinkSeen) (f : Finish) where

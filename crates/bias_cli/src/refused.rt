@@ -30,7 +30,7 @@ ghost use Rattle.cli_args.specs.declared.options.Options.{Options};
 ghost use Rattle.sync_source.specs.Compiled.{compiled};
 ghost use Rattle.sync_source.specs.Source.{SyncText};
 ghost use Rattle.bias_cli.specs.declared.finish.Finish.{Finish};
-ghost use Rattle.bias_cli.specs.Example.{faulted_end, later_logs, lone_lines, printing, waiting_end};
+ghost use Rattle.bias_cli.specs.Example.{faulted_end, later_logs, lone_lines, nothing_held, printing, waiting_end};
 ghost use Rattle.bias_cli.specs.Finish.{Checks, IsFinish, IsGivenUp, IsRunOf, IsWritten, Meets};
 ghost use Rattle.bias_cli.specs.Finish.{check_due, run_due, status_of, sync_due};
 ghost use Rattle.bias_cli.specs.Input.{most_of_journal};
@@ -70,7 +70,7 @@ pub fn no_same_run_by_another_stamp_fuel_print_or_end()
 
 /// What isn't so of journals and answers: that `--journal` adds no line, that a name with a line feed is read again, that as many as 2^32 entries have
 /// fewer bytes; that a journal is legal with one entry more, or stuck where the run wasn't halted; and that a check of the lines is due where
-/// the marker is no line, or where the text is longer than `check` takes; or that status 1 is written. Refuses the
+/// the marker is no line, or where the text is longer than `check` takes; or that status 1 is answered, or another line is written. Refuses the
 /// conclusions of `the_journal_of_each_run_is_legal_for_check`.
 pub fn no_other_answer_to_a_journal()
     ensures written { (stats : Bool) (m : PlainMachine)
@@ -91,6 +91,8 @@ pub fn no_other_answer_to_a_journal()
         → check_due fuel start (with_journal text p logs) ≡ Checks p fuel start (journal_of p logs) → ⊥ }
     ensures status { (sink_before sink_after : SinkSeen) (text : List ℕ)
         → IsWritten sink_before sink_after 1 0 text → ⊥ }
+    ensures line { (text other : List ℕ) (faults : ℕ) → other ≢ text
+        → IsWritten nothing_held (record { held = Some other; faults = faults }) 0 0 text → ⊥ }
 {}
 
 /// Calls of `run` and `sync` that don't do what is due: they leave no record, or that of another program. Refuses the conclusions of

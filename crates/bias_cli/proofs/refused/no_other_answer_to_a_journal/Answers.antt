@@ -1,5 +1,5 @@
 use Rattle.bias_check.proofs.Refuted.{not_read_again}
-use Rattle.bias_cli.proofs.Refuted.{no_line_more, one_more, other_status_written, stuck_for_ended, too_long, too_many, unterminated}
+use Rattle.bias_cli.proofs.Refuted.{no_line_more, one_more, other_line_written, other_status_written, stuck_for_ended, too_long, too_many, unterminated}
 use Rattle.bias_cli.proofs.refused.no_other_answer_to_a_journal.Goals as goal
 
 pub returns-clause-written : goal.returns-clause-written
@@ -25,3 +25,6 @@ returns-clause-long c = too_long
 
 pub returns-clause-status : goal.returns-clause-status
 returns-clause-status c = other_status_written
+
+pub returns-clause-line : goal.returns-clause-line
+returns-clause-line c = other_line_written
