@@ -47,6 +47,6 @@ pub fn journals_of_legal_logs_are_runs()
 /// one after the other, are a text whose program and journal are just these two.
 pub fn a_program_joined_with_a_journal_splits_into_both()
     ensures unmarked { (text : List ℕ) (p : ProgramText) → program_of text ≡ Ok p → has_journal text ≡ false }
-    ensures parts { (text journal : List ℕ) (p : ProgramText) → program_of text ≡ Ok p → lines_are_terminated text ≡ true
-        → ArePartsOf (text ++ (marker ++ journal)) text journal }
+    ensures parts { (text journal : List ℕ) (p : ProgramText) → program_of text ≡ Ok p
+        → lines_are_terminated text ≡ true → ArePartsOf (text ++ (marker ++ journal)) text journal }
 {}

@@ -48,7 +48,10 @@ pub fn no_run_by_a_journal_that_is_wrong()
 /// Parts that a text hasn't: where no line feed stands before the marker, which then is no line; or where the journal lacks its line. And a text with a
 /// line that is the marker. Refuses the conclusions of `a_program_joined_with_a_journal_splits_into_both`.
 pub fn no_parts_of_a_text_without_its_line_feed()
-    ensures unterminated { (journal : List ℕ) → ArePartsOf (example_lines ++ (marker ++ journal)) example_lines journal → ⊥ }
-    ensures shorter { ArePartsOf (example_lines ++ (newline ++ (marker ++ codes "@1 t done\n"))) (example_lines ++ newline) [] → ⊥ }
-    ensures marked { (journal : List ℕ) → has_journal (example_lines ++ (newline ++ (marker ++ journal))) ≡ false → ⊥ }
+    ensures unterminated { (journal : List ℕ)
+        → ArePartsOf (example_lines ++ (marker ++ journal)) example_lines journal → ⊥ }
+    ensures shorter { ArePartsOf (example_lines ++ (newline ++ (marker ++ codes "@1 t done\n")))
+        (example_lines ++ newline) [] → ⊥ }
+    ensures marked { (journal : List ℕ)
+        → has_journal (example_lines ++ (newline ++ (marker ++ journal))) ≡ false → ⊥ }
 {}

@@ -109,7 +109,8 @@ pub fn the_journal_of_each_run_is_legal_for_check()
         → IsFinish (accepted words) source_before source_after sink_before sink_after finish
         → finish.run ≡ Some r → IsVerdict r.program r.fuel r.start (journal_of r.program r.logs) (answer_to r) }
     ensures joined { (o : Options) (p : ProgramText) (r : RunRecord) (c : ClosedSeen) (m : PlainMachine)
-        (text : List ℕ) → program_of text ≡ Ok p → lines_are_terminated text ≡ true → o.fuel ≤ most_fuel → IsRunOf o p r c m
+        (text : List ℕ)
+        → program_of text ≡ Ok p → lines_are_terminated text ≡ true → o.fuel ≤ most_fuel → IsRunOf o p r c m
         → length (with_journal text p r.logs) ≤ most_of_journal
         → check_due o.fuel o.start (with_journal text p r.logs) ≡ Checks p o.fuel o.start (journal_of p r.logs) }
     ensures answered { (o : Options) (p : ProgramText) (r : RunRecord) (c : ClosedSeen) (m : PlainMachine)
