@@ -22,3 +22,4 @@ mod Gathered
 pub mod ShortExample
 pub mod Exemplified
 pub mod Refuted
+pub mod SearchExample

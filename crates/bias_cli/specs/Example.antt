@@ -14,6 +14,7 @@ use Rattle.object_program.specs.declared.program.Code.TheVariants as code
 use Rattle.lock_journal.specs.RunText.{newline}
 use Rattle.lock_journal.specs.declared.record.RunRecord.{RunRecord}
 use Rattle.single_thread_law.specs.LoneExample.{lone_end, lone_fuel, lone_logs, lone_program}
+use Rattle.outcome_search.specs.declared.outcome.Outcomes.{Outcomes}
 use Rattle.cli_args.specs.declared.options.Options.{Options}
 use Rattle.sync_source.specs.Source.{SyncText, Nothing, Plain, Sync}
 use Rattle.bias_cli.specs.Seen.{SourceSeen, SinkSeen}
@@ -69,7 +70,7 @@ has_left bytes = record { left = Some bytes; faults = 0 }
 abbrev pub nothing_held : SinkSeen
 nothing_held = record { held = Some []; faults = 0 }
 
--- RECORDS AND ENDS
+-- RECORDS, COUNTS AND ENDS
 -- the thread prints this, and no more
 abbrev pub printing : Value → RunRecord
 printing v =
@@ -87,6 +88,20 @@ printing v =
 -- the run's entries, each with a later stamp
 abbrev pub later_logs : List (List Logged)
 later_logs = map (λ (log : List Logged). map (λ (l : Logged). record l { stamp = l.stamp + 1 }) log) lone_logs
+
+-- of the two machines that a search keeps one is at its end
+abbrev pub lone_counts : Outcomes
+lone_counts =
+    record {
+      states = 2;
+      ended = 1;
+      faulted = 0;
+      stuck = 0;
+      spent = 0;
+      «open» = 0;
+      first_stuck = None;
+      first_faulted = None;
+    }
 
 -- the machine after the run, but that its thread is in this mode
 abbrev pub in_mode : Mode → PlainMachine

@@ -51,7 +51,8 @@ use std::alloc::Global;
 use std::sync::Wait;
 use std::thread::Threads;
 pub use witnesses::{
-    a_small_program_can_be_run, a_small_program_with_a_block_can_be_run, calls_can_do_what_is_due,
+    a_small_program_can_be_run, a_small_program_with_a_block_can_be_run,
+    all_ends_of_a_small_program_can_be_found, calls_can_do_what_is_due,
 };
 
 /// Does what the arguments, `words`, ask for, and writes what is due to the sink. `words[0]` is the program's name.

@@ -11,13 +11,15 @@ ghost use Rattle.lock_journal.specs.declared.record.RunRecord.{RunRecord};
 ghost use Rattle.single_thread_law.specs.LoneExample.{lone_end, lone_fuel, lone_program};
 ghost use Rattle.bias_check.specs.Parts.{lines_are_terminated};
 ghost use Rattle.bias_check.specs.Printed.{journal_of};
+ghost use Rattle.outcome_search.specs.EveryEnd.{IsEveryEnd};
 ghost use Rattle.cli_args.specs.Command.{accepted};
 ghost use Rattle.cli_args.specs.declared.options.Command.TheVariants.{Check, Run};
 ghost use Rattle.cli_args.specs.declared.options.Options.{Options};
 ghost use Rattle.sync_source.specs.Compiled.{compiled};
 ghost use Rattle.sync_syntax.specs.Refusal.{sync_program_of};
 ghost use Rattle.bias_cli.specs.declared.finish.Finish.{Finish};
-ghost use Rattle.bias_cli.specs.Example.{block_text, has_left, lone_blocks, lone_options, lone_text, lone_words, nothing_held};
+ghost use Rattle.bias_cli.specs.Example.{block_text, has_left, lone_blocks, lone_counts, lone_options, lone_text, lone_words};
+ghost use Rattle.bias_cli.specs.Example.{nothing_held};
 ghost use Rattle.bias_cli.specs.Input.{most_of_journal};
 ghost use Rattle.bias_cli.specs.Finish.{IsFinish, IsGivenUp, IsRunOf, LeavesRun, Meets, run_due, sync_due};
 ghost use Rattle.bias_cli.specs.MayBeWritten.{AsksForNoMore, IsAllowedBy, MayBeWritten};
@@ -71,4 +73,13 @@ pub fn a_small_program_with_a_block_can_be_run()
     ensures met { (k : SinkSeen) × (finish : Finish)
         × Meets nothing_held k finish (run_due lone_options (program_of (canonical (compiled decimal lone_blocks))))
         × Meets nothing_held k finish (sync_due lone_options (sync_program_of block_text)) }
+{}
+
+/// A search for all ends of that program, which keeps two machines and leaves none open, and counts neither a stuck end nor one with a fault; and runs of the
+/// program under all options with its fuel. So what `runs_end_as_a_search_found` asks for comes about.
+pub fn all_ends_of_a_small_program_can_be_found()
+    ensures { (o : Options) → o.fuel ≡ lone_fuel
+        → (r : RunRecord) × (c : ClosedSeen) × IsRunOf o lone_program r c lone_end
+        × IsEveryEnd lone_program 2 lone_counts × (lone_counts.«open» ≡ 0) × (lone_counts.stuck ≡ 0)
+        × (lone_counts.faulted ≡ 0) × (o.fuel ≤ most_fuel) }
 {}
