@@ -63,6 +63,10 @@ lone_options =
       report = false;
     }
 
+-- other options with this fuel
+abbrev pub with_lone_fuel : Options → Options
+with_lone_fuel o = record o { fuel = lone_fuel }
+
 -- what a source and a sink tell that have had no faults: that these bytes are left, and that nothing is held yet
 abbrev pub has_left : List ℕ → SourceSeen
 has_left bytes = record { left = Some bytes; faults = 0 }

@@ -19,7 +19,7 @@ ghost use Rattle.sync_source.specs.Compiled.{compiled};
 ghost use Rattle.sync_syntax.specs.Refusal.{sync_program_of};
 ghost use Rattle.bias_cli.specs.declared.finish.Finish.{Finish};
 ghost use Rattle.bias_cli.specs.Example.{block_text, has_left, lone_blocks, lone_counts, lone_options, lone_text, lone_words};
-ghost use Rattle.bias_cli.specs.Example.{nothing_held};
+ghost use Rattle.bias_cli.specs.Example.{nothing_held, with_lone_fuel};
 ghost use Rattle.bias_cli.specs.Input.{most_of_journal};
 ghost use Rattle.bias_cli.specs.Finish.{IsFinish, IsGivenUp, IsRunOf, LeavesRun, Meets, run_due, sync_due};
 ghost use Rattle.bias_cli.specs.MayBeWritten.{AsksForNoMore, IsAllowedBy, MayBeWritten};
@@ -27,7 +27,7 @@ ghost use Rattle.bias_cli.specs.Seen.{SinkSeen};
 ghost use Rattle.bias_cli.specs.Verdict.{answer_to, IsVerdict, with_journal};
 
 /// A program of one thread, which enters an object, dumps, prints the object, leaves it and ends. A text has it, whose lines are terminated. Under all
-/// options with this fuel there is a run of it, whose journal `check` can read after that text. So what
+/// options there is a run of it with this fuel, whose journal `check` can read after that text. So what
 /// `one_thread_decides_what_is_written`, `the_journal_of_each_run_is_legal_for_check` and `settings_change_nothing_that_may_be_written`
 /// ask for comes about.
 pub fn a_small_program_can_be_run()
@@ -36,12 +36,12 @@ pub fn a_small_program_can_be_run()
     ensures text { program_of lone_text ≡ Ok lone_program }
     ensures terminated { lines_are_terminated lone_text ≡ true }
     ensures fuel { lone_fuel ≤ most_fuel }
-    ensures run { (o : Options) → o.fuel ≡ lone_fuel
-        → (r : RunRecord) × (c : ClosedSeen) × IsRunOf o lone_program r c lone_end
-        × IsVerdict lone_program o.fuel o.start (journal_of lone_program r.logs) (answer_to r)
+    ensures run { (o : Options)
+        → (r : RunRecord) × (c : ClosedSeen) × IsRunOf (with_lone_fuel o) lone_program r c lone_end
+        × IsVerdict lone_program lone_fuel o.start (journal_of lone_program r.logs) (answer_to r)
         × (length (with_journal lone_text lone_program r.logs) ≤ most_of_journal) }
     ensures plain { (start : ℕ) → (text : List ℕ) × MayBeWritten lone_program lone_fuel start 0 text }
-    ensures allowed { (o : Options) → o.fuel ≡ lone_fuel → (text : List ℕ) × IsAllowedBy o lone_program 0 text }
+    ensures allowed { (o : Options) → (text : List ℕ) × IsAllowedBy (with_lone_fuel o) lone_program 0 text }
 {}
 
 /// Calls that did what was due: of arguments that aren't accepted, of a run of that program, and of a check of its journal. So what
@@ -78,8 +78,8 @@ pub fn a_small_program_with_a_block_can_be_run()
 /// A search for all ends of that program, which keeps two machines and leaves none open, and counts neither a stuck end nor one with a fault; and runs of the
 /// program under all options with its fuel. So what `runs_end_as_a_search_found` asks for comes about.
 pub fn all_ends_of_a_small_program_can_be_found()
-    ensures { (o : Options) → o.fuel ≡ lone_fuel
-        → (r : RunRecord) × (c : ClosedSeen) × IsRunOf o lone_program r c lone_end
+    ensures { (o : Options)
+        → (r : RunRecord) × (c : ClosedSeen) × IsRunOf (with_lone_fuel o) lone_program r c lone_end
         × IsEveryEnd lone_program 2 lone_counts × (lone_counts.«open» ≡ 0) × (lone_counts.stuck ≡ 0)
-        × (lone_counts.faulted ≡ 0) × (o.fuel ≤ most_fuel) }
+        × (lone_counts.faulted ≡ 0) × (lone_fuel ≤ most_fuel) }
 {}

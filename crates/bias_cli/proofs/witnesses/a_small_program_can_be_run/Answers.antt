@@ -1,5 +1,6 @@
 use Rattle.std.proofs.Common.{refl}
 use Rattle.bias_cli.proofs.Exemplified.{allowed_text, checked_run, few_units, is_program, plain_written, terminated, text_has}
+use Rattle.bias_cli.specs.Example.{with_lone_fuel}
 use Rattle.bias_cli.proofs.witnesses.a_small_program_can_be_run.Goals as goal
 
 pub returns-clause-program : goal.returns-clause-program
@@ -18,10 +19,10 @@ pub returns-clause-fuel : goal.returns-clause-fuel
 returns-clause-fuel c = few_units
 
 pub returns-clause-run : goal.returns-clause-run
-returns-clause-run c = checked_run
+returns-clause-run c o = checked_run (with_lone_fuel o) refl
 
 pub returns-clause-plain : goal.returns-clause-plain
 returns-clause-plain c = plain_written
 
 pub returns-clause-allowed : goal.returns-clause-allowed
-returns-clause-allowed c = allowed_text
+returns-clause-allowed c o = allowed_text (with_lone_fuel o) refl
