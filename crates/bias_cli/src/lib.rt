@@ -63,7 +63,8 @@ pub use witnesses::{
 /// - `sync` reads a program with blocks, and runs its code with the same options.
 /// - `compile` reads one, and writes its code, as a text that `run` takes where it isn't too long.
 /// - `check` reads a program with a journal of it, and writes whether the journal is a legal history of the program,
-/// and if not, from which line on it isn't.
+/// and if not, why: the first line that tells no entry, else the first that is no step, else the least object whose
+/// hashes don't fit.
 /// - `outcomes` reads a program, looks for every end of it, and writes how many states it kept and how they end, with
 /// a journal that leads to an end where one is asked for.
 /// - `make` reads nothing, and writes the handover program for a number of items (`handover_program::handover`).
