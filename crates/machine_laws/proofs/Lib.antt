@@ -19,3 +19,4 @@ pub mod RunReferences
 pub mod AskedReferences
 pub mod ReachedMade
 pub mod Ended
+pub mod ExamplePrograms
