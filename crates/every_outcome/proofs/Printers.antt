@@ -47,7 +47,7 @@ state place v fuel held mode = record { place = place; locals = v ∷ []; fuel =
 
 -- with this fuel left for each
 abbrev machine : ThreadState → ThreadState → PlainMachine
-machine s u = record { program = printers; objects = new_object 0 ∷ []; made = [] ∷ [] ∷ []; threads = s ∷ u ∷ [] }
+machine s u = record { program = printers; objects = new_object 1 ∷ []; made = [] ∷ [] ∷ []; threads = s ∷ u ∷ [] }
 
 -- the second has ended, and the first is before its enter
 abbrev entering : ℕ → ThreadState

@@ -59,9 +59,9 @@ full_not n h (inr seen) =
 abbrev stuck : PlainMachine
 stuck = record {
   program = waiter;
-  objects = record { monitor = record { owner = None; count = 0; waits = (0, 1) ∷ []; called = [] }; slots = []; hash = None } ∷ [];
+  objects = record { monitor = record { owner = None; count = 0; waits = (0, 1) ∷ []; called = [] }; slots = Ref 0 ∷ []; hash = None } ∷ [];
   made = [] ∷ [];
-  threads = record { place = 3; locals = Ref 0 ∷ []; fuel = 5; holds = 1 ∷ []; dumps = 0; made = 0; mode = Waiting 0 } ∷ [];
+  threads = record { place = 4; locals = Ref 0 ∷ []; fuel = 4; holds = 1 ∷ []; dumps = 0; made = 0; mode = Waiting 0 } ∷ [];
 }
 
 stuck_after : machine_after waiter 8 waited ≡ Some stuck

@@ -93,7 +93,8 @@ pub fn what_bars_a_thread_stands_for_no_entry()
 /// A thread that was spent before its end comes to it with more fuel. Refuses the conclusion of `more_fuel_changes_nothing`.
 pub fn a_spent_thread_goes_on_with_more_fuel()
     ensures { (p : ProgramText) (g top : ℕ) (s : ThreadState) → s.place ≡ 0
-        → with_fuel top (run_on p (code.End ∷ []) (0 + 1) (with_fuel g s)) ≡ with_fuel top (run_on p (code.End ∷ []) 0 s) → ⊥ }
+        → with_fuel top (run_on p (code.End ∷ []) (0 + 1) (with_fuel g s))
+        ≡ with_fuel top (run_on p (code.End ∷ []) 0 s) → ⊥ }
 {}
 
 /// Where an entry is a hash, or a thread stands before the call for one, the machine doesn't ask for none. Refuses the

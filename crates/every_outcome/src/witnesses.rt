@@ -43,8 +43,9 @@ pub fn a_program_can_have_a_closed_list()
 /// A witness for `alone_entries_commute`, and for `taken_entries_are_offered` and `reached_machines_in_a_search`, since the machine is
 /// reached.
 pub fn an_exit_can_go_alone()
-    ensures { (m a b : PlainMachine) × (s : ThreadState) × IsReached m × (slice_get m.threads 0 ≡ Some s) × (◌≢◌ {A = ℕ} 0 1)
-        × (goes_alone m 0 (Exit 0) ≡ true) × (take m 0 (Exit 0) ≡ Some a) × (take m 1 (Print Nil) ≡ Some b) }
+    ensures { (m a b : PlainMachine) × (s : ThreadState) × IsReached m × (slice_get m.threads 0 ≡ Some s)
+        × (◌≢◌ {A = ℕ} 0 1) × (goes_alone m 0 (Exit 0) ≡ true) × (take m 0 (Exit 0) ≡ Some a)
+        × (take m 1 (Print Nil) ≡ Some b) }
 {}
 
 /// Its first thread comes to its enter and isn't spent (`runs`), stands before it, as all threads do before their calls (`stands`), and no
@@ -57,6 +58,7 @@ pub fn a_thread_can_stand_before_its_enter()
         × (take (new_machine printers 8) 0 (Enter 0 StackFirst) ≡ Some n) }
     ensures told { (s : ThreadState) × IsAtCall printers (code_of printers 0)
         (record s { fuel = 3; mode = Calling (call.Enter 0) }) (Calling (call.Enter 0)) }
-    ensures asks { (m n : PlainMachine) × HasNoHash printers × (after_all (new_machine printers 8) (order printed) ≡ Some m)
-        × AsksNoHash (new_machine printers 8) × (take (new_machine printers 8) 0 (Enter 0 StackFirst) ≡ Some n) }
+    ensures asks { (m n : PlainMachine) × HasNoHash printers
+        × (after_all (new_machine printers 8) (order printed) ≡ Some m) × AsksNoHash (new_machine printers 8)
+        × (take (new_machine printers 8) 0 (Enter 0 StackFirst) ≡ Some n) }
 {}

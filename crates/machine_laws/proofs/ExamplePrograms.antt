@@ -45,7 +45,8 @@ waiter_is = program_is _ (search) (thread_is _ _ (search (arith, lit<)) (omega a
 
 pub askers_is : IsProgram askers
 askers_is =
-    program_is _ (search)
-    (thread_is _ _ (search (arith, lit<)) (omega arith) (search rules),
-    (thread_is _ _ (search (arith, lit<)) (omega arith) (search rules), (thread_is _ _ (search (arith, lit<)) (omega arith) (search rules), tt)))
+    program_is _ (search) (
+      thread_is _ _ (search (arith, lit<)) (omega arith) (search rules),
+      (thread_is _ _ (search (arith, lit<)) (omega arith) (search rules), (thread_is _ _ (search (arith, lit<)) (omega arith) (search rules), tt)),
+    )
     (omega arith) (omega arith)

@@ -20,3 +20,5 @@ pub mod AskedReferences
 pub mod ReachedMade
 pub mod Ended
 pub mod ExamplePrograms
+pub mod ExampleMachines
+pub mod WrongMachines

@@ -6,7 +6,7 @@ use Rattle.object_program.specs.declared.program.Code.{Code}
 use Rattle.object_program.specs.declared.program.Code.TheVariants as code
 use Rattle.object_program.specs.declared.program.ThreadDef.{ThreadDef}
 use Rattle.plain_monitor.specs.declared.entry.Entry.{Entry}
-use Rattle.plain_monitor.specs.declared.entry.Entry.TheVariants.{Enter, Exit, Wait, Print, Done}
+use Rattle.plain_monitor.specs.declared.entry.Entry.TheVariants.{Enter, Exit, Put, Wait, Print, Done}
 use Rattle.plain_monitor.specs.declared.entry.Logged.{Logged}
 use Rattle.plain_monitor.specs.declared.entry.Path.TheVariants.{StackFirst}
 use Rattle.plain_monitor.specs.declared.entry.Value.TheVariants.{Nil, Ref}
@@ -14,10 +14,10 @@ use Rattle.plain_monitor.specs.declared.entry.Value.TheVariants.{Nil, Ref}
 abbrev pub thread : List ℕ → List Code → ThreadDef
 thread name instructions = record { name = name; locals = codes "x" ∷ []; labels = []; code = instructions }
 
--- threads with an object of a class without slots
+-- threads with an object of a class with a slot
 abbrev pub with_object : List ThreadDef → ProgramText
 with_object threads = record {
-  classes = record { name = codes "C"; slots = 0 } ∷ [];
+  classes = record { name = codes "C"; slots = 1 } ∷ [];
   objects = record { name = codes "a"; class = 0; first = 0; size = 1; array = false } ∷ [];
   threads = threads;
 }
@@ -29,9 +29,9 @@ printing = code.Ref 0 0 ∷ code.Enter 0 ∷ code.Print 0 ∷ code.Exit 0 ∷ co
 abbrev pub printers : ProgramText
 printers = with_object (thread (codes "t1") printing ∷ thread (codes "t2") (code.Print 0 ∷ code.End ∷ []) ∷ [])
 
--- nobody notifies the thread
+-- the thread puts the object into the object's own slot and waits, and nobody notifies it
 abbrev pub waiter : ProgramText
-waiter = with_object (thread (codes "t1") (code.Ref 0 0 ∷ code.Enter 0 ∷ code.Wait 0 ∷ code.Exit 0 ∷ code.End ∷ []) ∷ [])
+waiter = with_object (thread (codes "t1") (code.Ref 0 0 ∷ code.Enter 0 ∷ code.Put 0 0 0 ∷ code.Wait 0 ∷ code.Exit 0 ∷ code.End ∷ []) ∷ [])
 
 abbrev pub askers : ProgramText
 askers =
@@ -54,4 +54,4 @@ printed =
     ∷ (logged 1 (Print Nil) ∷ logged 2 Done ∷ []) ∷ []
 
 abbrev pub waited : List (List Logged)
-waited = (entered ∷ logged 2 (Wait 0) ∷ []) ∷ []
+waited = (entered ∷ logged 2 (Put 0 0 (Ref 0)) ∷ logged 3 (Wait 0) ∷ []) ∷ []
