@@ -43,10 +43,11 @@ pub fn one_new_too_many_is_refused()
     ensures { (m : PlainMachine) (t o c : ℕ) → most_made ≤ length (made_by m.made t) → take m t (New o c) ≡ None }
 {}
 
-/// Not reached: a machine with a monitor whose owner there isn't, or that is held more than 64 times (`owner`, `count`); on which a
-/// thread waits, or was called from it, that there isn't (`waits`, `called`); with a thread that holds too often (`holds`); of which a local or
-/// a slot refers to no object of the program (`local_value`, `slot_value`); that wakes a thread that there isn't (`taken`), or offers to wait for it
-/// (`offer`); and that makes or asks for a fifth dump (`dumped`, `dump`). Nor the first machine of a text without threads (`text`).
+/// Not reached: a machine with a monitor whose owner there isn't (`owner`), or that is held more than 64 times (`count`); on which a thread
+/// waits that there isn't (`waits`), or from which one was called that held it more than 64 times (`called`); with a thread that holds more
+/// (`holds`); of which a local or a slot refers to no object of the program (`local_value`, `slot_value`); that takes a notify of a thread that
+/// there isn't (`taken`), or says that one is held back by such a thread (`offer`); and that makes or asks for a fifth dump (`dumped`, `dump`). Nor
+/// the first machine of a text without threads (`text`).
 ///
 /// Refuses the conclusions of `machines_stay_reached` and `reached_machines_are_in_range`.
 pub fn no_machine_out_of_range_is_reached()
@@ -91,8 +92,8 @@ pub fn no_entry_leaves_the_work_that_there_was()
         → work_left m ≤ work_left n → ⊥ }
 {}
 
-/// Not taken: an entry of a thread that there isn't (`thread`), one of a thread that has ended (`ended`), and a hash that is 0 (`zero`). Refuses the
-/// conclusions of `offered_entries_are_taken`.
+/// Not taken: an entry of a thread that there isn't (`thread`), one of a thread that has ended (`ended`), and a hash that is 0 (`zero`).
+/// Refuses the conclusions of `offered_entries_are_taken`.
 pub fn what_is_not_offered_is_not_taken()
     ensures thread { (m : PlainMachine) (t : ℕ) (e : Entry) → length m.threads ≤ t → IsSome (take m t e) → ⊥ }
     ensures ended { (m : PlainMachine) (t : ℕ) (e : Entry) (s : ThreadState) → slice_get m.threads t ≡ Some s
@@ -107,8 +108,8 @@ pub fn logs_that_print_what_is_not_there_are_not_made_in_time()
         → IsMadeInTime n ((logged stamp (Print (Ref o)) ∷ []) ∷ []) → ⊥ }
 {}
 
-/// A machine that offers an entry is neither stuck nor have its threads all ended (`over`), as the first one of a program does (`offers`);
-/// and one that is stuck is (`stuck`). Refuses the conclusions of `a_machine_that_offers_nothing_is_over`.
+/// A machine that offers an entry isn't stuck, nor have its threads all ended (`over`). The first one of a program offers an entry
+/// (`offers`), and one whose only thread waits is stuck (`stuck`). Refuses the conclusions of `a_machine_that_offers_nothing_is_over`.
 pub fn a_machine_that_offers_an_entry_is_not_over()
     ensures over { (m : PlainMachine) (t : ℕ) → is_next (offered m t) ≡ true
         → (is_stuck m ≡ true) ⊎ (list_all (λ s. not (is_live s)) m.threads ≡ true) → ⊥ }
