@@ -14,3 +14,6 @@ pub mod Refuelled
 pub mod EnoughFuel
 pub mod Standing
 pub mod Shut
+pub mod WrongMachines
+pub mod NotReached
+pub mod Printers

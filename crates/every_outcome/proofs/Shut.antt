@@ -123,3 +123,14 @@ end_is_left_out p fuel seen m n t e here takes over missing closed =
     go : (xs : List (ℕ × Entry)) (to : PlainMachine) → GoesAlone n xs to → IsSeen seen to → ⊥
     go [] to alone there = missing (subst (IsSeen seen) (sym alone) there)
     go (x ∷ xs) to alone there = over x.0 x.1 alone.0 alone.2
+
+-- another hash leads elsewhere
+pub other_hash : (m a : PlainMachine) (t o v w : ℕ) (d g : Option ℕ) → v ≢ w → take m t (Hash o v d) ≡ Some a
+    → take m t (Hash o v d) ≡ take m t (Hash o w g) → ⊥
+other_hash m a t o v w d g apart takes same =
+    let k = after_at m a o t (Hash o v d) refl takes in
+    let l = after_at m a o t (Hash o w g) refl (sym same ∙ takes) in
+    let one : k.y ≡ l.y = same_Some k.y l.y (sym k.there ∙ l.there) in
+    let left : k.y.hash ≡ Some v = hash_becomes k.x k.y v k.x.hash k.takes in
+    let right : l.y.hash ≡ Some w = hash_becomes l.x l.y w l.x.hash l.takes in
+    apart (same_Some v w (sym left ∙ ap (λ (z : PlainObject). z.hash) one ∙ right))

@@ -9,6 +9,7 @@ mod ends;
 mod entries;
 mod refused;
 mod states;
+mod witnesses;
 
 pub use ends::{
     closed_lists_have_every_end, found_machines_are_real, full_lists_have_every_end_of_any_fuel,
@@ -19,7 +20,15 @@ pub use entries::{
     taken_entries_are_offered,
 };
 pub use refused::{
-    a_list_that_leaves_out_an_end_is_refused, first_enters_do_not_go_alone, hashes_do_not_go_alone,
-    resumes_do_not_go_alone,
+    a_list_of_the_first_machine_alone_has_no_end, a_list_that_leaves_out_an_end_is_refused,
+    a_machine_of_another_program_is_under_no_logs, a_machine_that_takes_a_hash_asks_for_one,
+    a_spent_thread_goes_on_with_more_fuel, a_thread_that_nobody_notifies_is_stuck,
+    another_object_or_hash_is_another_entry, first_enters_do_not_go_alone, hashes_do_not_go_alone,
+    machines_without_fuel_or_with_other_holds_are_not_reached,
+    no_thread_stands_before_a_call_of_another_instruction, resumes_do_not_go_alone,
+    what_bars_a_thread_stands_for_no_entry, what_entries_do_not_lead_to_is_not_found,
 };
 pub use states::{reached_machines_in_a_search, threads_stand_before_their_calls};
+pub use witnesses::{
+    a_program_can_have_a_closed_list, a_thread_can_stand_before_its_enter, an_exit_can_go_alone,
+};

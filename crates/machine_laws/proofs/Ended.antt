@@ -158,12 +158,12 @@ stays_ended m n t u x e h ended = elim (cases_eq u t) [
 ]
 
 -- the first of some entries, and the machine after it
-record IsFirstTaken (m : PlainMachine) (x : ℕ × Logged) (xs : List (ℕ × Logged)) (n : PlainMachine) : Type 0 where
+pub record IsFirstTaken (m : PlainMachine) (x : ℕ × Logged) (xs : List (ℕ × Logged)) (n : PlainMachine) : Type 0 where
   pub mid : PlainMachine
   pub first : take m x.0 x.1.entry ≡ Some mid
   pub rest : after_all mid xs ≡ Some n
 
-first_taken : (m : PlainMachine) (x : ℕ × Logged) (xs : List (ℕ × Logged)) (n : PlainMachine) → after_all m (x ∷ xs) ≡ Some n → IsFirstTaken m x xs n
+pub first_taken : (m : PlainMachine) (x : ℕ × Logged) (xs : List (ℕ × Logged)) (n : PlainMachine) → after_all m (x ∷ xs) ≡ Some n → IsFirstTaken m x xs n
 first_taken m x xs n h =
     let f = first_run take (take m x.0 x.1.entry) xs n h in
     record { mid = f.0; first = f.1; rest = f.2 }

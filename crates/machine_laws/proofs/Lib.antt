@@ -19,3 +19,6 @@ pub mod RunReferences
 pub mod AskedReferences
 pub mod ReachedMade
 pub mod Ended
+pub mod ExamplePrograms
+pub mod ExampleMachines
+pub mod WrongMachines

@@ -5,3 +5,4 @@ pub mod ReachedMonitor
 pub mod ReachedThread
 pub mod ReachedEntry
 pub mod LogEnds
+pub mod Examples

@@ -1,1 +1,2 @@
 pub mod WaitsByLog
+pub mod Examples

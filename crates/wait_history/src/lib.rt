@@ -5,5 +5,9 @@
 #![tactic(auto)]
 
 mod laws;
+mod refused;
+mod witnesses;
 
 pub use laws::waits_follow_from_the_own_log;
+pub use refused::nobody_waits_by_the_own_log_alone_or_by_the_lists_alone;
+pub use witnesses::a_thread_can_wait_in_a_legal_history;
