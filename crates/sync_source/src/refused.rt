@@ -18,7 +18,6 @@ ghost use Rattle.sync_source.specs.Examples.{one_printer, prints_late, enters_no
 ghost use Rattle.sync_source.specs.Examples.{changes_local, changed_logs, ends_inside, entered};
 ghost use Rattle.sync_source.specs.SameMeaning.{DoesTheSame};
 ghost use Rattle.sync_source.specs.Valid.{IsSyncText};
-ghost use Rattle.sync_source.specs.Valid.{IsSyncText};
 
 /// Code that prints after the exit what the block prints (`late`), or that leaves out the enter and the exit (`unguarded`), though either
 /// is code of a program: it doesn't do what the program with blocks does. And where a thread has no `end`, its code is no program
