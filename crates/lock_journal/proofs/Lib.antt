@@ -9,3 +9,4 @@ pub mod Counts
 pub mod ClassesLeft
 pub mod Sixteen
 pub mod LegalLogs
+pub mod Seventeen

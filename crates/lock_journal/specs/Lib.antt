@@ -6,4 +6,5 @@ pub mod LineView
 pub mod LinesLeft
 pub mod MachineCells
 pub mod Hashes
+pub mod Examples
 pub mod inner

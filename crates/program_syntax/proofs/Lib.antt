@@ -23,3 +23,4 @@ pub mod CanonicalSections
 pub mod CanonicalText
 pub mod CanonicalWords
 pub mod Written
+pub mod WrongTexts

@@ -9,4 +9,5 @@ pub mod Added
 pub mod Left
 pub mod Canonical
 pub mod Written
+pub mod Examples
 pub mod inner

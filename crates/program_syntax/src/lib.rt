@@ -16,9 +16,11 @@ mod lines;
 mod number;
 mod operand;
 mod reader;
+mod refused;
 mod section;
 mod spelling;
 mod state;
+mod witnesses;
 mod words;
 mod write;
 
@@ -32,9 +34,11 @@ pub use limits::{BYTES, CODE};
 pub use lines::{Lines, is_text};
 pub use number::number_within;
 pub use reader::{after_declaration, read_program};
+pub use refused::{no_limit_is_one_more, no_text_is_read_back_as_what_is_no_program};
 pub use section::{closed, instruction_on, with_code, with_local};
 pub use spelling::{ends_section, is_instruction, is_outside, keyword_of};
 pub use state::{Declared, Reader, Section};
+pub use witnesses::a_program_with_a_loop_has_a_text;
 pub use words::Words;
 pub use write::{
     local_name, write_classes, write_instruction, write_line, write_objects, write_program,

@@ -15,3 +15,5 @@ pub mod Names
 pub mod Labels
 pub mod OpenSyncs
 pub mod ExitsAndEnds
+pub mod Guarded
+pub mod WrongCode

@@ -7,4 +7,5 @@ pub mod SyncMachine
 pub mod Compiled
 pub mod SameMeaning
 pub mod Endings
+pub mod Examples
 pub mod inner

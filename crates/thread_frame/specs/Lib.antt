@@ -1,4 +1,5 @@
 pub mod Frames
+pub mod Examples
 pub mod Sights
 pub mod Walking
 pub mod inner

@@ -7,8 +7,12 @@
 mod frame;
 mod frame_actor;
 mod laws;
+mod refused;
 mod walk;
+mod witnesses;
 
 pub use frame::Frame;
 pub use laws::{first_frames_are_first_states, frames_move_as_their_threads};
+pub use refused::{no_first_state_by_another_frame, no_other_frame_moves_as_its_thread};
 pub use walk::Walked;
+pub use witnesses::a_frame_stands_before_a_call;
