@@ -51,7 +51,7 @@ held_alone h p n one same = record { count = sym one; each = each }
 
 module _ (table : TableId) where
   pub rests_in : (w : World) → IsReachable lone w → is_idle lone.shape (w.known 0) ≡ true → Rests (lone_in table) (pass_in (lone_in table) w)
-  rests_in w c over = resting (lone_in table) w limits refl (omega arith) c over
+  rests_in w c over = resting (lone_in table) 0 w limits refl (omega arith) c over
 
   pub holding : Rests (lone_in table) (pass_in (lone_in table) (world_of lone (enters 0)))
       × AreHolds (lone_in table) (pass_in (lone_in table) (world_of lone (enters 0))) (1 ∷ [])

@@ -14,7 +14,7 @@ use Rattle.core_steps.proofs.ReachedWorlds.{comes_sound}
 use Rattle.heap_table.specs.Resting.{Rests}
 use Rattle.heap_table.specs.Seen.{HeapSeen}
 use Rattle.closed_heap_laws.specs.OfARun.{IsEnd}
-use Rattle.small_runs.specs.Runs.{all_known, pass_in}
+use Rattle.small_runs.specs.Runs.{all_known, pass_of}
 use Rattle.small_runs.proofs.Reached.{AreWords, law_in, knows_in}
 
 -- with the last words, of which the first is the safepoint word
@@ -49,17 +49,17 @@ ended heap w limits one c over a =
     knows (suc i) k there = absurd (cc there)
 
 -- and its pass rests
-pub resting : (h : HeapSeen) (w : World) → IsInLimits h.heap.shape → h.room ≡ 16 → 0 < h.heap.shape.threads → IsReachable h.heap w
-    → is_idle h.heap.shape (w.known 0) ≡ true → Rests h (pass_in h w)
-resting h w limits room some c over =
-    let k = knows_in h.heap w 0 limits c some in
+pub resting : (h : HeapSeen) (t : ℕ) (w : World) → IsInLimits h.heap.shape → h.room ≡ 16 → t < h.heap.shape.threads → IsReachable h.heap w
+    → is_idle h.heap.shape (w.known t) ≡ true → Rests h (pass_of h t w)
+resting h t w limits room some c over =
+    let k = knows_in h.heap w t limits c some in
     record {
       is_of = record {
         table = refl;
         room = refl;
-        within = subst (λ (t : ℕ). t < h.heap.shape.threads) (sym k.thread) some;
+        within = subst (λ (u : ℕ). u < h.heap.shape.threads) (sym k.thread) some;
         classes = refl;
-        first = ap (λ (t : ℕ). (h.heap.start + t) % 2 ^ 32) (sym k.thread);
+        first = ap (λ (u : ℕ). (h.heap.start + u) % 2 ^ 32) (sym k.thread);
         threads = refl;
         objects = refl;
         real = k.real;

@@ -7,3 +7,5 @@ pub mod AtRest
 pub mod Alone
 pub mod TurnWorlds
 pub mod Turned
+pub mod RivalWorlds
+pub mod Rivalled

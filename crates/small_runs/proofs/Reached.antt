@@ -1,12 +1,12 @@
 -- A world to which a heap in the limits comes: the heap has its law, its words can be listed by their places, and what each thread knows there it came
 -- to know by its own steps.
-use Rattle.std.proofs.Common.{◌≡◌, ℕ, ◌<◌, List, length, get_or, set, Bool, true, false, cond, refl, sym, ap, ◌∙◌, subst, arith, length-set}
+use Rattle.std.proofs.Common.{◌≡◌, ℕ, ◌<◌, ◌≤◌, List, length, get_or, set, Bool, true, false, cond, refl, sym, ap, ◌∙◌, subst, arith, length-set}
 use Rattle.std.specs.Prelude.{slice_index, slice_set}
 use Rattle.std.proofs.lemmas.List.{get_or-set_same, get_or-set_other}
 use Rattle.core_world.specs.declared.plan.StepPlan.{StepPlan}
 use Rattle.core_world.specs.declared.word_id.WordId.{WordId}
 use Rattle.core_world.specs.Due.{IsNext}
-use Rattle.core_world.specs.Opening.{opening}
+use Rattle.core_world.specs.Opening.{opening, first_known}
 use Rattle.core_world.specs.There.{IsIn}
 use Rattle.core_world.specs.Threads.ThreadView.{ThreadView}
 use Rattle.core_world.specs.Words.Acts.{word_after}
@@ -29,6 +29,7 @@ use Rattle.heap_table.specs.Ruled.{IsReal, Stepped}
 use Rattle.heap_table.proofs.Knows.{real_after, same_thread}
 use Rattle.heap_table.proofs.Lawful.{by_law}
 use Rattle.heap_table.proofs.Places.{within, apart}
+use Rattle.turn_progress.proofs.Steps.{same_heap}
 
 pub law_in : (heap : Heap) → IsInLimits heap.shape → HeapLaw heap
 law_in heap limits = record {
@@ -117,3 +118,11 @@ knows_in heap w t limits (moves v u p before within_threads next) few = now (kno
         by_equal t u
         (λ e. subst (KnowsIn heap t) (sym (ap (with_known u l v.known) e ∙ with_known_here u l v.known)) (mine old e))
         (λ d. subst (KnowsIn heap t) (sym (with_known_else u l v.known t d)) old)
+
+-- and a thread that the heap doesn't have knows what it knew first
+pub never_there : (heap : Heap) (w : World) → IsReachable heap w → (u : ℕ) → heap.shape.threads ≤ u → w.known u ≡ first_known u
+never_there heap w opens u many = refl
+never_there heap w (moves v t p before few next) u many =
+    let same = ap (λ (h : Heap). h.shape.threads) (same_heap heap v before) in
+    with_known_else t (known_after v.shape v.start p (v.words p.at) (v.known t)) v.known u (λ e. omega (arith, few, same, many, e))
+    ∙ never_there heap v before u many

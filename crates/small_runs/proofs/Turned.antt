@@ -63,17 +63,17 @@ module _ (table : TableId) where
         task = Enter 0 0;
         is = (
           StackFirst,
-          ran_along h (enter_steps lone.shape (start_of lone.start (polled.known 0)) 0 0) (replicate 5 (Enter 0 0)) polled (Ok (Done StackFirst)) polled_of
+          ran_along h 0 (enter_steps lone.shape (start_of lone.start (polled.known 0)) 0 0) (replicate 5 (Enter 0 0)) polled (Ok (Done StackFirst)) polled_of
               enters,
         );
-        stepped = stepped_by h polled entered 0 to_entered;
+        stepped = stepped_by h 0 polled entered 0 to_entered;
       };
       earlier = to_polled.steps;
       begun = moved_steps first 0 to_polled.steps polled to_polled.moves;
     };
     still =
         stops entered turned entered_runs
-        (ran_along h (stop_steps (side_context Stop (start_of lone.start (entered.known 0))) (start_of lone.start (entered.known 0)).local)
+        (ran_along h 0 (stop_steps (side_context Stop (start_of lone.start (entered.known 0))) (start_of lone.start (entered.known 0)).local)
         (replicate 2 Stop) entered tt entered_of stops_entered);
   }
 
@@ -86,15 +86,15 @@ module _ (table : TableId) where
       rests = rests_in table left left_comes left_over;
       call = record {
         task = Finish Spent;
-        is = ran_along h (finish_steps (start_of lone.start (left.known 0)) Spent) (replicate 2 (Finish Spent)) left tt left_of spends;
-        stepped = stepped_by h left finished 0 to_finished;
+        is = ran_along h 0 (finish_steps (start_of lone.start (left.known 0)) Spent) (replicate 2 (Finish Spent)) left tt left_of spends;
+        stepped = stepped_by h 0 left finished 0 to_finished;
       };
       earlier = to_left.steps;
       begun = moved_steps turned 0 to_left.steps left to_left.moves;
     };
     still =
         stops finished ended finished_runs
-        (ran_along h (stop_steps (side_context Stop (start_of lone.start (finished.known 0))) (start_of lone.start (finished.known 0)).local)
+        (ran_along h 0 (stop_steps (side_context Stop (start_of lone.start (finished.known 0))) (start_of lone.start (finished.known 0)).local)
         (replicate 2 Stop) finished tt finished_of stops_finished);
   }
 
@@ -108,9 +108,9 @@ module _ (table : TableId) where
       call = record {
         task = Resume;
         is =
-            ran_along h (resume_steps (side_context Resume (start_of lone.start (halted.known 0))) (start_of lone.start (halted.known 0)).local) (Resume ∷ [])
+            ran_along h 0 (resume_steps (side_context Resume (start_of lone.start (halted.known 0))) (start_of lone.start (halted.known 0)).local) (Resume ∷ [])
             halted (Pending Halted) halted_of finds;
-        stepped = stepped_by h halted barred 0 to_barred;
+        stepped = stepped_by h 0 halted barred 0 to_barred;
       };
       earlier = [];
       begun = refl;
@@ -123,7 +123,7 @@ module _ (table : TableId) where
   live_turn = record {
     most = omega arith;
     spent = refl;
-    stepped = stepped_by h first turned 2 first_turn;
+    stepped = stepped_by h 0 first turned 2 first_turn;
     polls = let p = first_turn.polled in omega (arith, p);
     state = (refl, refl, entering);
     stands = turned_stands;
@@ -133,7 +133,7 @@ module _ (table : TableId) where
   end_turn = record {
     most = omega arith;
     spent = refl;
-    stepped = stepped_by h turned ended 1 last_turn;
+    stepped = stepped_by h 0 turned ended 1 last_turn;
     polls = let p = last_turn.polled in omega (arith, p);
     state = (refl, ending);
     stands = ended_stands;
@@ -143,7 +143,7 @@ module _ (table : TableId) where
   blocked_turn = record {
     most = omega arith;
     spent = refl;
-    stepped = stepped_by h halted barred 0 to_barred;
+    stepped = stepped_by h 0 halted barred 0 to_barred;
     polls = omega arith;
     state = (refl, resuming);
     stands = barred_stands;

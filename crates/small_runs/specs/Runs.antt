@@ -41,6 +41,9 @@ has_finished_biased = world_of lone_biased biased_finishes
 abbrev pub lone_in : TableId → HeapSeen
 lone_in table = record { table = table; heap = lone; room = 16 }
 
--- the pass of a heap's thread 0 where that knows what it does in this world
+-- the pass of a heap's thread where that knows what it does in this world; and that of thread 0
+abbrev pub pass_of : HeapSeen → ℕ → World → PassSeen
+pass_of h t w = record (first_pass h 16 t) { known = w.known t }
+
 abbrev pub pass_in : HeapSeen → World → PassSeen
-pass_in h w = record (first_pass h 16 0) { known = w.known 0 }
+pass_in h w = pass_of h 0 w

@@ -16,38 +16,38 @@ use Rattle.thread_interp.specs.declared.moved.RunState.TheVariants.{Blocked, End
 use Rattle.thread_interp.specs.Runners.{RunnerSeen}
 use Rattle.small_runs.specs.Runs.{lone_in, pass_in}
 
--- these calls of the thread, one for each of their steps
-abbrev pub own_turns : List HeapCall → List (ℕ × HeapCall)
-own_turns [] = []
-own_turns (c ∷ cs) = (0, c) ∷ own_turns cs
+-- these calls of thread t, one for each of their steps
+abbrev pub turns_of : ℕ → List HeapCall → List (ℕ × HeapCall)
+turns_of t [] = []
+turns_of t (c ∷ cs) = (t, c) ∷ turns_of t cs
 
 -- A turn of two instructions, before each of which the thread polls. It has resumed, and referred to the object; then it has entered that; and then
 -- it stands still after the turn.
 unfoldable pub polled : World
-polled = world_of lone (own_turns (Resume ∷ Resume ∷ Poll ∷ Poll ∷ []))
+polled = world_of lone (turns_of 0 (Resume ∷ Resume ∷ Poll ∷ Poll ∷ []))
 
 unfoldable pub entered : World
-entered = after_turns (own_turns (replicate 5 (Enter 0 0))) polled
+entered = after_turns (turns_of 0 (replicate 5 (Enter 0 0))) polled
 
 unfoldable pub turned : World
-turned = after_turns (own_turns (replicate 2 Stop)) entered
+turned = after_turns (turns_of 0 (replicate 2 Stop)) entered
 
 -- And the next turn, its last: the thread has left the object, and polled; then it has ended, as its fuel is spent; and then it stands still.
 unfoldable pub left : World
-left = after_turns (own_turns (Resume ∷ Resume ∷ Poll ∷ replicate 7 (Exit 0) ++ Poll ∷ [])) turned
+left = after_turns (turns_of 0 (Resume ∷ Resume ∷ Poll ∷ replicate 7 (Exit 0) ++ Poll ∷ [])) turned
 
 unfoldable pub finished : World
-finished = after_turns (own_turns (replicate 2 (Finish Spent))) left
+finished = after_turns (turns_of 0 (replicate 2 (Finish Spent))) left
 
 unfoldable pub ended : World
-ended = after_turns (own_turns (replicate 2 Stop)) finished
+ended = after_turns (turns_of 0 (replicate 2 Stop)) finished
 
 -- The run is halted, where the thread waits; and then it has made one step of a resume.
 unfoldable pub halted : World
 halted = world_of lone (halts 0)
 
 unfoldable pub barred : World
-barred = after_turns (own_turns (Resume ∷ [])) halted
+barred = after_turns (turns_of 0 (Resume ∷ [])) halted
 
 -- its frame before the first turn, after it, and after the last one; and where it waits instead of leaving
 abbrev pub begun : FrameSeen

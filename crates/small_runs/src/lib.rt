@@ -7,6 +7,6 @@
 mod witnesses;
 
 pub use witnesses::{
-    small_heaps_come_to_their_ends, small_heaps_have_threads_at_rest,
-    threads_of_small_programs_have_turns,
+    a_turn_can_be_blocked_by_another_thread_that_owns_its_object, small_heaps_come_to_their_ends,
+    small_heaps_have_threads_at_rest, threads_of_small_programs_have_turns,
 };

@@ -12,6 +12,7 @@ ghost use Rattle.core_world.specs.Words.Forms.{is_halted, waits_on};
 ghost use Rattle.core_world.specs.Words.Shape.{IsInLimits};
 ghost use Rattle.core_law.specs.Reached.{IsReachable};
 ghost use Rattle.step_history.specs.Examples.{lone, world_of, enters, waits, halts};
+ghost use Rattle.step_history.specs.Race.{rivals};
 ghost use Rattle.heap_table.specs.Resting.{Rests};
 ghost use Rattle.closed_heap_laws.specs.OfARun.{IsEnd, shots_at, shots_in};
 ghost use Rattle.own_logs.specs.HoldsByLog.{AreHolds};
@@ -21,6 +22,8 @@ ghost use Rattle.turn_progress.specs.Barred.{IsBarred};
 ghost use Rattle.turn_progress.specs.Turns.{LiveTurns, LiveAlone, OthersStand, TurnAlone};
 ghost use Rattle.small_runs.specs.Turns.{turned, ended, halted, barred, begun, ends, finds_the_halt};
 ghost use Rattle.small_runs.specs.Turns.{runner_at_first, runner_halfway, runner_at_end, runner_halted, runner_barred};
+ghost use Rattle.small_runs.specs.Rivals.{rivals_in, taken, kept_out, runner_of_rival, runner_kept_out};
+ghost use Rattle.small_runs.specs.Rivals.{other_owns, finds_the_owner};
 ghost use Rattle.small_runs.specs.Runs.{lone_biased, all_known, has_finished, has_finished_biased, lone_in, pass_in};
 
 /// Small heaps come to their ends. One without biases, where its thread has a shot (`finished`): it has dumped, entered an object, left it, and
@@ -70,4 +73,18 @@ pub fn threads_of_small_programs_have_turns()
         × (finds_the_halt.state ≡ Blocked Halted) }
     ensures barred { (table : TableId) → IsInLimits lone.shape × (lone.shape.threads ≡ 1) × IsReachable lone halted
         × IsBarred (lone_in table) halted 0 Halted (runner_halted table) (runner_barred table) }
+{}
+
+/// A turn of at most four instructions of a thread of a small program, beside another thread, which has entered the object and stands still. The
+/// turn does one instruction, and is blocked at an enter of that object, for the owner word that names the other thread's lock record (`blocked`);
+/// and so the thread is barred (`barred`). So the premises are met of `turn_progress::a_turn_left_alone_is_blocked_by_monitors_or_the_halt` and
+/// `turn_progress::a_thread_left_alone_ends_or_is_barred` where another thread owns the object.
+pub fn a_turn_can_be_blocked_by_another_thread_that_owns_its_object()
+    ensures blocked { (table : TableId) → IsInLimits rivals.shape × IsReachable rivals taken × OthersStand taken 1
+        × LiveAlone (rivals_in table) 4 1 taken (runner_of_rival table) 0 taken (runner_of_rival table)
+        × TurnAlone (rivals_in table) 4 1 taken (runner_of_rival table) kept_out (runner_kept_out table) finds_the_owner
+        × (finds_the_owner.state ≡ Blocked other_owns)
+        × (unspent begun < 0 * 4 + 4) }
+    ensures barred { (table : TableId) → IsBarred (rivals_in table) taken 1 other_owns (runner_of_rival table)
+        (runner_kept_out table) }
 {}
