@@ -8,6 +8,7 @@ use Rattle.mark_word.specs.Hold.{read_hold}
 use Rattle.mark_word.specs.declared.owner.OwnerForm.TheVariants.{ByThread, ByRecord}
 use Rattle.core_world.specs.declared.word_id.WordId.TheVariants.{Safepoint, Mark, Waiting, Owner}
 use Rattle.core_world.specs.declared.heap_call.HeapCall.{HeapCall}
+use Rattle.core_world.specs.declared.heap_call.Operation.TheVariants as op
 use Rattle.core_world.specs.Due.{steps_due}
 use Rattle.core_world.specs.Opening.{opening}
 use Rattle.core_world.specs.RevocationRules.{writes_in}
@@ -31,8 +32,10 @@ by_turns heap turns all = turns_reach heap (opening heap.shape heap.start heap.b
 
 pub contended : IsReachable rivals (world_of rivals contends) × (monitor_in ((world_of rivals contends).words (Mark 0)) ≡ Some 0)
     × ((world_of rivals contends).words (Owner 0) ≡ owner_of (ByRecord 0 0))
+    × (is_idle rivals.shape ((world_of rivals contends).known 1) ≡ true)
+    × (((world_of rivals contends).known 1).unfinished ≡ Some (record { op = op.Enter; object = 0 }))
 unfolding steps_due is_idle steps_of read_safe read_mark read_hold read_wait read_owner ring_bits
-contended = (by_turns rivals contends refl, refl, refl)
+contended = (by_turns rivals contends refl, refl, refl, refl, refl)
 
 pub waiting : IsReachable lone (world_of lone (waits 0)) × (waits_on ((world_of lone (waits 0)).words (Waiting 0)) 0 ≡ true)
 unfolding steps_due is_idle steps_of read_safe read_mark read_hold read_wait read_owner ring_bits

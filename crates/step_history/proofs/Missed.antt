@@ -4,7 +4,6 @@ use Rattle.std.proofs.Common.{Option, Some, None, is_some, refl, sym, ap, ◌∙
 use Rattle.std.specs.List.{AllByRecursion}
 use Rattle.core_world.specs.declared.heap_call.HeapCall.{HeapCall}
 use Rattle.core_world.specs.declared.plan.StepPlan.{StepPlan}
-use Rattle.core_world.specs.declared.word_id.WordId.{WordId}
 use Rattle.core_world.specs.Due.{IsNext, steps_due}
 use Rattle.core_world.specs.Opening.{opening}
 use Rattle.core_world.specs.Steps.{is_idle, rest_of_call, known_after}
@@ -72,16 +71,16 @@ module _ (t expected found : ℕ) where
     | inr same ↦ o.changed same
   ]
 
-  abbrev IsApart : WordId → ℕ × StepMade → Type 0
-  IsApart at x = (x.0 ≡ t) × (x.1.plan.at ≡ at) ⊎ (x.0 ≢ t) × (x.1.plan.at ≢ at)
+  abbrev IsElsewhere : ℕ × StepMade → ℕ × StepMade → Type 0
+  IsElsewhere x y = y.0 ≡ t → y.1.plan.at ≢ x.1.plan.at
 
-  pub elsewhere_not : (at : WordId) (xs : Steps) → AllByRecursion (IsApart at) xs → WasOvertaken t expected found xs → ⊥
-  elsewhere_not at xs h o = elim (exchange_is (IsApart at) xs o h) [
-    | inl own ↦ elim (change_is (IsApart at) xs o h) [
-      | inl same ↦ o.another same.0
-      | inr other ↦ other.1 (o.changed_at ∙ sym o.exchanged_at ∙ own.1)
-    ]
-    | inr other ↦ other.0 refl
+  abbrev IsApart : Steps → ℕ × StepMade → Type 0
+  IsApart xs x = (x.0 ≡ t) ⊎ AllByRecursion (IsElsewhere x) xs
+
+  pub elsewhere_not : (xs : Steps) → AllByRecursion (IsApart xs) xs → WasOvertaken t expected found xs → ⊥
+  elsewhere_not xs h o = elim (change_is (IsApart xs) xs o h) [
+    | inl same ↦ o.another same
+    | inr apart ↦ exchange_is (IsElsewhere (o.other, o.change)) xs o apart refl (o.exchanged_at ∙ sym o.changed_at)
   ]
 
   module _ (newer older : Steps) where

@@ -1,5 +1,5 @@
 -- The heap of two rivals comes to a world in which a resume has missed its exchange, by computing.
-use Rattle.std.proofs.Common.{ℕ, List, [], ◌∷◌, refl, arith}
+use Rattle.std.proofs.Common.{◌≡◌, ℕ, List, [], ◌∷◌, length, refl, arith}
 use Rattle.mark_word.specs.Safe.{read_safe}
 use Rattle.core_world.specs.declared.answer.Progress.TheVariants.{Pending}
 use Rattle.core_world.specs.declared.answer.PendingCause.TheVariants.{Raced}
@@ -42,7 +42,7 @@ leads_missed : Leads at_first steps other_missed
 unfolding steps_due is_idle steps_of read_safe
 leads_missed = goes _ one_runs 0 (resume_plan resuming 0 0) leads_one (omega arith) refl
 
-pub raced : (xs : List (ℕ × StepMade)) × Leads at_first xs other_missed
+pub raced : (xs : List (ℕ × StepMade)) × Leads at_first xs other_missed × (length xs ≡ 4)
     × IsCallOf 0 (resume_steps resuming (local_of (first_known 0))) xs (Pending (Raced 0 (running_too (read_safe 0) 1)))
 unfolding steps_due is_idle steps_of read_safe
-raced = (steps, leads_missed, record { first = at_first; last = other_missed; leads = leads_missed; path = (0, (running_too (read_safe 0) 1, (refl, refl))) })
+raced = (steps, leads_missed, refl, record { first = at_first; last = other_missed; leads = leads_missed; path = (0, (running_too (read_safe 0) 1, (refl, refl))) })

@@ -3,7 +3,6 @@
 ghost use Rattle.std.specs.Prelude.{◌≡◌, ◌≢◌, ◌⊎◌, ℕ, ◌≤◌, true, false, List, [], ◌∷◌, ◌++◌, is_some};
 ghost use Rattle.std.specs.List.{AllByRecursion};
 ghost use Rattle.core_world.specs.declared.heap_call.HeapCall.{HeapCall};
-ghost use Rattle.core_world.specs.declared.word_id.WordId.{WordId};
 ghost use Rattle.core_world.specs.Due.{IsNext};
 ghost use Rattle.core_world.specs.Steps.{is_idle};
 ghost use Rattle.core_world.specs.Threads.ThreadView.{StepMade, left_by};
@@ -15,17 +14,19 @@ ghost use Rattle.step_history.specs.Leads.{Leads, steps_by};
 ghost use Rattle.step_history.specs.Overtaken.{WasOvertaken};
 ghost use Rattle.step_history.specs.Turns.{all_step, after_turns, next_of};
 
-/// Not overtaken: a thread that alone made steps (`alone`); one of which the others changed no word (`unchanged`), or none that it saw
-/// (`elsewhere`); one that made all its steps after those of the others, or before them (`later`, `earlier`); and one whose exchange found
-/// what it expected (`hit`). Refuses the conclusion of `calls_race_only_with_another_thread`, which all its clauses have.
+/// Not overtaken: a thread that alone made steps (`alone`); one where no step of another thread changed a word (`unchanged`), or each was at a
+/// word at which the thread itself made none (`elsewhere`); one that made all its steps after those of the others, or before them (`later`,
+/// `earlier`); and one whose exchange found what it expected (`hit`). Refuses the conclusion of `calls_race_only_with_another_thread`, which
+/// all its clauses have.
 pub fn who_was_not_passed_was_not_overtaken()
     ensures alone { (t expected found : ℕ) (xs : List (ℕ × StepMade)) → AllByRecursion (λ (x : ℕ × StepMade). x.0 ≡ t) xs
         → WasOvertaken t expected found xs → ⊥ }
     ensures unchanged { (t expected found : ℕ) (xs : List (ℕ × StepMade))
         → AllByRecursion (λ (x : ℕ × StepMade). (x.0 ≡ t) ⊎ (left_by x.1 ≡ x.1.found)) xs
         → WasOvertaken t expected found xs → ⊥ }
-    ensures elsewhere { (t expected found : ℕ) (at : WordId) (xs : List (ℕ × StepMade))
-        → AllByRecursion (λ (x : ℕ × StepMade). (x.0 ≡ t) × (x.1.plan.at ≡ at) ⊎ (x.0 ≢ t) × (x.1.plan.at ≢ at)) xs
+    ensures elsewhere { (t expected found : ℕ) (xs : List (ℕ × StepMade))
+        → AllByRecursion (λ (x : ℕ × StepMade). (x.0 ≡ t)
+        ⊎ AllByRecursion (λ (y : ℕ × StepMade). y.0 ≡ t → y.1.plan.at ≢ x.1.plan.at) xs) xs
         → WasOvertaken t expected found xs → ⊥ }
     ensures later { (t expected found : ℕ) (newer older : List (ℕ × StepMade))
         → AllByRecursion (λ (x : ℕ × StepMade). x.0 ≡ t) newer → AllByRecursion (λ (x : ℕ × StepMade). x.0 ≢ t) older

@@ -8,7 +8,6 @@ use Rattle.core_steps.proofs.SmallWorlds.{comes_running}
 use Rattle.heap_table.specs.Seen.{HeapSeen, first_pass}
 use Rattle.thread_frame.specs.Frames.{first_frame}
 use Rattle.thread_interp.specs.Runners.{RunnerSeen}
-use Rattle.turn_progress.specs.Turns.{LiveTurns, no_turn}
 
 pub runs : (small.shape.threads ≡ 1) × IsReachable small running × ((running.known 0).running ≡ true)
 unfolding read_safe
@@ -27,6 +26,3 @@ heap =
 
 abbrev pub runner : RunnerSeen
 runner = record { pass = first_pass heap 0 0; frame = first_frame 0; fuel = 0 }
-
-pub begins : (h : HeapSeen) × (r : RunnerSeen) × ((quantum : ℕ) → LiveTurns h quantum r 0 r)
-begins = (heap, runner, λ quantum. no_turn)

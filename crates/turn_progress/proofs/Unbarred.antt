@@ -31,6 +31,7 @@ use Rattle.turn_progress.specs.Barred.{Bars, WaitBars, named_by, IsBarred}
 use Rattle.turn_progress.specs.Turns.{LiveTurns, OthersStand}
 use Rattle.turn_progress.proofs.Barred.{stop_after}
 use Rattle.turn_progress.proofs.LastCalls.{done_or_pended}
+use Rattle.turn_progress.proofs.Lone.{own_bars}
 use Rattle.turn_progress.proofs.Beginning.{heap, runner, limits}
 use Rattle.turn_progress.proofs.Steps.{moved_steps}
 use Rattle.turn_progress.proofs.Turned.{live_spend}
@@ -89,6 +90,14 @@ wait_free waits told owned cause waiting notified free bars =
     (subst (λ (x : Bool). WaitsWhere {A = Unit {0}} true x (Pending cause)) free
     (subst (λ (x : Bool). WaitsWhere {A = Unit {0}} x owned (Pending cause)) notified (subst (λ (x : Bool). WaitBars x told owned cause) waiting bars)))
 
+-- only an enter, a wait and a resume have a bar
+another_free : (w : World) (P : List PlainObject) (t : ℕ) (job : HeapCall) (cause : PendingCause) → Bars w P t job cause
+    → ((o now : ℕ) → job ≢ task.Enter o now) → ((o now : ℕ) → job ≢ task.Wait o now) → job ≢ task.Resume → ⊥
+another_free w P t (task.Enter o now) cause bars enters waits resumes = enters o now refl
+another_free w P t (task.Wait o now) cause bars enters waits resumes = waits o now refl
+another_free w P t task.Resume cause bars enters waits resumes = resumes refl
+another_free w P t job cause bars enters waits resumes = bars
+
 -- the bar of the call that was the turn's last
 bar_of : (h : HeapSeen) (w : World) (t : ℕ) (cause : PendingCause) (r q : RunnerSeen) (b : IsBarred h w t cause r q) (job : HeapCall)
     → b.last.called.call.task ≡ job → Bars b.world b.objects t job cause
@@ -104,28 +113,13 @@ module _ (h : HeapSeen) (w : World) (t o now : ℕ) (cause : PendingCause) (r q 
       wait_free (waits_on (b.world.known t).wait o) (is_told (b.world.words (Waiting t))) (is_other (monitor_of b.objects o).owner t) cause
       waits told free (bar_of h w t cause r q b (task.Wait o now) is).0
 
-  pub notify_goes_on : b.last.called.call.task ≡ task.Notify o now → ⊥
-  notify_goes_on is = bar_of h w t cause r q b (task.Notify o now) is
-
-  pub notify_all_goes_on : b.last.called.call.task ≡ task.NotifyAll o now → ⊥
-  notify_all_goes_on is = bar_of h w t cause r q b (task.NotifyAll o now) is
-
-  pub hash_goes_on : b.last.called.call.task ≡ task.Hash o now → ⊥
-  hash_goes_on is = bar_of h w t cause r q b (task.Hash o now) is
-
-module _ (h : HeapSeen) (w : World) (t o : ℕ) (cause : PendingCause) (r q : RunnerSeen) (b : IsBarred h w t cause r q) where
-  pub exit_goes_on : b.last.called.call.task ≡ task.Exit o → ⊥
-  exit_goes_on is = bar_of h w t cause r q b (task.Exit o) is
-
 module _ (h : HeapSeen) (w : World) (t : ℕ) (cause : PendingCause) (r q : RunnerSeen) (b : IsBarred h w t cause r q) where
   pub resume_goes_on : b.last.called.call.task ≡ task.Resume → is_halted (b.world.words Safepoint) ≡ false → ⊥
   resume_goes_on is on = true≢false (sym (bar_of h w t cause r q b task.Resume is).1 ∙ on)
 
-  pub dump_goes_on : b.last.called.call.task ≡ task.Dump → ⊥
-  dump_goes_on is = bar_of h w t cause r q b task.Dump is
-
-  pub poll_goes_on : b.last.called.call.task ≡ task.Poll → ⊥
-  poll_goes_on is = bar_of h w t cause r q b task.Poll is
+  pub another_goes_on : ((o now : ℕ) → b.last.called.call.task ≢ task.Enter o now) → ((o now : ℕ) → b.last.called.call.task ≢ task.Wait o now)
+      → b.last.called.call.task ≢ task.Resume → ⊥
+  another_goes_on enters waits resumes = another_free b.world b.objects t b.last.called.call.task cause b.bars enters waits resumes
 
 -- FOR WHAT. These causes bar no call.
 abbrev is_bar : PendingCause → Bool
@@ -222,15 +216,29 @@ pub no_thread : (w : World) (t : ℕ) → w.shape.threads ≤ t → OthersStand 
 no_thread w t out o = absurd (omega (arith, out, o.within))
 
 -- BY ITSELF
-pub no_owner_alone : (word safe : ℕ) → LetsGo {A = Unit {0}} (Pending (why.Owned word)) ⊎ ((why.Owned word ≡ why.Halted) × (is_halted safe ≡ true)) → ⊥
-no_owner_alone word safe h = elim h [
+by_no_owner : (word safe : ℕ) → LetsGo {A = Unit {0}} (Pending (why.Owned word)) ⊎ ((why.Owned word ≡ why.Halted) × (is_halted safe ≡ true)) → ⊥
+by_no_owner word safe h = elim h [
   | inl none ↦ none
   | inr halt ↦ absurd (cc halt.0)
 ]
 
-pub no_halt_alone : (safe : ℕ) → is_halted safe ≡ false
-    → LetsGo {A = Unit {0}} (Pending why.Halted) ⊎ ((why.Halted ≡ why.Halted) × (is_halted safe ≡ true)) → ⊥
-no_halt_alone safe on h = elim h [
-  | inl none ↦ none
-  | inr halt ↦ true≢false (sym halt.1 ∙ on)
-]
+pub no_owner_bars : (h : HeapSeen) (w : World) (word : ℕ) (r q : RunnerSeen) → IsInLimits h.heap.shape → h.heap.shape.threads ≡ 1 → IsReachable h.heap w
+    → IsBarred h w 0 (why.Owned word) r q → ⊥
+no_owner_bars h w word r q limits one comes b =
+    by_no_owner word (b.world.words Safepoint) (own_bars h w (why.Owned word) r q b limits one comes)
+
+-- the halt bars only a resume, where the run is halted
+wait_unhalted : (waits told owned : Bool) → WaitBars waits told owned why.Halted → ⊥
+wait_unhalted false told owned bars = bars
+wait_unhalted true told owned bars = bars
+
+halts_only : (w : World) (P : List PlainObject) (t : ℕ) (job : HeapCall) → Bars w P t job why.Halted → is_halted (w.words Safepoint) ≡ true
+halts_only w P t (task.Enter o now) bars = absurd bars.0
+halts_only w P t (task.Wait o now) bars =
+    absurd (wait_unhalted (waits_on (w.known t).wait o) (is_told (w.words (Waiting t))) (is_other (monitor_of P o).owner t) bars.0)
+halts_only w P t task.Resume bars = bars.1
+halts_only w P t job bars = absurd bars
+
+pub no_halt_bars : (h : HeapSeen) (w : World) (r q : RunnerSeen) (b : IsBarred h w 0 why.Halted r q)
+    → is_halted (b.world.words Safepoint) ≡ false → ⊥
+no_halt_bars h w r q b on = true≢false (sym (halts_only b.world b.objects 0 b.last.called.call.task b.bars) ∙ on)

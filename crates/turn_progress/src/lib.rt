@@ -17,6 +17,4 @@ pub use refused::{
     no_owner_blocks_a_thread_by_itself, no_turns_beyond_their_fuel,
     others_that_run_or_ask_do_not_stand,
 };
-pub use witnesses::{
-    a_heap_of_one_thread_comes_to_a_world_in_which_it_runs, a_runner_begins_with_no_turn,
-};
+pub use witnesses::a_heap_of_one_thread_comes_to_a_world_in_which_it_runs;

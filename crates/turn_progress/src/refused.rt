@@ -2,7 +2,6 @@
 
 ghost use Rattle.std.specs.Prelude.{◌≡◌, ◌≢◌, ◌⊎◌, ℕ, ◌+◌, ◌*◌, ◌<◌, ◌≤◌, true, false};
 ghost use Rattle.mark_word.specs.Owner.{read_owner};
-ghost use Rattle.core_world.specs.declared.answer.Progress.TheVariants.{Pending};
 ghost use Rattle.core_world.specs.declared.answer.PendingCause.{PendingCause};
 ghost use Rattle.core_world.specs.declared.answer.PendingCause.TheVariants.{Owned, NotNotified, Raced, Inflating};
 ghost use Rattle.core_world.specs.declared.answer.PendingCause.TheVariants.{Stopping, Requested, Halted};
@@ -14,7 +13,7 @@ ghost use Rattle.core_world.specs.Words.Shape.{IsInLimits};
 ghost use Rattle.core_world.specs.World.{World};
 ghost use Rattle.core_law.specs.Reached.{IsReachable};
 ghost use Rattle.heap_table.specs.Seen.{HeapSeen};
-ghost use Rattle.solo_progress.specs.Answers.{is_other, is_told, LetsGo};
+ghost use Rattle.solo_progress.specs.Answers.{is_other, is_told};
 ghost use Rattle.thread_calls.specs.Advances.{DoneIn};
 ghost use Rattle.thread_frame.specs.Frames.{unspent, has_ended};
 ghost use Rattle.thread_interp.specs.declared.moved.Moved.{Moved};
@@ -38,9 +37,9 @@ pub fn bars_are_not_everywhere()
         → IsReachable h.heap w → (why : PendingCause) × IsBarred h w t why r q) → ⊥ }
 {}
 
-/// Not barred: a turn whose last call could go on, since it was an enter of an object that no other thread owns, a wait
-/// that was told and whose object no other thread owns, or a resume in a run that isn't halted; and a turn whose last
-/// call was of another kind. Refuses the conclusion of `a_turn_left_alone_is_blocked_by_monitors_or_the_halt`.
+/// Not barred: a turn whose last call could go on, since it was an enter of an object that no other thread owns (`enter`), a wait that was
+/// told and whose object no other thread owns (`wait`), or a resume in a run that isn't halted (`resume`); and a turn whose last call was
+/// of any other kind (`another`). Refuses the conclusion of `a_turn_left_alone_is_blocked_by_monitors_or_the_halt`.
 pub fn a_call_that_can_go_on_is_not_barred()
     ensures enter { (h : HeapSeen) (w : World) (t o now : ℕ) (why : PendingCause) (r q : RunnerSeen)
         (b : IsBarred h w t why r q) → b.last.called.call.task ≡ task.Enter o now
@@ -52,18 +51,11 @@ pub fn a_call_that_can_go_on_is_not_barred()
     ensures resume { (h : HeapSeen) (w : World) (t : ℕ) (why : PendingCause) (r q : RunnerSeen)
         (b : IsBarred h w t why r q) → b.last.called.call.task ≡ task.Resume
         → is_halted (b.world.words Safepoint) ≡ false → ⊥ }
-    ensures exit { (h : HeapSeen) (w : World) (t o : ℕ) (why : PendingCause) (r q : RunnerSeen)
-        (b : IsBarred h w t why r q) → b.last.called.call.task ≡ task.Exit o → ⊥ }
-    ensures notify { (h : HeapSeen) (w : World) (t o now : ℕ) (why : PendingCause) (r q : RunnerSeen)
-        (b : IsBarred h w t why r q) → b.last.called.call.task ≡ task.Notify o now → ⊥ }
-    ensures notify_all { (h : HeapSeen) (w : World) (t o now : ℕ) (why : PendingCause) (r q : RunnerSeen)
-        (b : IsBarred h w t why r q) → b.last.called.call.task ≡ task.NotifyAll o now → ⊥ }
-    ensures hash { (h : HeapSeen) (w : World) (t o now : ℕ) (why : PendingCause) (r q : RunnerSeen)
-        (b : IsBarred h w t why r q) → b.last.called.call.task ≡ task.Hash o now → ⊥ }
-    ensures dump { (h : HeapSeen) (w : World) (t : ℕ) (why : PendingCause) (r q : RunnerSeen)
-        (b : IsBarred h w t why r q) → b.last.called.call.task ≡ task.Dump → ⊥ }
-    ensures poll { (h : HeapSeen) (w : World) (t : ℕ) (why : PendingCause) (r q : RunnerSeen)
-        (b : IsBarred h w t why r q) → b.last.called.call.task ≡ task.Poll → ⊥ }
+    ensures another { (h : HeapSeen) (w : World) (t : ℕ) (why : PendingCause) (r q : RunnerSeen)
+        (b : IsBarred h w t why r q)
+        → ((o now : ℕ) → b.last.called.call.task ≢ task.Enter o now)
+        → ((o now : ℕ) → b.last.called.call.task ≢ task.Wait o now)
+        → b.last.called.call.task ≢ task.Resume → ⊥ }
 {}
 
 /// Nothing bars a turn for an exchange that missed, an inflation or a safepoint, whatever its last call was; nor a wait that begins for
@@ -120,11 +112,12 @@ pub fn others_that_run_or_ask_do_not_stand()
     ensures absent { (w : World) (t : ℕ) → w.shape.threads ≤ t → OthersStand w t → ⊥ }
 {}
 
-/// No owner blocks a thread by itself (`owner`), nor does the halt where the run isn't halted (`halt`). Refuses the conclusion of
+/// No owner bars a turn of the thread of a heap of one thread, from whatever world to which the heap comes (`owner`), nor does the halt where
+/// the run isn't halted in the world in which the turn's last call began (`halt`). Refuses the conclusion of
 /// `a_thread_by_itself_is_blocked_by_its_wait_or_the_halt`.
 pub fn no_owner_blocks_a_thread_by_itself()
-    ensures owner { (word safe : ℕ)
-        → LetsGo {A = Unit {0}} (Pending (Owned word)) ⊎ ((Owned word ≡ Halted) × (is_halted safe ≡ true)) → ⊥ }
-    ensures halt { (safe : ℕ) → is_halted safe ≡ false
-        → LetsGo {A = Unit {0}} (Pending Halted) ⊎ ((Halted ≡ Halted) × (is_halted safe ≡ true)) → ⊥ }
+    ensures owner { (h : HeapSeen) (w : World) (word : ℕ) (r q : RunnerSeen) → IsInLimits h.heap.shape
+        → h.heap.shape.threads ≡ 1 → IsReachable h.heap w → IsBarred h w 0 (Owned word) r q → ⊥ }
+    ensures halt { (h : HeapSeen) (w : World) (r q : RunnerSeen) (b : IsBarred h w 0 Halted r q)
+        → is_halted (b.world.words Safepoint) ≡ false → ⊥ }
 {}

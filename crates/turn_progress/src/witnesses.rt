@@ -1,19 +1,10 @@
 //! Laws that what laws of turns ask for comes about. The functions do nothing.
 
 ghost use Rattle.std.specs.Prelude.{◌≡◌, ℕ, true};
-ghost use Rattle.core_law.specs.Logic.{Heap};
 ghost use Rattle.core_law.specs.Reached.{IsReachable};
 ghost use Rattle.core_steps.specs.SmallWorlds.{small, running};
-ghost use Rattle.heap_table.specs.Seen.{HeapSeen};
-ghost use Rattle.thread_interp.specs.Runners.{RunnerSeen};
-ghost use Rattle.turn_progress.specs.Turns.{LiveTurns};
 
 /// A heap of one thread comes to a world in which that thread runs. So what `a_heap_of_one_thread_has_no_others` asks for comes about.
 pub fn a_heap_of_one_thread_comes_to_a_world_in_which_it_runs()
     ensures { (small.shape.threads ≡ 1) × IsReachable small running × ((running.known 0).running ≡ true) }
-{}
-
-/// A runner of a heap has no turn yet. So what `live_turns_do_their_instructions` asks for comes about, for no turns.
-pub fn a_runner_begins_with_no_turn()
-    ensures { (h : HeapSeen) × (r : RunnerSeen) × ((quantum : ℕ) → LiveTurns h quantum r 0 r) }
 {}

@@ -1,5 +1,5 @@
 -- Small heaps come to worlds in which a thread was notified, by computing.
-use Rattle.std.proofs.Common.{◌≡◌, ℕ, true, List, [], ◌∷◌, ◌++◌, Some, refl, sym, ◌∙◌, subst, arith}
+use Rattle.std.proofs.Common.{◌≡◌, ℕ, true, false, List, [], ◌∷◌, ◌++◌, Some, refl, sym, ◌∙◌, subst, arith}
 use Rattle.mark_word.specs.Mark.{read_mark}
 use Rattle.mark_word.specs.Safe.{read_safe}
 use Rattle.mark_word.specs.Owner.{read_owner}
@@ -10,7 +10,7 @@ use Rattle.plain_monitor.specs.Objects.{PlainObject, new_object}
 use Rattle.core_world.specs.declared.heap_call.HeapCall.{HeapCall}
 use Rattle.core_world.specs.declared.word_id.WordId.TheVariants.{Safepoint, Waiting}
 use Rattle.core_world.specs.Due.{steps_due}
-use Rattle.core_world.specs.Locks.{notified_at}
+use Rattle.core_world.specs.Locks.{owner_at, waits_at, notified_at}
 use Rattle.core_world.specs.Opening.{opening}
 use Rattle.core_world.specs.Steps.{is_idle}
 use Rattle.core_world.specs.Threads.ThreadView.{StepMade}
@@ -58,8 +58,8 @@ waits_beside = refl
 
 pub waits_there : (objects : List PlainObject) × IsInLimits rivals.shape × IsReachable rivals (world_of rivals owns_beside)
     × AreAfterLogs (world_of rivals owns_beside) objects
-    × (waits_on ((world_of rivals owns_beside).words (Waiting 0)) 0 ≡ true)
-waits_there = (owned, limits, comes_beside, logs_beside, waits_beside)
+    × (waits_on ((world_of rivals owns_beside).words (Waiting 0)) 0 ≡ true) × (owner_at objects 0 1 ≡ true)
+waits_there = (owned, limits, comes_beside, logs_beside, waits_beside, refl)
 
 -- WHERE IT WAS NOTIFIED
 abbrev called : List PlainObject
@@ -109,10 +109,10 @@ none_resumed_since = refl
 pub left_there : (xs : List (ℕ × StepMade)) × (before after : List PlainObject) × IsInLimits rivals.shape
     × IsReachable rivals (world_of rivals notifies) × Leads (world_of rivals notifies) xs (world_of rivals leaves)
     × AreAfterLogs (world_of rivals notifies) before × AreAfterLogs (world_of rivals leaves) after
-    × (is_listed (notified_at before 0) 0 ≡ true)
+    × (is_listed (notified_at before 0) 0 ≡ true) × (owner_at before 0 1 ≡ true) × (owner_at after 0 1 ≡ false)
     × (resumes_of 0 ((world_of rivals leaves).known 0).log ≡ resumes_of 0 ((world_of rivals notifies).known 0).log)
 left_there =
-    (leads.0, called, left, limits, comes_notified, leads.1, logs_notified, logs_left, refl, none_resumed_since ∙ sym none_resumed)
+    (leads.0, called, left, limits, comes_notified, leads.1, logs_notified, logs_left, refl, refl, refl, none_resumed_since ∙ sym none_resumed)
 
 -- A HALTED RUN in which thread 1 keeps the object from which it notified thread 0, and waits on another one
 pair_limits : IsInLimits pair.shape
@@ -144,5 +144,5 @@ halted = refl
 
 pub halted_there : (objects : List PlainObject) × IsInLimits pair.shape × IsReachable pair (world_of pair halts_owned)
     × AreAfterLogs (world_of pair halts_owned) objects × (is_halted ((world_of pair halts_owned).words Safepoint) ≡ true)
-    × (is_listed (notified_at objects 0) 0 ≡ true)
-halted_there = (kept, pair_limits, comes_halted, logs_halted, halted, refl)
+    × (is_listed (notified_at objects 0) 0 ≡ true) × (owner_at objects 0 1 ≡ true) × (is_listed (waits_at objects 1) 1 ≡ true)
+halted_there = (kept, pair_limits, comes_halted, logs_halted, halted, refl, refl, refl)

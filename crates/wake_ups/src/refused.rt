@@ -34,8 +34,8 @@ pub fn no_notify_without_its_store()
 /// waiting word.
 ///
 /// Its step leads from no valid world to a valid one (`step`). So its tree keeps no world valid in which a running
-/// thread makes it (`refused`). And a heap comes to such a world, in which thread 0 waits and thread 1 owns the
-/// object (`there`).
+/// thread makes it (`refused`). And a heap comes to such a world, in which thread 0 waits and thread 1 runs
+/// (`there`).
 ///
 /// Refuses a conclusion of `no_wake_up_is_lost`.
 pub fn no_notify_that_stores_nothing()
@@ -47,6 +47,8 @@ pub fn no_notify_that_stores_nothing()
         → DoesSteps heap fresh (publish_steps (Notify o (Some u)) e (local_of k)) k → ⊥ }
     ensures there { (e : CallContext)
         → IsReachable rivals (world_of rivals owns_beside)
+        × (waits_on ((world_of rivals owns_beside).words (Waiting 0)) 0 ≡ true)
+        × (((world_of rivals owns_beside).known 1).running ≡ true)
         × (DoesSteps rivals true
         (publish_steps (Notify 0 (Some 0)) e (local_of ((world_of rivals owns_beside).known 1)))
         ((world_of rivals owns_beside).known 1) → ⊥) }
