@@ -1,6 +1,6 @@
 //! Laws that what is said of calls is refused where a tree of steps, an answer, or what a thread knows is wrong in
 //! one way. The functions do nothing.
-ghost use Rattle.std.specs.Prelude.{◌≡◌, ◌≢◌, ℕ, ◌+◌, ◌≤◌, ◌<◌, Bool, true, false, bit_and, is_none, length, reverse};
+ghost use Rattle.std.specs.Prelude.{◌≡◌, ◌≢◌, ℕ, ◌+◌, ◌≤◌, ◌<◌, Bool, true, false, is_none, length, reverse};
 ghost use Rattle.std.specs.Prelude.{List, [], ◌∷◌, ◌++◌};
 ghost use Rattle.std.specs.Prelude.{Option, Some, None, Ok, Err};
 ghost use Rattle.std.specs.List.{AllByRecursion};
@@ -8,7 +8,6 @@ ghost use Rattle.lock_policy.specs.declared.policy.Verdict.{Verdict};
 ghost use Rattle.mark_word.specs.declared.mark.MarkForm.TheVariants.{Neutral, Anonymous, Biased, Locked};
 ghost use Rattle.mark_word.specs.declared.wait.WaitForm.TheVariants.{Entering, Waiting};
 ghost use Rattle.mark_word.specs.Mark.{mark_of};
-ghost use Rattle.mark_word.specs.Safe.{read_safe};
 ghost use Rattle.mark_word.specs.Wait.{wait_of};
 ghost use Rattle.plain_monitor.specs.History.{last_stamp};
 ghost use Rattle.plain_monitor.specs.ValueWords.{word_of};
@@ -27,6 +26,7 @@ ghost use Rattle.core_world.specs.declared.answer.PendingCause.TheVariants as wh
 ghost use Rattle.core_world.specs.declared.answer.Progress.TheVariants.{Done, Pending};
 ghost use Rattle.core_world.specs.declared.answer.StackOut.TheVariants.{Left, Monitor};
 ghost use Rattle.core_world.specs.declared.answer.TooDeep.{TooDeep};
+ghost use Rattle.core_world.specs.declared.answer.TooMany.{TooMany};
 ghost use Rattle.core_world.specs.declared.heap_call.HeapCall.TheVariants as task;
 ghost use Rattle.core_world.specs.declared.heap_call.Operation.TheVariants as op;
 ghost use Rattle.core_world.specs.declared.heap_call.Unfinished.{Unfinished};
@@ -45,16 +45,16 @@ ghost use Rattle.core_world.specs.Trees.CreateSteps.{creating, class_plan, make_
 ghost use Rattle.core_world.specs.Trees.HashSteps.{NextDraw, draw_plan};
 ghost use Rattle.core_world.specs.Trees.LockSteps.{log_enter_plan, leave_plan};
 ghost use Rattle.core_world.specs.Trees.Operations.{lone_context, enter_steps, print_steps, finish_steps};
-ghost use Rattle.core_world.specs.Trees.Operations.{revocation_steps, get_plan, put_plan};
+ghost use Rattle.core_world.specs.Trees.Operations.{revocation_steps, get_plan, put_plan, create_steps, dump_steps};
+ghost use Rattle.core_world.specs.Trees.Operations.{check_steps};
 ghost use Rattle.core_world.specs.Trees.Plans.{CallContext, call_context, load, swap, with_own};
 ghost use Rattle.core_world.specs.Trees.SafepointSteps.{stop_plan, release_plan, halt_steps, resume_swap_steps};
 ghost use Rattle.core_world.specs.Trees.SafepointSteps.{request_swap_steps};
-ghost use Rattle.core_world.specs.Trees.SafepointSteps.{reached_word, running_too, resume_plan, all_but};
+ghost use Rattle.core_world.specs.Trees.SafepointSteps.{reached_word, stop_steps, resume_steps};
 ghost use Rattle.core_world.specs.Due.{Ran};
 ghost use Rattle.core_world.specs.Trees.StepTree.{done, step, ask, all_from, after_answer};
 ghost use Rattle.core_world.specs.Trees.WaitSteps.{log_resume_plan, notify_plan, notify_all_plan, publish_plan};
 ghost use Rattle.core_world.specs.Trees.WaitSteps.{waiters, by_age};
-ghost use Rattle.core_world.specs.Words.Forms.{runs_in};
 ghost use Rattle.core_world.specs.Words.Shape.{Shape};
 ghost use Rattle.core_calls.specs.Bounds.{IsWithin, after_class, most_steps};
 ghost use Rattle.core_calls.specs.CallsSay.{is_full, has_none, lets_go, EnterSays, ExitSays, StackEnterSays};
@@ -176,9 +176,9 @@ pub fn no_notify_wakes_another_waiter()
     ensures number { length (waiters 0 0 (0 ∷ wait_of (Waiting 0 1) ∷ [])) ≡ 0 → ⊥ }
 {}
 
-/// A create of an object whose number isn't the thread's next, and one that stores no class word; one whose New has a
-/// stamp that leaves a gap after the thread's last; and one that is refused and leaves an operation unfinished:
-/// `create_logs_its_object` doesn't say so.
+/// A create of an object whose number isn't the thread's next, and one that stores no class word; a run of one that
+/// logs its New with another stamp than the next after the thread's last; and a run of one that is refused, after
+/// which its thread knows something else: `create_logs_its_object` doesn't say so.
 pub fn no_create_makes_another_object()
     ensures number { (s : Shape) (k : Start) (c o : ℕ) → o ≢ next_made s k.local
         → Says (step (load (lone_context (task.Create c)) (id.Prototype c))
@@ -186,11 +186,12 @@ pub fn no_create_makes_another_object()
         (λ y. done (Ok o))))) (CreateSays s k c) → ⊥ }
     ensures class { (s : Shape) (k : Start) (c o mark : ℕ)
         → Says (step (make_plan (creating o c) o c mark) (λ x. done (Ok o))) (CreateSays s k c) → ⊥ }
-    ensures stamped { (k : ThreadView) (o c : ℕ)
-        → k.log ++ record { stamp = last_stamp k.log + 2; entry = entry.New o c } ∷ []
-        ≡ k.log ++ record { stamp = last_stamp k.log + 1; entry = entry.New o c } ∷ [] → ⊥ }
-    ensures refused { (k : ThreadView) (u : Unfinished) → k.unfinished ≡ None
-        → record k { unfinished = Some u } ≡ k → ⊥ }
+    ensures stamped { (s : Shape) (k : Start) (c : ℕ) (shape : Shape) (start o stamp : ℕ) (before after : ThreadView)
+        → stamp ≢ last_stamp before.log + 1
+        → after.log ≡ before.log ++ record { stamp = stamp; entry = entry.New o c } ∷ []
+        → Ran shape start (create_steps s k c) before after (Ok o) → ⊥ }
+    ensures refused { (s : Shape) (k : Start) (c : ℕ) (shape : Shape) (start : ℕ) (before after : ThreadView)
+        (e : TooMany) → after ≢ before → Ran shape start (create_steps s k c) before after (Err e) → ⊥ }
 {}
 
 /// A hash that is logged as not drawn, and that no header had; and one that was drawn with another number than the
@@ -198,8 +199,8 @@ pub fn no_create_makes_another_object()
 /// `get_logs_its_answer` doesn't. A put that stores another word than its value's: `put_logs_its_value` doesn't. A
 /// print of another value: `print_logs_its_value` doesn't. A finish with another ending: `finish_logs_its_ending`
 /// doesn't. A dump with another number than that of the thread's next shot, and one that hasn't released its
-/// safepoint; one that is done and keeps no shot, and one that is pending and keeps one: `dump_logs_its_answer`
-/// doesn't.
+/// safepoint; a run of a dump that is done and leaves its thread the shots that it had, and a run of one that is
+/// pending and adds a shot to them: `dump_logs_its_answer` doesn't.
 pub fn no_call_tells_another_value()
     ensures hash_undrawn { (e : CallContext) (k : Start) (o t value : ℕ)
         → Says (step (publish_plan e t (entry.Hash o value None) 0) (λ x. done (Done value))) (HashSays k o) → ⊥ }
@@ -220,16 +221,20 @@ pub fn no_call_tells_another_value()
     ensures dump_unreleased { (e : CallContext) (k : Start)
         → Says (step (publish_plan e k.local.thread (entry.Dump (k.shots + 1)) (length k.local.log + 1))
         (λ x. done (Ok (Done (k.shots + 1))))) (DumpSays k) → ⊥ }
-    ensures dump_keeps { (k : ThreadView) (number : ℕ)
-        → (shot : DumpShot) × (k.shots ≡ k.shots ++ shot ∷ []) × (shot.number ≡ number) → ⊥ }
-    ensures dump_pends { (k : ThreadView) (shot : DumpShot) → k.shots ++ shot ∷ [] ≡ k.shots → ⊥ }
+    ensures dump_keeps { (s : Shape) (k : Start) (shape : Shape) (start number : ℕ) (before after : ThreadView)
+        → length before.shots ≡ k.shots → after.shots ≡ before.shots
+        → Ran shape start (dump_steps s k) before after (Ok (Done number)) → ⊥ }
+    ensures dump_pends { (s : Shape) (k : Start) (shape : Shape) (start : ℕ) (before after : ThreadView)
+        (cause : PendingCause) (shot : DumpShot) → after.shots ≡ before.shots ++ shot ∷ []
+        → Ran shape start (dump_steps s k) before after (Ok (Pending cause)) → ⊥ }
 {}
 
 /// A poll that is done though its word has a requester: `poll_logs_nothing` doesn't say so. A stop that publishes
-/// nothing; and one after which thread 0 knows itself running: `stop_logs_nothing` doesn't. A resume that doesn't
-/// look whether the run is halted; and one of thread 0 after which that knows itself stopped, though its exchange
-/// found that no thread ran: `resume_logs_nothing` doesn't. A check that answers true and puts the release in place
-/// of the halt; and a thread that doesn't know of the halt: `check_logs_nothing` doesn't. A request that doesn't look
+/// nothing; and a run of one after which thread 0 knows itself running: `stop_logs_nothing` doesn't. A resume that
+/// doesn't look whether the run is halted; and a run of one after which thread 0 knows itself stopped, though its
+/// exchange found that no thread ran: `resume_logs_nothing` doesn't. A check that answers true and puts the release
+/// in place of the halt; and a run of one that answers true, after which its thread doesn't know of the halt:
+/// `check_logs_nothing` doesn't. A request that doesn't look
 /// whether there is another: `request_logs_nothing` doesn't. A look that is done though a thread runs:
 /// `reached_logs_nothing` doesn't. A release that puts the halt: `release_logs_nothing` doesn't. A check that answers
 /// true though its only thread is ready, and one that answers false though that waits:
@@ -239,16 +244,19 @@ pub fn no_call_at_the_safepoint_word_answers_otherwise()
         → Says (step (load e id.Safepoint) (λ word. done (Done tt))) (PollSays k) → ⊥ }
     ensures stop { (e : CallContext) (k : Start)
         → Says (step (stop_plan e k.local.thread) (λ word. done tt)) (StopSays k) → ⊥ }
-    ensures stop_leaves { (word : ℕ) → true ≡ runs_in (bit_and word (all_but 0)) 0 → ⊥ }
+    ensures stop_leaves { (k : Start) (shape : Shape) (start : ℕ) (before after : ThreadView)
+        → k.local.thread ≡ 0 → before.thread ≡ 0 → after.running ≡ true
+        → Ran shape start (stop_steps (side_context task.Stop k) k.local) before after tt → ⊥ }
     ensures resume { (e : CallContext) (k : Start)
         → Says (step (load e id.Safepoint) (λ word. resume_swap_steps e k.local word)) (ResumeSays k) → ⊥ }
-    ensures resume_leaves { (k : Start) (ms : List StepMade)
-        → (word : ℕ) × (false ≡ runs_in (running_too (read_safe word) 0) 0) × ((steps : List StepMade)
-        × (record { plan = resume_plan (side_context task.Resume k) 0 0; found = 0 } ∷ ms
-        ≡ record { plan = resume_plan (side_context task.Resume k) 0 word; found = word } ∷ steps)) → ⊥ }
+    ensures resume_leaves { (k : Start) (shape : Shape) (start : ℕ) (before after : ThreadView) (p : StepPlan)
+        (ms : List StepMade) → k.local.thread ≡ 0 → before.thread ≡ 0
+        → after.steps ≡ record { plan = p; found = 0 } ∷ ms → after.running ≡ false
+        → Ran shape start (resume_steps (side_context task.Resume k) k.local) before after (Done tt) → ⊥ }
     ensures check { (e : CallContext) (k : Start)
         → Says (step (release_plan e Settled 0) (λ x. done (Done true))) (CheckSays k) → ⊥ }
-    ensures check_halted { (t : ℕ) → (first_known t).halted ≡ true → ⊥ }
+    ensures check_halted { (s : Shape) (k : Start) (shape : Shape) (start : ℕ) (before after : ThreadView)
+        → after.halted ≡ false → Ran shape start (check_steps s k) before after (Done true) → ⊥ }
     ensures request { (e : CallContext) (k : Start)
         → Says (step (load e id.Safepoint) (λ word. request_swap_steps e k.local.thread word)) (RequestSays k) → ⊥ }
     ensures reached { (e : CallContext) (k : Start)
@@ -321,8 +329,8 @@ pub fn no_step_counts_by_another_moment()
 /// without steps and was stopped before; and none makes a path of one step and has the steps that it had:
 /// `a_run_follows_a_path_of_its_tree` doesn't say so. Nor is there a run to an answer that isn't its tree's, which
 /// `every_path_of_a_tree_is_run` doesn't say. No thread has logged an entry and has its old log; none has
-/// logged nothing and has one entry more; and none has logged one entry and has another at the end of its log:
-/// `steps_make_of_knowledge_what_they_leave` doesn't say so.
+/// logged nothing and has another log than its old one; and none has logged one entry and has its old log with
+/// another entry: `steps_make_of_knowledge_what_they_leave` doesn't say so.
 pub fn no_run_leaves_its_tree()
     ensures unstepped { (s : Shape) (start n : ℕ) (p : StepPlan) (k : ThreadView)
         → FollowsTree s start (ask p) k k n → ⊥ }
@@ -333,9 +341,10 @@ pub fn no_run_leaves_its_tree()
     ensures path { (n : ℕ) (p : StepPlan) (k : ThreadView) → Tells k k (λ ms. IsPath (ask p) [] ms n) → ⊥ }
     ensures did { (e : Entry) (u : Option Unfinished) (check : Bool) (k l : ThreadView) → l.log ≡ k.log
         → ThreadHasLogged (e ∷ []) u check k l → ⊥ }
-    ensures none { (k : ThreadView) (x : Logged) → k.log ++ x ∷ [] ≡ k.log → ⊥ }
-    ensures one { (k : ThreadView) (x : Logged) (e : Entry) → x.entry ≢ e
-        → (stamp : ℕ) × (k.log ++ x ∷ [] ≡ k.log ++ record { stamp = stamp; entry = e } ∷ []) → ⊥ }
+    ensures none { (u : Option Unfinished) (check : Bool) (k l : ThreadView) → l.log ≢ k.log
+        → ThreadHasLogged [] u check k l → ⊥ }
+    ensures one { (e : Entry) (u : Option Unfinished) (check : Bool) (k l : ThreadView) (x : Logged) → x.entry ≢ e
+        → l.log ≡ k.log ++ x ∷ [] → ThreadHasLogged (e ∷ []) u check k l → ⊥ }
 {}
 
 /// Where a thread's log is what it was, its steps were none of a call that is done and logs: not of an enter or an

@@ -13,8 +13,11 @@ use Rattle.core_world.specs.Trees.SafepointSteps.{running_too, reached_word, rel
 use Rattle.core_world.specs.Words.Forms.{runs_in, is_still, runs_form}
 use Rattle.core_world.specs.declared.act.Act.{Act}
 use Rattle.core_world.specs.declared.act.Act.TheVariants.{CompareExchange}
+use Rattle.core_calls.proofs.safepoint.Leaving.{check_halts, stop_publishes, resume_runs}
 use Rattle.core_calls.specs.Paths.{made}
 use Rattle.core_calls.specs.Stuck.{GoesByWait, Goes, AllGo}
+use Rattle.core_world.specs.Trees.Calls.{side_context}
+use Rattle.core_world.specs.declared.heap_call.HeapCall.TheVariants as task
 use Rattle.core_world.specs.declared.word_id.WordId.TheVariants as id
 use Rattle.core_calls.proofs.refused.no_call_at_the_safepoint_word_answers_otherwise.Goals as goal
 
@@ -94,7 +97,12 @@ returns-clause-stop z e k says = elim (says.by 0).1 [
 ]
 
 pub returns-clause-stop_leaves : goal.returns-clause-stop_leaves
-returns-clause-stop_leaves z word = no_bit (bit_and word (all_but 0)) (cleared word)
+returns-clause-stop_leaves z k shape start before after first own runs ran =
+    let left = (stop_publishes shape start k before after ran).1 in
+    let word = left.0 in
+    let so : true ≡ runs_in (bit_and word (all_but 0)) 0 =
+    sym runs ∙ left.1 ∙ ap (λ (t : ℕ). runs_in (bit_and word (all_but t)) before.thread) first ∙ ap (λ (t : ℕ). runs_in (bit_and word (all_but 0)) t) own in
+    no_bit (bit_and word (all_but 0)) (cleared word) so
 
 pub returns-clause-resume : goal.returns-clause-resume
 unfolding read_safe
@@ -106,11 +114,15 @@ returns-clause-resume z e k says = elim (says.by halted_word halted_word).1 [
 
 pub returns-clause-resume_leaves : goal.returns-clause-resume_leaves
 unfolding read_safe
-returns-clause-resume_leaves z k ms so =
-    let same : 0 ≡ so.0 = ap first_found so.2.1 in
-    let runs : true ≡ runs_in (running_too (read_safe so.0) 0) 0 = ap (λ (word : ℕ). runs_in (running_too (read_safe word) 0) 0) same in
-    let stopped = so.1 in
-    absurd (cc (runs, stopped))
+returns-clause-resume_leaves z k shape start before after p ms first own steps stops ran =
+    let left = resume_runs shape start (side_context task.Resume k) k.local before after ran in
+    let same : 0 ≡ left.0 = ap first_found (sym steps ∙ left.2.1) in
+    let by_word : after.running ≡ runs_in (running_too (read_safe 0) k.local.thread) before.thread =
+    left.1 ∙ sym (ap (λ (word : ℕ). runs_in (running_too (read_safe word) k.local.thread) before.thread) same) in
+    let so : after.running ≡ runs_in (running_too (read_safe 0) 0) 0 =
+    by_word ∙ ap (λ (t : ℕ). runs_in (running_too (read_safe 0) t) before.thread) first ∙ ap (λ (t : ℕ). runs_in (running_too (read_safe 0) 0) t) own in
+    let runs : true ≡ runs_in (running_too (read_safe 0) 0) 0 = refl in
+    absurd (cc (so, runs, stops))
 
 pub returns-clause-check : goal.returns-clause-check
 returns-clause-check z e k says = elim (says.by 0).1 [
@@ -119,7 +131,8 @@ returns-clause-check z e k says = elim (says.by 0).1 [
 ]
 
 pub returns-clause-check_halted : goal.returns-clause-check_halted
-returns-clause-check_halted z t is = absurd (cc is)
+returns-clause-check_halted z s k shape start before after none ran =
+    let halted = check_halts shape start s k before after ran in absurd (cc (halted, none))
 
 pub returns-clause-request : goal.returns-clause-request
 unfolding read_safe

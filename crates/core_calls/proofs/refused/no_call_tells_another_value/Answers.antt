@@ -10,6 +10,7 @@ use Rattle.core_world.specs.Trees.WaitSteps.{publish_plan}
 use Rattle.core_world.specs.declared.act.Act.TheVariants.{Store}
 use Rattle.core_world.specs.declared.word_id.WordId.TheVariants.{Mark}
 use Rattle.core_calls.proofs.Untold.{none_behind}
+use Rattle.core_calls.proofs.shot.ShotsKept.{dump_shoots, dump_pends}
 use Rattle.core_calls.specs.CallsSay.{IsDraw}
 use Rattle.core_calls.specs.Paths.{made}
 use Rattle.plain_monitor.specs.declared.entry.Entry.TheVariants as entry
@@ -66,7 +67,13 @@ returns-clause-dump_unreleased z e k says = elim (says.by 0).1.2 [
 ]
 
 pub returns-clause-dump_keeps : goal.returns-clause-dump_keeps
-returns-clause-dump_keeps z k number kept = let none = none_behind k.shots (kept.0 ∷ []) kept.1 in absurd (cc none)
+returns-clause-dump_keeps z s k shape start number before after before_it same ran =
+    let shot = dump_shoots shape start s k before after number before_it ran in
+    let none = none_behind before.shots (shot.0 ∷ []) (sym same ∙ shot.1) in
+    absurd (cc none)
 
 pub returns-clause-dump_pends : goal.returns-clause-dump_pends
-returns-clause-dump_pends z k shot same = let none = none_behind k.shots (shot ∷ []) (sym same) in absurd (cc none)
+returns-clause-dump_pends z s k shape start before after cause shot more ran =
+    let same = dump_pends shape start s k before after cause ran in
+    let none = none_behind before.shots (shot ∷ []) (sym same ∙ more) in
+    absurd (cc none)

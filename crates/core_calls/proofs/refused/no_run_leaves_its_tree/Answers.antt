@@ -4,7 +4,7 @@ use Rattle.plain_monitor.specs.declared.entry.Entry.{Entry}
 use Rattle.plain_monitor.specs.declared.entry.Logged.{Logged}
 use Rattle.core_world.specs.Steps.{known_along}
 use Rattle.core_world.specs.Threads.ThreadView.{ThreadView, StepMade}
-use Rattle.core_calls.proofs.Runs.{knows}
+use Rattle.core_calls.proofs.Runs.{knows, did_none, did_one}
 use Rattle.core_calls.proofs.Untold.{none_behind, none_before}
 use Rattle.core_calls.specs.Stands.{stopped}
 use Rattle.core_calls.proofs.refused.no_run_leaves_its_tree.Goals as goal
@@ -39,7 +39,8 @@ returns-clause-did z e u check k l same so =
     absurd (cc empty)
 
 pub returns-clause-none : goal.returns-clause-none
-returns-clause-none z k x same = let none = none_behind k.log (x ∷ []) (sym same) in absurd (cc none)
+returns-clause-none z u check k l differ so = differ (did_none u check k l so)
 
 pub returns-clause-one : goal.returns-clause-one
-returns-clause-one z k x e differ so = differ (ap (first_entry e) (append_cancel_left k.log _ _ so.1))
+returns-clause-one z e u check k l x differ logs so =
+    let one = did_one e u check k l so in differ (ap (first_entry e) (append_cancel_left k.log _ _ (sym logs ∙ one.1)))
