@@ -11,3 +11,4 @@ pub mod AfterCall
 pub mod Waited
 pub mod Walked
 pub mod OnTime
+pub mod OtherPasses
