@@ -11,3 +11,4 @@ pub mod CanonicalBlocks
 pub mod CanonicalSections
 pub mod CanonicalSyncs
 pub mod Written
+pub mod WrongTexts

@@ -3,4 +3,5 @@ pub mod Blocks
 pub mod Reading
 pub mod Refusal
 pub mod Canonical
+pub mod Examples
 pub mod inner

@@ -13,13 +13,19 @@ mod error;
 mod laws;
 mod plain;
 mod reader;
+mod refused;
 mod section;
 mod spelling;
 mod state;
+mod witnesses;
 mod word;
 mod write;
 
 pub use error::{SyncError, SyncRefusalCause};
 pub use laws::{canonical_texts_are_read_back, no_block_is_open_at_an_end};
 pub use reader::read_sync;
+pub use refused::{
+    a_block_is_open_at_its_done, no_text_is_read_back_as_what_is_no_program_with_blocks,
+};
+pub use witnesses::threads_with_blocks_have_a_text;
 pub use write::write_sync;
