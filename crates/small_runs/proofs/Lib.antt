@@ -9,3 +9,5 @@ pub mod TurnWorlds
 pub mod Turned
 pub mod RivalWorlds
 pub mod Rivalled
+pub mod WaitWorlds
+pub mod Waited

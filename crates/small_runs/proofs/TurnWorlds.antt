@@ -92,7 +92,7 @@ made_entered : HasMade 0 entered 9 2
 unfolding steps_due is_idle steps_of read_safe read_mark read_hold read_wait read_owner ring_bits polled entered
 made_entered = record { number = refl; polled = refl }
 
-made_turned : HasMade 0 turned 11 2
+pub made_turned : HasMade 0 turned 11 2
 unfolding steps_due is_idle steps_of read_safe read_mark read_hold read_wait read_owner ring_bits polled entered turned
 made_turned = record { number = refl; polled = refl }
 
@@ -150,7 +150,8 @@ to_barred = goes_by 0 halted (Resume ∷ []) 38 0 39 0 0 refl made_halted made_b
 -- and in each turn
 pub first_turn : Goes 0 (world_of lone []) turned 2
 first_turn =
-    goes_further 0 (world_of lone []) polled turned 2 0 2 to_polled (goes_further 0 polled entered turned 0 0 0 to_entered to_turned (omega arith)) (omega arith)
+    goes_further 0 (world_of lone []) polled turned 2 0 2 to_polled
+    (goes_further 0 polled entered turned 0 0 0 to_entered to_turned (omega arith)) (omega arith)
 
 pub last_turn : Goes 0 turned ended 1
 last_turn =

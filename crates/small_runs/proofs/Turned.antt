@@ -36,11 +36,11 @@ use Rattle.small_runs.proofs.TurnWorlds.{to_polled, to_entered, to_left, to_fini
 use Rattle.small_runs.proofs.TurnWorlds.{entered_runs, finished_runs, turned_stands, ended_stands, barred_stands}
 use Rattle.small_runs.proofs.Worlds.{limits}
 
-abbrev first : World
+abbrev pub first : World
 first = world_of lone []
 
 -- what the first turn did
-abbrev goes_on : Moved
+abbrev pub goes_on : Moved
 goes_on = record { instructions = 2; state = Live }
 
 module _ (table : TableId) where
@@ -48,7 +48,7 @@ module _ (table : TableId) where
   h = lone_in table
 
   -- THE LAST CALLS of the turns, with the stops after them
-  stops : (w v : World) → (w.known 0).running ≡ true
+  pub stops : (w v : World) → (w.known 0).running ≡ true
       → DoneIn h (pass_in h w) (pass_in h v) Stop → IsSetStill (w.known 0).running h (pass_in h w) (pass_in h v)
   stops w v runs done = subst (λ b. IsSetStill b h (pass_in h w) (pass_in h v)) (sym runs) done
 
@@ -149,7 +149,7 @@ module _ (table : TableId) where
     stands = barred_stands;
   }
 
-  first_alone : TurnAlone h 2 0 first (runner_at_first table) turned (runner_halfway table) goes_on
+  pub first_alone : TurnAlone h 2 0 first (runner_at_first table) turned (runner_halfway table) goes_on
   first_alone = record { moved = live_turn; steps = first_turn.steps; moves = first_turn.moves; knew = refl; knows = refl }
 
   last_alone : TurnAlone h 2 0 turned (runner_halfway table) ended (runner_at_end table) ends

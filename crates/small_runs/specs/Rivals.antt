@@ -1,5 +1,5 @@
 -- A turn of a thread of a small program in a heap of two threads: it refers to the object, which the other thread holds, and is to enter it.
-use Rattle.std.specs.Prelude.{[], ◌∷◌, ◌++◌, replicate, Some}
+use Rattle.std.specs.Prelude.{[], ◌∷◌, ◌++◌, replicate}
 use Rattle.atomic_table.specs.Seated.{TableId}
 use Rattle.mark_word.specs.declared.owner.OwnerForm.TheVariants.{ByRecord}
 use Rattle.mark_word.specs.Owner.{owner_of}
@@ -8,7 +8,6 @@ use Rattle.core_world.specs.declared.answer.PendingCause.TheVariants.{Owned}
 use Rattle.core_world.specs.declared.heap_call.HeapCall.TheVariants.{Enter, Poll, Stop, Resume}
 use Rattle.core_world.specs.World.{World}
 use Rattle.plain_machine.specs.declared.monitor_call.MonitorCall.TheVariants as call
-use Rattle.plain_machine.specs.declared.monitor_call.Mode.TheVariants.{Calling}
 use Rattle.step_history.specs.Examples.{world_of, enters}
 use Rattle.step_history.specs.Race.{rivals}
 use Rattle.step_history.specs.Turns.{after_turns}
@@ -33,11 +32,11 @@ taken = world_of rivals (enters 0 ++ replicate 2 (0, Stop))
 unfoldable pub arrived : World
 arrived = after_turns (turns_of 1 (Resume ∷ Resume ∷ Poll ∷ Poll ∷ [])) taken
 
-unfoldable pub refused : World
-refused = after_turns (turns_of 1 (replicate 13 (Enter 0 0))) arrived
+unfoldable pub pended : World
+pended = after_turns (turns_of 1 (replicate 13 (Enter 0 0))) arrived
 
 unfoldable pub kept_out : World
-kept_out = after_turns (turns_of 1 (replicate 2 Stop)) refused
+kept_out = after_turns (turns_of 1 (replicate 2 Stop)) pended
 
 -- its frame after the turn: it stands before its enter
 abbrev pub before_enter : FrameSeen

@@ -1,4 +1,4 @@
--- Small runs: a heap of one thread, the turns of its thread from the opening world on, and what the thread knows then.
+-- Small runs: a heap of one thread, the turns of its thread from the opening world on, and what a thread knows then.
 use Rattle.std.specs.Prelude.{ℕ, List, [], ◌∷◌, ◌++◌, replicate, true}
 use Rattle.atomic_table.specs.Seated.{TableId}
 use Rattle.plain_monitor.specs.declared.entry.Ending.TheVariants.{Done}

@@ -20,8 +20,9 @@ ghost use Rattle.thread_frame.specs.Frames.{unspent};
 ghost use Rattle.thread_interp.specs.declared.moved.RunState.TheVariants.{Blocked};
 ghost use Rattle.turn_progress.specs.Barred.{IsBarred};
 ghost use Rattle.turn_progress.specs.Turns.{LiveTurns, LiveAlone, OthersStand, TurnAlone};
-ghost use Rattle.small_runs.specs.Turns.{turned, ended, halted, barred, begun, ends, finds_the_halt};
-ghost use Rattle.small_runs.specs.Turns.{runner_at_first, runner_halfway, runner_at_end, runner_halted, runner_barred};
+ghost use Rattle.small_runs.specs.Turns.{turned, ended, waited, halted, barred, begun, not_notified};
+ghost use Rattle.small_runs.specs.Turns.{ends, lets_go, finds_the_halt};
+ghost use Rattle.small_runs.specs.Turns.{runner_at_first, runner_halfway, runner_at_end, runner_waiting, runner_halted, runner_barred};
 ghost use Rattle.small_runs.specs.Rivals.{rivals_in, taken, kept_out, runner_of_rival, runner_kept_out};
 ghost use Rattle.small_runs.specs.Rivals.{other_owns, finds_the_owner};
 ghost use Rattle.small_runs.specs.Runs.{lone_biased, all_known, has_finished, has_finished_biased, lone_in, pass_in};
@@ -87,4 +88,20 @@ pub fn a_turn_can_be_blocked_by_another_thread_that_owns_its_object()
         × (unspent begun < 0 * 4 + 4) }
     ensures barred { (table : TableId) → IsBarred (rivals_in table) taken 1 other_owns (runner_of_rival table)
         (runner_kept_out table) }
+{}
+
+/// Turns of at most two instructions of the thread of a small program, alone in its heap. After a live one the next one is blocked, since its wait
+/// has let go of the object and isn't notified (`blocked`); and so the thread is barred (`barred`). So the premises are met of
+/// `turn_progress::a_turn_left_alone_is_blocked_by_monitors_or_the_halt`, `turn_progress::a_thread_left_alone_ends_or_is_barred` and
+/// `turn_progress::a_thread_by_itself_is_blocked_by_its_wait_or_the_halt` where the thread waits.
+pub fn a_turn_can_be_blocked_by_its_own_wait()
+    ensures blocked { (table : TableId) → IsInLimits lone.shape × IsReachable lone (world_of lone [])
+        × OthersStand (world_of lone []) 0
+        × LiveAlone (lone_in table) 2 0 (world_of lone []) (runner_at_first table) 1 turned (runner_halfway table)
+        × TurnAlone (lone_in table) 2 0 turned (runner_halfway table) waited (runner_waiting table) lets_go
+        × (lets_go.state ≡ Blocked not_notified)
+        × (unspent begun < 1 * 2 + 2) }
+    ensures barred { (table : TableId) → IsInLimits lone.shape × (lone.shape.threads ≡ 1) × IsReachable lone turned
+        × OthersStand turned 0
+        × IsBarred (lone_in table) turned 0 not_notified (runner_halfway table) (runner_waiting table) }
 {}
