@@ -1,5 +1,5 @@
 -- Why threads, logs and machines that are wrong are refused.
-use Rattle.std.proofs.Common.{◌≡◌, ℕ, ◌+◌, ◌*◌, ◌<◌, ◌≤◌, true, false, List, [], ◌∷◌, ◌++◌, length, drop}
+use Rattle.std.proofs.Common.{◌≡◌, ◌≢◌, ℕ, ◌+◌, ◌*◌, ◌<◌, ◌≤◌, true, false, List, [], ◌∷◌, ◌++◌, length, drop}
 use Rattle.std.proofs.Common.{slice_get, Option, Some, None, option_and_then, refl, sym, subst, ◌∙◌, arith, eq-eqb}
 use Rattle.std.proofs.lemmas.Option.{same_Some}
 use Rattle.plain_monitor.specs.declared.entry.Entry.{Entry}
@@ -7,12 +7,14 @@ use Rattle.plain_monitor.specs.declared.entry.Entry.TheVariants as entry
 use Rattle.plain_monitor.specs.declared.entry.Logged.{Logged}
 use Rattle.plain_monitor.specs.declared.entry.Path.{Path}
 use Rattle.plain_monitor.specs.declared.entry.Value.TheVariants.{Ref}
+use Rattle.plain_monitor.specs.History.{objects_after}
+use Rattle.plain_monitor.specs.Objects.{PlainObject}
 use Rattle.plain_monitor.specs.Order.{order}
 use Rattle.plain_history.specs.Cuts.{logs_since}
 use Rattle.plain_history.specs.Joined.{run_log}
 use Rattle.plain_history.specs.Known.{knows_by_log}
 use Rattle.plain_history.proofs.Joined.{first_some}
-use Rattle.object_program.specs.Program.{ProgramText, objects_total, numbering_of}
+use Rattle.object_program.specs.Program.{ProgramText, objects_total, numbering_of, shape_of}
 use Rattle.object_program.specs.Valid.{IsProgram}
 use Rattle.plain_machine.specs.declared.monitor_call.MonitorCall.TheVariants as call
 use Rattle.plain_machine.specs.declared.monitor_call.NextEntry.TheVariants.{Calls}
@@ -86,6 +88,19 @@ module _ (p : ProgramText) (fuel t : ℕ) where
   not_referred x o log s valid unknown refers h =
       let known = local_told p fuel t log s valid h x o refers in
       absurd (cc (unknown, known))
+
+  -- two threads that a log leads to are one
+  pub not_elsewhere : (log : List Logged) (s now : ThreadState) → FollowsCode p fuel t log s → FollowsCode p fuel t log now → s ≢ now → ⊥
+  not_elsewhere log s now h g differ =
+      let step = thread_after p (code_of p t) in
+      let first = same_Some h.first g.first (sym h.there ∙ g.there) in
+      let leads = subst (λ (x : ThreadState). run_log step x log ≡ Some s) first h.leads in
+      differ (same_Some s now (sym leads ∙ g.leads))
+
+-- MACHINES
+pub no_other_objects : (p : ProgramText) (logs : List (List Logged)) (m : PlainMachine) (objects : List PlainObject)
+    → objects_after (shape_of p) logs ≡ Some m.objects → objects_after (shape_of p) logs ≡ Some objects → m.objects ≢ objects → ⊥
+no_other_objects p logs m objects has after differ = differ (same_Some m.objects objects (sym has ∙ after))
 
 -- THE EXAMPLES
 pub not_the_rest : HasFollowed printers 8 0 (drop 1 (prints_from 1)) → ⊥

@@ -14,7 +14,7 @@ pub use cuts::machines_pass_through_a_cut_in_order;
 pub use joins::{logs_that_follow_the_code_are_legal, the_machine_is_what_the_logs_make_it};
 pub use refused::{
     no_log_with_an_entry_that_its_code_does_not_ask, no_logs_of_two_owners_are_legal,
-    no_machine_passes_through_a_cut_that_leaves_out_an_earlier_entry,
+    no_machine_beside_its_logs, no_machine_passes_through_a_cut_that_leaves_out_an_earlier_entry,
     no_reference_that_no_entry_brought, no_thread_beyond_its_holds_or_its_fuel,
     no_thread_stands_elsewhere_than_its_log_says,
 };

@@ -1,7 +1,7 @@
 //! Laws that what is said of a thread and its log is refused where it is wrong. The functions do nothing.
 
 ghost use Rattle.std.specs.Prelude.{◌≡◌, ◌≢◌, ◌+◌, ◌*◌, ◌<◌, ◌≤◌, ◌++◌, ◌∷◌, [], ℕ, true, false, List, length, sum, drop, slice_get, Some, None};
-ghost use Rattle.object_program.specs.Program.{ProgramText, objects_total, numbering_of};
+ghost use Rattle.object_program.specs.Program.{ProgramText, objects_total, numbering_of, shape_of};
 ghost use Rattle.object_program.specs.Valid.{IsProgram};
 ghost use Rattle.plain_history.specs.Known.{knows_by_log};
 ghost use Rattle.plain_machine.specs.Asking.{ask, thread_after};
@@ -12,7 +12,9 @@ ghost use Rattle.plain_machine.specs.Thread.{ThreadState, local, holds_of};
 ghost use Rattle.plain_machine.specs.declared.monitor_call.MonitorCall.TheVariants as call;
 ghost use Rattle.plain_machine.specs.declared.monitor_call.Mode.TheVariants.{Ended};
 ghost use Rattle.plain_machine.specs.declared.monitor_call.NextEntry.TheVariants.{Calls};
+ghost use Rattle.plain_monitor.specs.History.{log_of, objects_after};
 ghost use Rattle.plain_monitor.specs.Limits.{most_holds};
+ghost use Rattle.plain_monitor.specs.Objects.{PlainObject};
 ghost use Rattle.plain_monitor.specs.declared.entry.Ending.{Ending};
 ghost use Rattle.plain_monitor.specs.declared.entry.Entry.TheVariants as entry;
 ghost use Rattle.plain_monitor.specs.declared.entry.Path.{Path};
@@ -20,8 +22,10 @@ ghost use Rattle.plain_monitor.specs.declared.entry.Value.TheVariants.{Ref};
 ghost use Rattle.plain_monitor.specs.declared.entry.Logged.{Logged};
 ghost use Rattle.machine_laws.specs.ReachedThread.{IsThreadOf};
 ghost use Rattle.thread_logs.specs.Examples.{printers, entered, prints_from, in_turn};
-ghost use Rattle.thread_logs.specs.Followed.{FollowsCode, HasFollowed, HaveValues};
+ghost use Rattle.thread_logs.specs.Followed.{FollowsCode, HasFollowed, HaveFollowed, HaveValues};
 ghost use Rattle.thread_logs.specs.Passed.{IsOnTheWay};
+
+use crate::joins::the_machine_is_what_the_logs_make_it;
 
 /// An entry that its thread's code doesn't ask: no log goes on with one. So no thread has moved on before its first entry, and the rest
 /// of a log that follows its code needn't follow it, though each front does.
@@ -90,9 +94,28 @@ pub fn no_machine_passes_through_a_cut_that_leaves_out_an_earlier_entry()
 /// Logs of two threads that own the object at once, though each follows its own code: they are no program's, and no machine is under
 /// them.
 ///
-/// Refuses the conclusions of `logs_that_follow_the_code_are_legal` and `the_machine_is_what_the_logs_make_it`.
+/// Refuses the conclusion of `logs_that_follow_the_code_are_legal`, and what `the_machine_is_what_the_logs_make_it` asks for.
 pub fn no_logs_of_two_owners_are_legal()
     ensures legal { IsLegal printers 8 ((entered 1 ∷ []) ∷ (entered 2 ∷ []) ∷ []) → ⊥ }
     ensures machine { (m : PlainMachine)
         → machine_after printers 8 ((entered 1 ∷ []) ∷ (entered 2 ∷ []) ∷ []) ≡ Some m → ⊥ }
 {}
+
+/// A machine under logs that follow their threads' code, and that has other objects than those after the logs, or a thread more or less
+/// than the program; or one of whose threads stands elsewhere than the thread that its log leads to.
+///
+/// Refuses the conclusions of `the_machine_is_what_the_logs_make_it`.
+pub fn no_machine_beside_its_logs()
+    ensures objects { (p : ProgramText) (fuel : ℕ) (logs : List (List Logged)) (m : PlainMachine)
+        (objects : List PlainObject) → HaveFollowed p fuel logs
+        → objects_after (shape_of p) logs ≡ Some objects → m.objects ≢ objects
+        → machine_after p fuel logs ≡ Some m → ⊥ }
+    ensures threads { (p : ProgramText) (fuel : ℕ) (logs : List (List Logged)) (m : PlainMachine)
+        → HaveFollowed p fuel logs → length m.threads ≢ length p.threads
+        → machine_after p fuel logs ≡ Some m → ⊥ }
+    ensures each { (p : ProgramText) (fuel t : ℕ) (logs : List (List Logged)) (m : PlainMachine) (s now : ThreadState)
+        → HaveFollowed p fuel logs → FollowsCode p fuel t (log_of logs t) now
+        → slice_get m.threads t ≡ Some s → s ≢ now → machine_after p fuel logs ≡ Some m → ⊥ }
+{
+    the_machine_is_what_the_logs_make_it();
+}
