@@ -1,5 +1,5 @@
 -- Where turns begin: a heap of one thread, and a runner of it before its first turn.
-use Rattle.std.proofs.Common.{◌≡◌, ℕ, true, [], refl, arith}
+use Rattle.std.proofs.Common.{◌≡◌, true, [], refl, arith}
 use Rattle.mark_word.specs.Safe.{read_safe}
 use Rattle.core_world.specs.Words.Shape.{IsInLimits}
 use Rattle.core_law.specs.Reached.{IsReachable}

@@ -3,7 +3,7 @@
 ghost use Rattle.std.specs.Prelude.{◌≡◌, ◌≢◌, ◌⊎◌, ℕ, ◌+◌, ◌*◌, ◌<◌, ◌≤◌, true, false};
 ghost use Rattle.mark_word.specs.Owner.{read_owner};
 ghost use Rattle.core_world.specs.declared.answer.PendingCause.{PendingCause};
-ghost use Rattle.core_world.specs.declared.answer.PendingCause.TheVariants.{Owned, NotNotified, Raced, Inflating};
+ghost use Rattle.core_world.specs.declared.answer.PendingCause.TheVariants.{Owned, Raced, Inflating};
 ghost use Rattle.core_world.specs.declared.answer.PendingCause.TheVariants.{Stopping, Requested, Halted};
 ghost use Rattle.core_world.specs.declared.heap_call.HeapCall.TheVariants as task;
 ghost use Rattle.core_world.specs.declared.word_id.WordId.TheVariants.{Safepoint, Waiting};

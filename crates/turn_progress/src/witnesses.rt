@@ -1,6 +1,6 @@
 //! Laws that what laws of turns ask for comes about. The functions do nothing.
 
-ghost use Rattle.std.specs.Prelude.{◌≡◌, ℕ, true};
+ghost use Rattle.std.specs.Prelude.{◌≡◌, true};
 ghost use Rattle.core_law.specs.Reached.{IsReachable};
 ghost use Rattle.core_steps.specs.SmallWorlds.{small, running};
 
