@@ -1,6 +1,6 @@
 -- Why ends of heaps that are wrong are refused.
 use Rattle.std.proofs.Common.{◌≡◌, ◌≢◌, ◌⊎◌, ℕ, zero, suc, ◌+◌, ◌<◌, ◌≤◌, ◌==◌, ◌&&◌, ◌||◌, not, Bool, true, false, List, [], ◌∷◌, ◌++◌}
-use Rattle.std.proofs.Common.{length, Option, Some, None, refl, sym, ap, ◌∙◌, arith, inl, inr, eq-eqb, ne_eqb, eqb-true, if◌then◌else◌, ◌*◌, ◌%◌}
+use Rattle.std.proofs.Common.{length, Option, Some, None, refl, sym, ap, ◌∙◌, subst, arith, inl, inr, eq-eqb, ne_eqb, eqb-true, if◌then◌else◌, ◌*◌, ◌%◌}
 use Rattle.std.specs.Prelude.{slice_get, slice_index, is_some}
 use Rattle.std.specs.List.{list_any}
 use Rattle.std.proofs.lemmas.Option.{same_Some}
@@ -252,6 +252,17 @@ module _ (s : Shape) (words : List ℕ) (ks : List ThreadView) where
 
   pub kept_and_named : (t o m : ℕ) → kept_by ks t ≡ Some m → IsNamed s words o m → MonitorsAreApart s words ks → ⊥
   kept_and_named t o m kept named apart = (apart.kept t m kept).1 o named
+
+  module _ (apart : MonitorsAreApart s words ks) (p : ℕ) where
+    pub ringed_and_named : (o m : ℕ) → apart.first ≤ p → p < apart.first + apart.ringed → ringed_at s words p ≡ m → IsNamed s words o m → ⊥
+    ringed_and_named o m from to here named = (apart.stands p from to).1 o (subst (IsNamed s words o) (sym here) named)
+
+    pub ringed_and_kept : (t m : ℕ) → apart.first ≤ p → p < apart.first + apart.ringed → ringed_at s words p ≡ m → kept_by ks t ≡ Some m → ⊥
+    ringed_and_kept t m from to here kept = (apart.stands p from to).2 t (kept ∙ ap Some (sym here))
+
+    pub ringed_twice : (q m : ℕ) → apart.first ≤ p → p < apart.first + apart.ringed → apart.first ≤ q → q < apart.first + apart.ringed
+        → q ≢ p → ringed_at s words p ≡ m → ringed_at s words q ≡ m → ⊥
+    ringed_twice q m from to after before differs here there = differs ((apart.stands p from to).3 q after before (there ∙ sym here))
 
   pub lost : (m : ℕ) → m < monitor_count s → 0 < length s.objects → ((t : ℕ) → kept_by ks t ≢ Some m) → IsNamedNowhere s words m
       → ((p : ℕ) → ringed_at s words p ≢ m) → MonitorsAreApart s words ks → ⊥

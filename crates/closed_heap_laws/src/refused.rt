@@ -1,6 +1,6 @@
 //! Laws that what is said of a heap's end is refused where it is wrong. The functions do nothing.
 
-ghost use Rattle.std.specs.Prelude.{◌≡◌, ◌≢◌, ◌<◌, ◌∷◌, [], ℕ, true, false, List, length, slice_get, slice_index, Option, Some, None};
+ghost use Rattle.std.specs.Prelude.{◌≡◌, ◌≢◌, ◌+◌, ◌<◌, ◌≤◌, ◌∷◌, [], ℕ, true, false, List, length, slice_get, slice_index, Option, Some, None};
 ghost use Rattle.plain_history.specs.Cuts.{cut_logs};
 ghost use Rattle.plain_history.specs.ExactStamps.{StampsAreExact};
 ghost use Rattle.plain_history.specs.Known.{two_threads, made_late, printed_early};
@@ -127,8 +127,9 @@ pub fn no_prototype_beside_the_counted_verdicts()
         → heap.biasing ≡ false → slice_index words (place_of heap.shape (Prototype c)) ≡ 5 → IsEnd heap words ks → ⊥ }
 {}
 
-/// A monitor that two marks name, two threads keep, or both a mark and a thread have; one that is nowhere; and an object that a thread waits
-/// on, and that has none.
+/// A monitor that two marks name, two threads keep, or both a mark and a thread have; one that stands at a ring position of those at which
+/// monitors stand, and that a mark names, that a thread keeps, or that stands at another one of these, too; one that is nowhere; and an object
+/// that a thread waits on, and that has none.
 ///
 /// Refuses the conclusion of `monitors_at_the_end_are_apart`.
 pub fn no_monitor_in_two_places_or_in_none()
@@ -138,6 +139,16 @@ pub fn no_monitor_in_two_places_or_in_none()
         → kept_by ks u ≡ Some m → MonitorsAreApart s words ks → ⊥ }
     ensures both { (s : Shape) (words : List ℕ) (ks : List ThreadView) (t o m : ℕ) → kept_by ks t ≡ Some m
         → IsNamed s words o m → MonitorsAreApart s words ks → ⊥ }
+    ensures ring_and_mark { (s : Shape) (words : List ℕ) (ks : List ThreadView) (p o m : ℕ)
+        (apart : MonitorsAreApart s words ks) → apart.first ≤ p → p < apart.first + apart.ringed
+        → ringed_at s words p ≡ m → IsNamed s words o m → ⊥ }
+    ensures ring_and_thread { (s : Shape) (words : List ℕ) (ks : List ThreadView) (p t m : ℕ)
+        (apart : MonitorsAreApart s words ks) → apart.first ≤ p → p < apart.first + apart.ringed
+        → ringed_at s words p ≡ m → kept_by ks t ≡ Some m → ⊥ }
+    ensures ring_twice { (s : Shape) (words : List ℕ) (ks : List ThreadView) (p q m : ℕ)
+        (apart : MonitorsAreApart s words ks) → apart.first ≤ p → p < apart.first + apart.ringed
+        → apart.first ≤ q → q < apart.first + apart.ringed → q ≢ p
+        → ringed_at s words p ≡ m → ringed_at s words q ≡ m → ⊥ }
     ensures lost { (s : Shape) (words : List ℕ) (ks : List ThreadView) (m : ℕ) → m < monitor_count s
         → 0 < length s.objects → ((t : ℕ) → kept_by ks t ≢ Some m) → IsNamedNowhere s words m
         → ((p : ℕ) → ringed_at s words p ≢ m) → MonitorsAreApart s words ks → ⊥ }

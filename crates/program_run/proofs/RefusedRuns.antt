@@ -34,7 +34,7 @@ use Rattle.program_run.specs.PlainRun.{IsMadeBy, IsPlainRun, plain_text}
 use Rattle.program_run.specs.Ran.{IsRan}
 use Rattle.program_run.specs.Verdicts.{entries_in, most_verdicts}
 use Rattle.program_run.proofs.PlainRuns.{plain_run}
-use Rattle.program_run.proofs.Verdicts.{operations_few}
+use Rattle.program_run.proofs.Verdicts.{operations_few, revoked_late}
 
 -- PLAIN RUNS. What a run of some settings makes is a plain run.
 some_machine : (x : Option PlainMachine) → IsSome x → (m : PlainMachine) × (x ≡ Some m)
@@ -160,9 +160,11 @@ pub no_run_so_early : (s : Settings) (p : ProgramText) (r : RunRecord) (c : Clos
 no_run_so_early s p r c line entries live classes one ran =
     too_early r line entries live classes one (operations_few r c ran.biases)
 
-pub revoked_early : (r : RunRecord) (line : ClassLine) → r.classes ≡ line ∷ [] → line.revoke ≡ 1
-    → AllByRecursion (λ (l : ClassLine). l.revoke ≡ 0) r.classes → ⊥
-revoked_early r line classes one none =
+pub no_run_revoked_so_early : (s : Settings) (p : ProgramText) (r : RunRecord) (c : ClosedSeen) (line : ClassLine) → entries_in r.logs ≡ 4
+    → r.halted ≡ false → r.classes ≡ line ∷ [] → line.revoke ≡ 1 → IsRan s p r c → ⊥
+no_run_revoked_so_early s p r c line entries live classes one ran =
+    let most = most_is r entries live in
+    let none = revoked_late r c ran.biases (omega (arith, most)) in
     let here = subst (AllByRecursion (λ (l : ClassLine). l.revoke ≡ 0)) classes none in
     let zero_there = here.0 in
     omega (arith, one, zero_there)

@@ -2,7 +2,7 @@
 
 ghost use Rattle.std.specs.Prelude.{◌≡◌, ℕ, ◌+◌, ◌*◌, ◌<◌, ◌≤◌, Bool, false, List, [], ◌∷◌, ◌++◌, take};
 ghost use Rattle.std.specs.Prelude.{slice_get, slice_index, Some, None, IsTrue};
-ghost use Rattle.std.specs.List.{AllByRecursion, sum_by};
+ghost use Rattle.std.specs.List.{sum_by};
 ghost use Rattle.heap_table.specs.Seen.{ClosedSeen};
 ghost use Rattle.lock_journal.specs.MachineCells.{cells_in};
 ghost use Rattle.lock_journal.specs.RunText.{text_of_run};
@@ -100,15 +100,15 @@ pub fn no_dump_that_misses_an_owner()
         → record { owner = None; count = 0 } ∷ [] ≡ cells_in m → ⊥ }
 {}
 
-/// Four entries come to no five verdicts, and to no bulk operation. Refuses the conclusions of `verdicts_come_of_entries`, and so no run has such a
-/// record (`run`).
+/// Four entries come to no five verdicts, and to no bulk operation. Refuses the conclusions of `verdicts_come_of_entries`. So no run has a record of
+/// four entries and a bulk rebias (`run`), or of four entries and a bulk revoke (`late`).
 pub fn no_verdicts_beyond_the_entries()
     ensures verdicts { (r : RunRecord) (line : ClassLine) → entries_in r.logs ≡ 4 → r.halted ≡ false → r.classes ≡ line ∷ []
         → line.single ≡ 5 → sum_by verdicts_on r.classes ≤ most_verdicts r → ⊥ }
     ensures bulk { (r : RunRecord) (line : ClassLine) → entries_in r.logs ≡ 4 → r.halted ≡ false → r.classes ≡ line ∷ []
         → line.rebias ≡ 1 → rebias_threshold * sum_by (λ l. l.rebias + l.revoke) r.classes ≤ most_verdicts r → ⊥ }
-    ensures late { (r : RunRecord) (line : ClassLine) → r.classes ≡ line ∷ [] → line.revoke ≡ 1
-        → AllByRecursion (λ l. l.revoke ≡ 0) r.classes → ⊥ }
+    ensures late { (s : Settings) (p : ProgramText) (r : RunRecord) (c : ClosedSeen) (line : ClassLine)
+        → entries_in r.logs ≡ 4 → r.halted ≡ false → r.classes ≡ line ∷ [] → line.revoke ≡ 1 → IsRan s p r c → ⊥ }
     ensures run { (s : Settings) (p : ProgramText) (r : RunRecord) (c : ClosedSeen) (line : ClassLine) → entries_in r.logs ≡ 4
         → r.halted ≡ false → r.classes ≡ line ∷ [] → line.rebias ≡ 1 → IsRan s p r c → ⊥ }
 {}

@@ -150,6 +150,25 @@ pub no_check : (heap : Heap) (w : World) (objects : List PlainObject) (t : ℕ)
 no_check heap w objects t ready =
     not_so (checks heap w objects t ready) (Done (not (stands_still w.shape w.words))) (λ p. not_itself (stands_still w.shape w.words) (cc p))
 
+-- pending though they are done
+pub no_hash_pends : (heap : Heap) (w : World) (objects : List PlainObject) (t o now : ℕ) (why : PendingCause)
+    → MayCallAlone heap w objects t (task.Hash o now)
+    → GetsThrough heap w t (task.Hash o now) (hash_steps w.shape (start_in w t) o now) (λ a. a ≡ Pending why) → ⊥
+no_hash_pends heap w objects t o now why ready =
+    not_so (hashes heap w objects t o now ready) (Pending why) (λ p. absurd (cc p))
+
+pub no_dump_pends : (heap : Heap) (w : World) (objects : List PlainObject) (t : ℕ) (why : PendingCause)
+    → MayCallAlone heap w objects t task.Dump
+    → GetsThrough heap w t task.Dump (dump_steps w.shape (start_in w t)) (λ a. a ≡ Ok (Pending why)) → ⊥
+no_dump_pends heap w objects t why ready =
+    not_so (dumps heap w objects t ready) (Ok (Pending why)) (λ p. absurd (cc (p.1)))
+
+pub no_check_pends : (heap : Heap) (w : World) (objects : List PlainObject) (t : ℕ) (why : PendingCause)
+    → MayCallAlone heap w objects t task.Check
+    → GetsThrough heap w t task.Check (check_steps w.shape (start_in w t)) (λ a. a ≡ Pending why) → ⊥
+no_check_pends heap w objects t why ready =
+    not_so (checks heap w objects t ready) (Pending why) (λ p. absurd (cc p))
+
 pub no_owned : (heap : Heap) (w : World) (objects : List PlainObject) (t o now : ℕ) (path : Path)
     → MayCallAlone heap w objects t (task.Enter o now) → is_other (monitor_of objects o).owner t ≡ true
     → GetsThrough heap w t (task.Enter o now) (enter_steps w.shape (start_in w t) o now) (λ a. a ≡ Ok (Done path)) → ⊥

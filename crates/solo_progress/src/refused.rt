@@ -1,5 +1,6 @@
-//! Laws that trees which are weakened in one way each don't get through alone, and that no call answers otherwise than the laws say. The
-//! functions do nothing.
+//! Laws that what is said of a thread that is left alone is refused where it is wrong: that a weakened tree gets through; that a call
+//! answers in a way that a clause here names, as pending where it is done, or with another value; that a run finds what nobody left; and
+//! that a mark or a prototype is empty. The functions do nothing.
 
 ghost use Rattle.std.specs.Prelude.{◌≡◌, ◌≢◌, ℕ, ◌+◌, not, Bool, true, false, List, [], ◌∷◌, Some, None, Result, Ok};
 ghost use Rattle.mark_word.specs.Mark.{read_mark};
@@ -57,8 +58,9 @@ pub fn no_wait_that_forgets_its_notify()
         → AnswersAlone f (forgetful_steps e t) (WaitsWhere (is_told (f (Waiting t))) owned) → ⊥ }
 {}
 
-/// A call of a thread that is left alone answers otherwise than is due: it is pending; or a get, a hash or a dump answers another value,
-/// hash or number, and a check the opposite.
+/// A call of a thread that is left alone answers otherwise than is due: an exit, a hash, a notify, a notifyall, a dump or a check is
+/// pending; a get, a hash or a dump answers another value, hash or number, and a check the opposite; or a get or a put is refused with a
+/// hold, or goes through without one.
 ///
 /// Refuses the conclusions of `a_thread_left_alone_gets_through`.
 pub fn no_call_left_alone_answers_otherwise()
@@ -77,6 +79,9 @@ pub fn no_call_left_alone_answers_otherwise()
     ensures hash { (heap : Heap) (w : World) (objects : List PlainObject) (t o now hash : ℕ)
         → MayCallAlone heap w objects t (task.Hash o now) → hash ≢ hash_due objects o (start_in w t)
         → GetsThrough heap w t (task.Hash o now) (hash_steps w.shape (start_in w t) o now) (λ a. a ≡ Done hash) → ⊥ }
+    ensures hash_pends { (heap : Heap) (w : World) (objects : List PlainObject) (t o now : ℕ) (why : PendingCause)
+        → MayCallAlone heap w objects t (task.Hash o now)
+        → GetsThrough heap w t (task.Hash o now) (hash_steps w.shape (start_in w t) o now) (λ a. a ≡ Pending why) → ⊥ }
     ensures notify { (heap : Heap) (w : World) (objects : List PlainObject) (t o now : ℕ) (why : PendingCause)
         → MayCallAlone heap w objects t (task.Notify o now)
         → GetsThrough heap w t (task.Notify o now) (notify_steps w.shape (start_in w t) o now)
@@ -88,10 +93,16 @@ pub fn no_call_left_alone_answers_otherwise()
     ensures dump { (heap : Heap) (w : World) (objects : List PlainObject) (t number : ℕ)
         → MayCallAlone heap w objects t task.Dump → number ≢ (start_in w t).shots + 1
         → GetsThrough heap w t task.Dump (dump_steps w.shape (start_in w t)) (λ a. a ≡ Ok (Done number)) → ⊥ }
+    ensures dump_pends { (heap : Heap) (w : World) (objects : List PlainObject) (t : ℕ) (why : PendingCause)
+        → MayCallAlone heap w objects t task.Dump
+        → GetsThrough heap w t task.Dump (dump_steps w.shape (start_in w t)) (λ a. a ≡ Ok (Pending why)) → ⊥ }
     ensures check { (heap : Heap) (w : World) (objects : List PlainObject) (t : ℕ)
         → MayCallAlone heap w objects t task.Check
         → GetsThrough heap w t task.Check (check_steps w.shape (start_in w t))
         (λ a. a ≡ Done (not (stands_still w.shape w.words))) → ⊥ }
+    ensures check_pends { (heap : Heap) (w : World) (objects : List PlainObject) (t : ℕ) (why : PendingCause)
+        → MayCallAlone heap w objects t task.Check
+        → GetsThrough heap w t task.Check (check_steps w.shape (start_in w t)) (λ a. a ≡ Pending why) → ⊥ }
 {}
 
 /// An enter of a thread that is left alone goes through though another thread owns the object by the logs, or is pending though none does.
