@@ -1,2 +1,3 @@
 -- What only the private contracts of this crate cite: its own steps, states and invariants.
 pub mod Parts
+pub mod OwnBias

@@ -1,5 +1,5 @@
 //! How a thread takes a hold under a bias.
-ghost use Rattle.std.specs.Prelude.{◌≡◌, ◌<◌, length, Some};
+ghost use Rattle.std.specs.Prelude.{◌≡◌, ◌<◌, length, Some, true};
 ghost use Rattle.mark_word.specs.Mark.{read_mark};
 ghost use Rattle.core_world.specs.Threads.ThreadView.{local_of};
 ghost use Rattle.core_world.specs.Trees.BiasSteps.{took_steps, rebias_steps, bias_valid_steps};
@@ -8,6 +8,8 @@ ghost use Rattle.heap_table.specs.Parts.{IsDueOn, HasMadeSteps};
 ghost use Rattle.heap_table.specs.Seen.{IsOf};
 ghost use Rattle.bias_lock.specs.Kept.{IsKeptUnlessTook};
 ghost use Rattle.bias_lock.specs.inner.Parts.{prototype_enter};
+ghost use Rattle.bias_lock.specs.inner.OwnBias.{IsOwnBias};
+ghost use Rattle.core_world.specs.Words.Forms.{is_biased};
 
 use crate::drops::unbias;
 use core_world::{BiasTry, Stage, WordId};
@@ -159,6 +161,28 @@ fn enter_by_prototype(
     }
 }
 
+// Whether this mark, which has the bias pattern, is a bias to the thread that is valid by the prototype: the prototype is a bias to nobody,
+// and the mark has its epoch and the thread's number, raised by one, from bit 8 on. Both words are compared without being decoded.
+#[inline(always)]
+fn is_own_bias(mark: u64, prototype: u64, thread: u32) -> bool
+    requires biased { is_biased mark ≡ true }
+    requires few { thread < 16 }
+    ensures { result ≡ true → IsOwnBias mark prototype thread }
+{
+    let low = prototype % 8;
+    let age = prototype / 8 % 32;
+    let raised = prototype / 1024;
+    let own = prototype / 256 + (thread as u64 + 1) * 4;
+    if low == 0b101 {
+        if age < 16 {
+            if raised == 0 {
+                return mark / 256 == own;
+            }
+        }
+    }
+    false
+}
+
 // An enter by a biased mark: the class's prototype says whether the class may be biased, and which epoch is valid.
 fn enter_biased(
     heap: &Heap,
@@ -170,6 +194,7 @@ fn enter_biased(
 ) -> BiasTry
     requires heap { IsOf heap.now pass.old }
     requires object { object < length heap.now.heap.shape.objects }
+    requires biased { is_biased mark ≡ true }
     requires due { IsDueOn heap.now pass.old call.now.task
         (prototype_enter call.now (local_of pass.old.known) class object mark) }
     requires room { length pass.old.known.log < pass.old.limit }
@@ -177,6 +202,10 @@ fn enter_biased(
         pass.old pass.new result }
 {
     let prototype = heap.load(pass, call, Stage::Settled, WordId::Prototype { class });
+    let own = pass.thread();
+    if is_own_bias(mark, prototype, own) {
+        return log_biased_enter(heap, pass, call, object, Path::BiasOwn);
+    }
     match mark_of_word(prototype) {
         Some(form) => enter_by_prototype(heap, pass, call, object, mark, prototype, form),
         None => unreachable!(),

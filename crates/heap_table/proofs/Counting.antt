@@ -1,7 +1,7 @@
 -- Counts of verdicts and of holds.
 use Rattle.std.proofs.Common.{◌≡◌, ℕ, zero, suc, ◌+◌, ◌<◌, ◌≤◌, ◌==◌, eq-eqb, ne_eqb, List, [], ◌∷◌, ◌++◌}
 use Rattle.std.proofs.Common.{length, get_or, take, Bool, true, false, cond, refl, sym, ap, arith}
-use Rattle.std.specs.Prelude.{slice_set}
+use Rattle.std.specs.Prelude.{slice_index, slice_set}
 use Rattle.lock_policy.specs.declared.policy.Verdict.{Verdict}
 use Rattle.core_world.specs.Threads.Counts.{CountedVerdict, counts_of, with_verdict_counted, with_reset, with_verdict}
 use Rattle.core_world.specs.Locks.{count_where}
@@ -59,3 +59,27 @@ number_more test p (suc i) (x ∷ xs) h =
     let e : p + 1 + i ≡ p + suc i = omega arith in
     let b = ap (λ q. one_if (test q (get_or xs i 0))) e in
     omega (arith, a, b)
+
+-- the same once a word was stored
+pub number_stored : (test : ℕ → ℕ → Bool) (i : ℕ) (hs : List ℕ) (p x : ℕ) → p < length hs
+    → count_where test i (slice_set hs p x) + one_if (test (i + p) (slice_index hs p)) ≡ count_where test i hs + one_if (test (i + p) x)
+number_stored test i [] p x h = absurd (omega (arith, h))
+number_stored test i (y ∷ hs) zero x h =
+    let e : i + 0 ≡ i = omega arith in
+    let a = ap (λ k. one_if (test k y)) e in
+    let b = ap (λ k. one_if (test k x)) e in omega (arith, a, b)
+number_stored test i (y ∷ hs) (suc p) x h =
+    let r = number_stored test (i + 1) hs p x (omega (arith, h)) in
+    let e : i + 1 + p ≡ i + suc p = omega arith in
+    let a = ap (λ k. one_if (test k (slice_index hs p))) e in
+    let b = ap (λ k. one_if (test k x)) e in
+    omega (arith, r, a, b)
+
+-- at most all
+pub number_few : (test : ℕ → ℕ → Bool) (i : ℕ) (hs : List ℕ) → count_where test i hs ≤ length hs
+number_few test i [] = omega arith
+number_few test i (y ∷ hs) = let r = number_few test (i + 1) hs in let one = at_most (test i y) in omega (arith, r, one)
+  where
+    at_most : (b : Bool) → one_if b ≤ 1
+    at_most true = omega arith
+    at_most false = omega arith

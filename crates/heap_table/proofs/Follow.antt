@@ -1,5 +1,5 @@
 -- What a pass keeps follows its thread's step, where the step hits.
-use Rattle.std.proofs.Common.{◌≡◌, ℕ, ◌+◌, ◌≤◌, length, length-append, append-nil, arith, ◌==◌, Bool, true, false}
+use Rattle.std.proofs.Common.{◌≡◌, ℕ, ◌+◌, ◌<◌, ◌^◌, ◌≤◌, length, length-append, append-nil, arith, ◌==◌, Bool, true, false}
 use Rattle.std.proofs.Common.{cond, List, [], ◌∷◌, ◌++◌, Option, Some, None, refl, sym, ap, ◌∙◌, subst}
 use Rattle.plain_monitor.specs.declared.entry.Entry.{Entry}
 use Rattle.plain_monitor.specs.declared.entry.Entry.TheVariants as entry
@@ -33,6 +33,8 @@ use Rattle.lock_policy.specs.Draws.{state_after}
 use Rattle.heap_table.specs.Tallies.{counts_shown}
 use Rattle.heap_table.specs.declared.afters.Stand.{Stand}
 use Rattle.heap_table.specs.declared.mirror.Mirror.{Mirror}
+use Rattle.core_world.specs.Trees.Plans.{CallContext, load}
+use Rattle.heap_table.proofs.Idling.{looked_idle}
 use Rattle.heap_table.specs.Kept.{Mirrors, LogHasRoom, IsPageFrom}
 use Rattle.heap_table.specs.inner.Kept.{entry_after, with_any_entry, stand_after, made_after}
 use Rattle.std.proofs.lemmas.List.{drop-append-le}
@@ -256,3 +258,10 @@ follow_hit s start p n k m l hit f thread log stand kept saved holds wait publis
           ∙ (λ i. state_after (sym fixed.3 i) ((draws ∙ ap (draws_after p.note) (sym f.draws)) i + 1));
     } in
     subst (λ (b : Bool). Mirrors l (cond b (known_hit s start p n k) (known_miss s start p n k))) (sym hit) here
+
+-- a load of the safepoint word by which nobody asks, by a thread that doesn't either: what the pass keeps stays as it is
+pub follow_idle : (s : Shape) (start : ℕ) (e : CallContext) (n : ℕ) (k : ThreadView) (m : Mirror) → n < 2 ^ 32 → m.stand.requesting ≡ false
+    → m.unfinished ≡ e.unfinished → m.checking ≡ e.check → Mirrors m k → Mirrors m (known_after s start (load e id.Safepoint) n k)
+follow_idle s start e n k m low asks unfinished checking f =
+    follow_hit s start (load e id.Safepoint) n k m m refl f refl (λ given all p same. (p, same)) (sym (looked_idle n m.stand low asks)) refl refl
+    (λ k e. sym e) (λ k t e. sym e) (λ k e. sym e) unfinished checking (refl, refl, refl, refl) (λ n k e. e) refl (λ first e. e) refl refl tt

@@ -23,4 +23,5 @@ pub mod Loops
 pub mod Forms
 pub mod ClassSteps
 pub mod Idling
+pub mod BiasPattern
 pub mod StepsLeft

@@ -4,6 +4,7 @@ pub mod Drafts
 pub mod Tallies
 pub mod Held
 pub mod Kept
+pub mod SafepointLoads
 pub mod Ruled
 pub mod Seen
 pub mod StepPlans

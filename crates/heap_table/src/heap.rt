@@ -1,6 +1,7 @@
 //! The heap, and its one step.
 ghost use Rattle.std.specs.Prelude.{◌≡◌, ◌≤◌, [], vec_capacity};
 ghost use Rattle.heap_table.specs.Layout.{word_count};
+ghost use Rattle.heap_table.specs.SafepointLoads.{IsSafepointLoad};
 ghost use Rattle.heap_table.specs.Ruled.{heap_in};
 ghost use Rattle.heap_table.specs.Seen.{HeapSeen};
 ghost use Rattle.heap_table.specs.Stepping.{CanStep, HasStepped};
@@ -50,6 +51,7 @@ impl Model for Heap {
 
 impl Heap {
     /// The shape: how many threads, classes and objects there are.
+    #[inline(always)]
     pub fn shape(&self) -> &HeapShape
         ensures { result.now ≡ self.now.heap.shape }
     {
@@ -64,6 +66,7 @@ impl Heap {
     }
 
     /// How many entries a page of a log may have.
+    #[inline(always)]
     pub fn room(&self) -> u32
         ensures { result ≡ self.now.room }
     {
@@ -91,6 +94,20 @@ impl Heap {
     {
         let found = step_in_table(&self.words, &self.setting, &mut pass.seat, plan);
         pass.mirror.follow(&plan, found);
+        found
+    }
+
+    /// `step` for a load of the safepoint word that leaves unfinished what is unfinished. Where nobody asks by that word, and the
+    /// thread doesn't either, the pass is not written.
+    #[inline(always)]
+    pub fn step_in_passing(&self, pass: &mut Pass, plan: StepPlan) -> u64
+        requires can { CanStep self.now pass.old plan }
+        requires look { IsSafepointLoad plan }
+        requires same { (plan.after ≡ pass.old.known.unfinished) × (plan.check ≡ pass.old.known.checking) }
+        ensures { HasStepped self.now pass.old pass.new plan result }
+    {
+        let found = step_in_table(&self.words, &self.setting, &mut pass.seat, plan);
+        pass.mirror.follow_in_passing(&plan, found);
         found
     }
 }

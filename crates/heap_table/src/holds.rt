@@ -1,6 +1,7 @@
 //! A thread's hold words, as it last stored them.
-ghost use Rattle.std.specs.Prelude.{◌≡◌, ◌≢◌, ◌-◌, ◌<◌, ◌≤◌, ◌==◌, length, slice_index, slice_set, replicate};
+ghost use Rattle.std.specs.Prelude.{ℕ, not, ◌≡◌, ◌≢◌, ◌-◌, ◌<◌, ◌≤◌, ◌==◌, length, slice_index, slice_set, replicate};
 ghost use Rattle.plain_monitor.specs.Limits.{most_holds};
+ghost use Rattle.core_world.specs.Locks.{count_where};
 ghost use Rattle.core_world.specs.Threads.Stages.{one_if};
 ghost use Rattle.core_world.specs.Words.Forms.{names};
 ghost use Rattle.heap_table.specs.Held.{IsEmptyFrom};
@@ -16,14 +17,17 @@ pub const PLACES: usize = HOLDS as usize;
 /// The most holds on one object.
 const DEEPEST: u64 = 64;
 
-/// The hold words, and one past the last place that is not empty, so that a question looks at the places in use alone.
+/// The hold words, one past the last place that is not empty, so that a question looks at the places in use alone, and how many
+/// are not empty.
 #[derive(Drop)]
 pub struct Holds {
     pub words: [u64; PLACES],
     pub used: u32,
+    pub count: u32,
     pub ghost within: { used ≤ most_holds },
     pub ghost rest: { IsEmptyFrom used words },
     pub ghost tight: { 0 < used → slice_index words (used - 1) ≢ 0 },
+    pub ghost counted: { count ≡ count_where (λ p h. not (h == 0)) 0 words },
 }
 
 /// Whether the hold word names this object: the word of its number raised by one, with a depth from 1 to 64 below it. The
@@ -61,6 +65,28 @@ fn last_used(words: &[u64; PLACES], reach: u32) -> u32
     used
 }
 
+// One past the last place that is not empty, now that this word was stored at the place, where all from `used` on were empty
+// before. Only a clearing of the last place in use makes it look for another.
+#[inline(always)]
+fn used_after_store(words: &[u64; PLACES], used: u32, place: u32, word: u64) -> u32
+    requires place { place < most_holds }
+    requires within { used ≤ most_holds }
+    requires stored { slice_index words.now place ≡ word }
+    requires rest { (i : ℕ) → used ≤ i → i ≢ place → slice_index words.now i ≡ 0 }
+    requires tight { 0 < used → used - 1 ≢ place → slice_index words.now (used - 1) ≢ 0 }
+    ensures within { result ≤ most_holds }
+    ensures rest { IsEmptyFrom result words.now }
+    ensures tight { 0 < result → slice_index words.now (result - 1) ≢ 0 }
+{
+    if word == 0 {
+        if place + 1 == used {
+            return last_used(words, place);
+        }
+        return used;
+    }
+    if used <= place { place + 1 } else { used }
+}
+
 impl Holds {
     ghost use Rattle.std.specs.List.{position_or_len};
     ghost use Rattle.core_world.specs.Locks.{hold_count};
@@ -73,6 +99,7 @@ impl Holds {
         Holds {
             words: [0; PLACES],
             used: 0,
+            count: 0,
         }
     }
 
@@ -82,11 +109,14 @@ impl Holds {
         requires { place < most_holds }
         ensures { self.new.words ≡ slice_set self.old.words place word }
     {
+        let old = self.words[place as usize];
         self.words[place as usize] = word;
-        self.used = last_used(&self.words, self.used.max(place + 1));
+        self.count = self.count + one_if(word != 0) - one_if(old != 0);
+        self.used = used_after_store(&self.words, self.used, place, word);
     }
 
     /// How many of the words name the object.
+    #[inline(always)]
     pub fn held(&self, object: u32) -> u32
         ensures held { result ≡ hold_count object self.now.words }
         ensures few { result ≤ most_holds }
@@ -99,6 +129,7 @@ impl Holds {
     }
 
     /// The first place with this word, or one past the last.
+    #[inline(always)]
     pub fn place_of(&self, word: u64) -> u32
         ensures place { result ≡ position_or_len (λ h. h == word) self.now.words }
         ensures few { result ≤ most_holds }
@@ -124,14 +155,11 @@ impl Holds {
     }
 
     /// How many of the words are not empty.
+    #[inline(always)]
     pub fn count(&self) -> u32
         ensures holds { result ≡ all_holds self.now.words }
         ensures few { result ≤ most_holds }
     {
-        let mut count = 0;
-        for i in 0..self.used as usize {
-            count += one_if(self.words[i] != 0);
-        }
-        count
+        self.count
     }
 }

@@ -15,6 +15,7 @@ use crate::counts::{ClassCounts, NO_COUNTS, count_next};
 use crate::draws::{Drawing, draw_next};
 use crate::holds::Holds;
 use crate::made::made_next;
+use crate::reads::has_running_bits_alone;
 use crate::shots::Shots;
 use core_world::{LocalEffect, StepPlan, Unfinished, apply};
 use plain_monitor::Logged;
@@ -88,6 +89,7 @@ impl Mirror {
     ghost use Rattle.core_world.specs.Words.Shape.{Shape};
     ghost use Rattle.core_world.specs.Steps.{known_after, with_entry, stamp_by};
     ghost use Rattle.heap_table.specs.Kept.{Mirrors, LogHasRoom};
+    ghost use Rattle.heap_table.specs.SafepointLoads.{IsSafepointLoad};
     ghost use Rattle.heap_table.specs.inner.Kept.{StampFits, with_any_entry, entry_after};
     ghost use Rattle.heap_table.specs.inner.Layout.{IsPlaced};
 
@@ -137,6 +139,34 @@ impl Mirror {
             made: 0,
             shots,
         })
+    }
+
+    /// `follow` for a load of the safepoint word that leaves unfinished what is unfinished. Where nobody asks by that word, and the
+    /// thread doesn't either, nothing is written: all is known already.
+    #[inline(always)]
+    pub fn follow_in_passing(&mut self, step: &StepPlan, found: u64)
+        requires look { IsSafepointLoad step.now }
+        requires same { (step.now.after ≡ self.old.unfinished) × (step.now.check ≡ self.old.checking) }
+        requires at { IsPlaced step.now.at }
+        requires room { LogHasRoom step.now.note self.old.log.items self.old.room }
+        requires shots { HasPlace step.now.own (length self.old.shots.taken.items) }
+        requires draws { self.old.drawing.installed ≤ self.old.given + length self.old.log.items }
+        requires made { self.old.made ≤ self.old.given + length self.old.log.items }
+        requires stamp { hits step.now.act found ≡ true → StampFits step.now.note found self.old.last }
+        ensures follows { (s : Shape) (start : ℕ) (k : ThreadView) → Mirrors self.old k
+            → IsDrafted step.now.own s k self.old.shots.draft.cut.items (cells_shown self.old.shots.draft.cells.items)
+            → Mirrors self.new (known_after s start step.now found k) }
+        ensures fixed { (self.new.room ≡ self.old.room) × (self.new.given ≡ self.old.given)
+            × (self.new.classes ≡ self.old.classes) × (self.new.first ≡ self.old.first) × (self.new.shots.threads ≡ self.old.shots.threads)
+            × (self.new.shots.objects ≡ self.old.shots.objects) }
+        ensures draft { IsLeft step.now.own self.old.shots.draft.cut.items
+            (cells_shown self.old.shots.draft.cells.items)
+            self.new.shots.draft.cut.items (cells_shown self.new.shots.draft.cells.items) }
+    {
+        if has_running_bits_alone(found) && !self.stand.requesting {
+            return;
+        }
+        self.follow(step, found);
     }
 
     /// Makes of the knowledge what the step makes of it that found this word.

@@ -56,6 +56,7 @@ impl Model for Pass {
 
 impl Pass {
     /// The thread's number, from 0.
+    #[inline(always)]
     pub fn thread(&self) -> u32
         ensures same { result ≡ self.now.known.thread }
         ensures low { result < most_threads }
@@ -64,6 +65,7 @@ impl Pass {
     }
 
     /// The entries of the thread's log that were not handed out, in its own order: all of them before the first page.
+    #[inline(always)]
     pub fn log(&self) -> &[Logged]
         ensures { result.now ≡ page_of self.now }
     {
@@ -71,6 +73,7 @@ impl Pass {
     }
 
     /// How many entries the thread's log has, with those that were handed out.
+    #[inline(always)]
     pub fn length(&self) -> u64
         ensures same { result ≡ length self.now.known.log }
         ensures few { result < 2 ^ 43 }
@@ -80,6 +83,7 @@ impl Pass {
     }
 
     /// Whether the log may have so many entries more, with those that were handed out: stamps allow 2^41 of each thread.
+    #[inline(always)]
     pub fn may_grow(&self, entries: u32) -> bool
         ensures { result ≡ nat_le (length self.now.known.log + entries) log_limit }
     {
@@ -103,6 +107,7 @@ impl Pass {
     }
 
     /// The stamp of the log's last entry, or 0.
+    #[inline(always)]
     pub fn last_stamp(&self) -> u64
         ensures { result ≡ last_stamp self.now.known.log }
     {
@@ -110,6 +115,7 @@ impl Pass {
     }
 
     /// How many entries may still be logged before the next page is handed out.
+    #[inline(always)]
     pub fn room(&self) -> u32
         ensures room { result + length self.now.known.log ≡ self.now.limit }
     {
@@ -117,6 +123,7 @@ impl Pass {
     }
 
     /// How many holds the thread has on the object, by its hold words.
+    #[inline(always)]
     pub fn held(&self, object: u32) -> u32
         ensures held { result ≡ hold_count object self.now.known.holds }
         ensures few { result ≤ most_holds }
@@ -125,6 +132,7 @@ impl Pass {
     }
 
     /// How many holds the thread has, by its hold words.
+    #[inline(always)]
     pub fn holds(&self) -> u32
         ensures holds { result ≡ all_holds self.now.known.holds }
         ensures few { result ≤ most_holds }
@@ -140,6 +148,7 @@ impl Pass {
     }
 
     /// The first place with this hold word, or one past the last where none has it.
+    #[inline(always)]
     pub fn place_of(&self, word: u64) -> u32
         ensures place { result ≡ position_or_len (λ h. h == word) self.now.known.holds }
         ensures few { result ≤ most_holds }
@@ -164,6 +173,7 @@ impl Pass {
     }
 
     /// Whether the thread runs.
+    #[inline(always)]
     pub fn running(&self) -> bool
         ensures { result ≡ self.now.known.running }
     {
@@ -171,6 +181,7 @@ impl Pass {
     }
 
     /// Whether the thread's request for a safepoint stands.
+    #[inline(always)]
     pub fn requesting(&self) -> bool
         ensures { result ≡ self.now.known.requesting }
     {
@@ -178,6 +189,7 @@ impl Pass {
     }
 
     /// Whether the thread's request stands, and it has seen that no thread runs.
+    #[inline(always)]
     pub fn reached(&self) -> bool
         ensures { result ≡ self.now.known.reached }
     {
@@ -185,6 +197,7 @@ impl Pass {
     }
 
     /// Whether the thread has seen or set the halt.
+    #[inline(always)]
     pub fn halted(&self) -> bool
         ensures { result ≡ self.now.known.halted }
     {
@@ -192,6 +205,7 @@ impl Pass {
     }
 
     /// The unfinished operation, other than a check.
+    #[inline(always)]
     pub fn unfinished(&self) -> Option<Unfinished>
         ensures { result ≡ self.now.known.unfinished }
     {
@@ -199,6 +213,7 @@ impl Pass {
     }
 
     /// Whether a check is unfinished.
+    #[inline(always)]
     pub fn checking(&self) -> bool
         ensures { result ≡ self.now.known.checking }
     {
@@ -206,6 +221,7 @@ impl Pass {
     }
 
     /// The monitor that the thread has claimed and no mark names.
+    #[inline(always)]
     pub fn kept(&self) -> Option<u64>
         ensures { result ≡ self.now.known.kept }
     {

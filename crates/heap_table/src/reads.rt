@@ -19,6 +19,7 @@ use plain_monitor::{Value, word_value};
 const RUNNING_BITS_END: u64 = 1 << 32;
 
 /// What a mark says.
+#[inline(always)]
 pub fn mark_of_word(word: u64) -> Option<MarkForm>
     ensures { result ≡ read_mark word }
 {
@@ -26,20 +27,19 @@ pub fn mark_of_word(word: u64) -> Option<MarkForm>
 }
 
 /// Whether a mark has the bias pattern: it is biased, to a thread or to none.
+#[inline(always)]
+#[tactic(auto, using(crate::proofs::BiasPattern::bias_by_bits))]
 pub fn is_biased(mark: u64) -> bool
     ensures { result ≡ is_biased mark }
 {
-    match mark_of_word(mark) {
-        Some(form) => match form {
-            MarkForm::Anonymous { .. } => true,
-            MarkForm::Biased { .. } => true,
-            _ => false,
-        },
-        None => false,
-    }
+    // The low bits are 101, the age is below 16, and the thread, where there is one, is below 32 and raised by one.
+    let low = mark % 8;
+    let age = mark / 8 % 32;
+    (low == 0b101) & (age < 16) & (mark / 1024 < 33)
 }
 
 /// The epoch of a prototype, where it is biased, which it is to no thread.
+#[inline(always)]
 pub fn class_epoch(prototype: u64) -> Option<u8>
     ensures { result ≡ epoch_in prototype }
 {
@@ -53,6 +53,7 @@ pub fn class_epoch(prototype: u64) -> Option<u8>
 }
 
 /// Who owns a monitor, by its owner word.
+#[inline(always)]
 pub fn owner_of_word(word: u64) -> Option<OwnerForm>
     ensures { result ≡ read_owner word }
 {
@@ -73,6 +74,7 @@ fn value_read(word: u64) -> Option<Value>
 }
 
 /// What a hold word says.
+#[inline(always)]
 pub fn hold_of_word(word: u64) -> Option<HoldForm>
     ensures { result ≡ read_hold word }
 {
@@ -88,6 +90,7 @@ pub(crate) fn has_running_bits_alone(word: u64) -> bool
 }
 
 /// What the safepoint word says. Mostly it has running bits alone, and these are tested first.
+#[inline(always)]
 pub fn safe_of_word(word: u64) -> Option<SafeForm>
     ensures { result ≡ read_safe word }
 {

@@ -11,8 +11,8 @@ use plain_monitor::limits::MADE;
 use std::alloc::{AllocError, Global};
 use std::marker::Model;
 
-/// The shape of a heap. It keeps how many objects are declared, the class and the number of slots of each object, and
-/// how many words each object's group has.
+/// The shape of a heap. It keeps how many objects are declared, the class and the number of slots of each object, how
+/// many words each object's group has, and where the groups of the objects and those of the threads begin.
 #[derive(Drop)]
 pub struct HeapShape {
     threads: u32,
@@ -20,12 +20,14 @@ pub struct HeapShape {
     declared: u32,
     objects: Vec<(u32, u32)>,
     size: u32,
+    objects_at: u32,
+    threads_at: u32,
 }
 
 impl Model for HeapShape {
     ghost use Rattle.std.specs.Prelude.{◌≡◌};
     ghost use Rattle.core_world.specs.Words.Shape.{Shape, IsInLimits};
-    ghost use Rattle.heap_table.specs.Layout.{object_size};
+    ghost use Rattle.heap_table.specs.Layout.{object_size, objects_from, threads_from};
 
     ghost Value = { Shape };
 
@@ -41,7 +43,18 @@ impl Model for HeapShape {
       classes = s.classes;
       declared = s.declared;
       objects = s.objects.items;
-    })) };
+    })) × (s.objects_at ≡ objects_from (record {
+      threads = s.threads;
+      classes = s.classes;
+      declared = s.declared;
+      objects = s.objects.items;
+    }))
+        × (s.threads_at ≡ threads_from (record {
+          threads = s.threads;
+          classes = s.classes;
+          declared = s.declared;
+          objects = s.objects.items;
+        })) };
 }
 
 /// Places in the table. Each of these is the place of the word of that name.
@@ -275,7 +288,7 @@ impl HeapShape {
         ensures place { result ≡ objects_from self.now + object_size self.now * object }
         ensures low { result < 1000000 }
     {
-        16 + 16 * self.classes as usize + self.words_of(object as usize)
+        self.objects_at as usize + self.words_of(object as usize)
     }
 
     // Where the groups of the threads begin.
@@ -284,7 +297,7 @@ impl HeapShape {
         ensures place { result ≡ threads_from self.now }
         ensures low { result ≤ 656400 }
     {
-        16 + 16 * self.classes as usize + self.words_of(self.objects.len())
+        self.threads_at as usize
     }
 
     #[inline(always)]
@@ -421,12 +434,16 @@ impl HeapShape {
         } }
     {
         let size = size_for(widest(&objects));
+        let objects_at = 16 + 16 * classes;
+        let threads_at = objects_at + size * objects.len() as u32;
         HeapShape {
             threads,
             classes,
             declared,
             objects,
             size,
+            objects_at,
+            threads_at,
         }
     }
 
@@ -457,6 +474,7 @@ impl HeapShape {
     }
 
     /// The number of threads, at most 16.
+    #[inline(always)]
     pub fn threads(&self) -> u32
         ensures same { result ≡ self.now.threads }
         ensures limits { IsInLimits self.now }
@@ -465,6 +483,7 @@ impl HeapShape {
     }
 
     /// The number of classes, at most 64.
+    #[inline(always)]
     pub fn classes(&self) -> u32
         ensures { result ≡ self.now.classes }
     {
@@ -472,6 +491,7 @@ impl HeapShape {
     }
 
     /// The number of objects, at most 20,480.
+    #[inline(always)]
     pub fn objects(&self) -> usize
         ensures { result ≡ length self.now.objects }
     {
@@ -479,6 +499,7 @@ impl HeapShape {
     }
 
     /// How many of the objects are declared. They have the first numbers.
+    #[inline(always)]
     pub fn declared(&self) -> u32
         ensures same { result ≡ self.now.declared }
         ensures within { result ≤ many self.now }
@@ -496,6 +517,7 @@ impl HeapShape {
     }
 
     /// The class of a declared object. Of another, the shape tells only the number of slots.
+    #[inline(always)]
     pub fn class_of(&self, object: u32) -> u32
         requires { object < many self.now }
         ensures class { result ≡ class_in_shape self.now object }
@@ -505,6 +527,7 @@ impl HeapShape {
     }
 
     /// The number of the object's slots, at most 16.
+    #[inline(always)]
     pub fn slots_of(&self, object: u32) -> u32
         requires { object < many self.now }
         ensures slots { result ≡ slots_of self.now object }

@@ -36,6 +36,19 @@ impl Heap {
         (found, safe_of_word(found))
     }
 
+    /// `look` by a call that leaves unfinished what is unfinished: where nobody asks, the pass is not written.
+    #[inline(always)]
+    pub fn look_in_passing(&self, pass: &mut Pass, call: &CallContext) -> (u64, Option<SafeForm>)
+        requires can { CanStep self.now pass.old (load call.now WordId.Safepoint) }
+        requires same { (call.now.unfinished ≡ pass.old.known.unfinished) × (call.now.check ≡ pass.old.known.checking) }
+        ensures stepped { HasStepped self.now pass.old pass.new (load call.now WordId.Safepoint) result.0 }
+        ensures form { result.1 ≡ read_safe result.0 }
+    {
+        let plan = quiet(call, Stage::Settled, WordId::Safepoint, Act::Load);
+        let found = self.step_in_passing(pass, plan);
+        (found, safe_of_word(found))
+    }
+
     /// Stores the word. In the built code it is an exchange: its contract speaks of the word that it found, so it
     /// fetches that in the same act.
     #[inline(always)]

@@ -5,6 +5,8 @@ ghost use Rattle.core_world.specs.declared.heap_call.HeapCall.TheVariants.{Exit}
 ghost use Rattle.core_world.specs.Locks.{hold_count};
 ghost use Rattle.core_world.specs.Threads.ThreadView.{local_of};
 ghost use Rattle.core_world.specs.Trees.Operations.{exit_going, exit_steps};
+ghost use Rattle.core_world.specs.Trees.Plans.{top_place};
+ghost use Rattle.plain_monitor.specs.Limits.{most_holds};
 ghost use Rattle.core_calls.specs.Paths.{Tells};
 ghost use Rattle.core_calls.specs.CallsSay.{ExitSays};
 ghost use Rattle.heap_table.specs.Parts.{IsDueOn, HasMadeSteps};
@@ -19,41 +21,57 @@ use bias_lock::bias_exit;
 use core_world::{HeapCall, IllegalMonitorState, Operation, Progress, StackOut};
 use heap_table::{CallContext, Heap, Pass};
 use object_monitor::monitor_exit;
-use stack_lock::stack_exit;
+use stack_lock::{place_at_depth, stack_exit};
 
 // The object's mark has no bias pattern: the thread leaves its newest lock record, or the monitor.
-fn leave_unbiased(heap: &Heap, pass: &mut Pass, context: &CallContext, object: u32) -> Progress<()>
+fn leave_unbiased(
+    heap: &Heap,
+    pass: &mut Pass,
+    context: &CallContext,
+    object: u32,
+    depth: u32,
+    place: u32,
+) -> Progress<()>
     requires heap { IsOf heap.now pass.old }
-    requires object { object < length heap.now.heap.shape.objects }
-    requires held { 0 < hold_count object pass.old.known.holds }
+    requires depth { depth ≡ hold_count object pass.old.known.holds }
+    requires place { place ≡ top_place object pass.old.known.holds }
     requires due { IsDueOn heap.now pass.old context.now.task (exit_unbiased context.now (local_of pass.old.known) object) }
     requires room { length pass.old.known.log < pass.old.limit }
     ensures { HasMadeSteps heap.now (exit_unbiased context.now (local_of pass.old.known) object)
         pass.old pass.new result }
 {
-    match stack_exit(heap, pass, context, object) {
+    match stack_exit(heap, pass, context, object, depth, place) {
         StackOut::Left => Progress::Done(()),
         StackOut::Not(cause) => Progress::Pending(cause),
         StackOut::Monitor { number } => {
-            monitor_exit(heap, pass, context, object, number);
+            monitor_exit(heap, pass, context, object, number, place);
             Progress::Done(())
         }
     }
 }
 
-// The thread has a hold on the object.
-fn leave_held(heap: &Heap, pass: &mut Pass, context: &CallContext, object: u32) -> Progress<()>
+// The thread has so many holds on the object.
+fn leave_held(
+    heap: &Heap,
+    pass: &mut Pass,
+    context: &CallContext,
+    object: u32,
+    depth: u32,
+) -> Progress<()>
     requires heap { IsOf heap.now pass.old }
     requires object { object < length heap.now.heap.shape.objects }
-    requires held { 0 < hold_count object pass.old.known.holds }
+    requires depth { depth ≡ hold_count object pass.old.known.holds }
+    requires some { 0 < depth }
+    requires few { depth ≤ most_holds }
     requires due { IsDueOn heap.now pass.old context.now.task (exit_going context.now (local_of pass.old.known) object) }
     requires room { length pass.old.known.log < pass.old.limit }
     ensures { HasMadeSteps heap.now (exit_going context.now (local_of pass.old.known) object) pass.old pass.new result }
 {
-    if bias_exit(heap, pass, context, object) {
+    let place = place_at_depth(pass, object, depth);
+    if bias_exit(heap, pass, context, object, depth, place) {
         return Progress::Done(());
     }
-    leave_unbiased(heap, pass, context, object)
+    leave_unbiased(heap, pass, context, object, depth, place)
 }
 
 /// Leaves the thread's newest hold of the object.
@@ -78,10 +96,28 @@ pub fn exit(heap: &Heap, pass: &mut Pass, object: u32) -> Result<Progress<()>, I
     ensures stands { StandsOrSame pass.old.known pass.new.known result }
     ensures owner { IsRefusedUnheld pass.old.known.log object result }
 {
-    if pass.held(object) == 0 {
+    let depth = pass.held(object);
+    if depth == 0 {
         return Err(IllegalMonitorState);
     }
-    Ok(exit_held(heap, pass, object))
+    Ok(exit_counted(heap, pass, object, depth))
+}
+
+// The same where the thread has so many holds on it, at least one by its log.
+fn exit_counted(heap: &Heap, pass: &mut Pass, object: u32, depth: u32) -> Progress<()>
+    requires may { MayOperate heap.now pass.old (Exit object) }
+    requires held { 1 ≤ held_by nothing_held pass.old.known.log object }
+    requires depth { depth ≡ hold_count object pass.old.known.holds }
+    requires few { depth ≤ most_holds }
+    ensures rests { Rests heap.now pass.new }
+    ensures run { HasMadeSteps heap.now (exit_steps (start_now heap.now pass.old) object)
+        pass.old pass.new (Ok result) }
+    ensures says { Tells pass.old.known pass.new.known
+        (λ ms. ExitSays (start_now heap.now pass.old) object ms (Ok result)) }
+    ensures stands { StandsAfterTurn pass.new.known result }
+{
+    let context = unfinished(HeapCall::Exit { object }, Operation::Exit, object);
+    leave_held(heap, pass, &context, object, depth)
 }
 
 /// Leaves the thread's newest hold of the object, as `exit` does, where it has one by its log. Whoever calls has looked
@@ -96,6 +132,6 @@ pub fn exit_held(heap: &Heap, pass: &mut Pass, object: u32) -> Progress<()>
         (λ ms. ExitSays (start_now heap.now pass.old) object ms (Ok result)) }
     ensures stands { StandsAfterTurn pass.new.known result }
 {
-    let context = unfinished(HeapCall::Exit { object }, Operation::Exit, object);
-    leave_held(heap, pass, &context, object)
+    let held = pass.held(object);
+    exit_counted(heap, pass, object, held)
 }

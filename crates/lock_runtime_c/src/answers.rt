@@ -15,6 +15,7 @@ pub struct Answer {
     pub word: u64,
 }
 
+#[inline(always)]
 fn done(said: Said) -> Answer
     ensures { result ≡ numbers.done said }
 {
@@ -37,6 +38,7 @@ fn done(said: Said) -> Answer
     }
 }
 
+#[inline(always)]
 fn pending(why: PendingCause) -> Answer
     ensures { result ≡ numbers.pending why }
 {
@@ -47,6 +49,7 @@ fn pending(why: PendingCause) -> Answer
     }
 }
 
+#[inline(always)]
 fn refused(refusal: Refusal) -> Answer
     ensures { result ≡ numbers.refused refusal }
 {
@@ -63,6 +66,7 @@ fn refused(refusal: Refusal) -> Answer
     }
 }
 
+#[inline(always)]
 fn misuse_number(misuse: Misuse) -> u32
     ensures { result ≡ numbers.misuse_number misuse }
 {
@@ -94,6 +98,7 @@ fn misuse_number(misuse: Misuse) -> u32
     }
 }
 
+#[inline(always)]
 fn misused(misuse: Misuse) -> Answer
     ensures { result ≡ numbers.misused misuse }
 {
@@ -108,6 +113,7 @@ fn misused(misuse: Misuse) -> Answer
     }
 }
 
+#[inline(always)]
 fn plain(kind: u32) -> Answer
     ensures { result ≡ numbers.plain kind }
 {
@@ -118,6 +124,7 @@ fn plain(kind: u32) -> Answer
     }
 }
 
+#[inline(always)]
 pub fn answered(outcome: Outcome) -> Answer
     ensures { result ≡ numbers.answered outcome }
 {
@@ -132,6 +139,7 @@ pub fn answered(outcome: Outcome) -> Answer
 }
 
 /// A call that was done, with this word.
+#[inline(always)]
 pub fn done_with(word: u64) -> Answer
     ensures { result ≡ record { kind = 0; detail = 0; word = word } }
 {

@@ -14,6 +14,7 @@ use heap_table::{Heap, Pass};
 use lock_runtime as runtime;
 use plain_monitor::{Ending, Value};
 
+#[inline(always)]
 fn enter(heap: &Heap, pass: &mut Pass, object: u32, now: u64) -> Outcome
     requires { MayOperate heap.now pass.old (task.Enter object now) }
     ensures rests { Rests heap.now pass.new }
@@ -23,6 +24,7 @@ fn enter(heap: &Heap, pass: &mut Pass, object: u32, now: u64) -> Outcome
     entered(runtime::enter(heap, pass, object, now))
 }
 
+#[inline(always)]
 fn exit(heap: &Heap, pass: &mut Pass, object: u32) -> Outcome
     requires { MayOperate heap.now pass.old (task.Exit object) }
     ensures rests { Rests heap.now pass.new }
@@ -68,6 +70,7 @@ fn hash(heap: &Heap, pass: &mut Pass, object: u32, now: u64) -> Outcome
     hashed(runtime::hash(heap, pass, object, now))
 }
 
+#[inline(always)]
 fn get(heap: &Heap, pass: &mut Pass, object: u32, slot: u32) -> Outcome
     requires { MayOperate heap.now pass.old (task.Get object slot) }
     ensures rests { Rests heap.now pass.new }
@@ -77,6 +80,7 @@ fn get(heap: &Heap, pass: &mut Pass, object: u32, slot: u32) -> Outcome
     got(runtime::get(heap, pass, object, slot))
 }
 
+#[inline(always)]
 fn put(heap: &Heap, pass: &mut Pass, object: u32, slot: u32, value: Value) -> Outcome
     requires { MayOperate heap.now pass.old (task.Put object slot value) }
     ensures rests { Rests heap.now pass.new }
@@ -115,6 +119,7 @@ fn finish(heap: &Heap, pass: &mut Pass, ending: Ending) -> Outcome
     Outcome::Done(Said::Nothing)
 }
 
+#[inline(always)]
 fn poll(heap: &Heap, pass: &mut Pass) -> Outcome
     requires { MayCall heap.now pass.old task.Poll }
     ensures rests { Rests heap.now pass.new }
@@ -153,6 +158,7 @@ fn check_stuck(heap: &Heap, pass: &mut Pass) -> Outcome
 }
 
 // What can't begin: a misuse, or the log has no room for it.
+#[inline(always)]
 fn barred(heap: &Heap, pass: &Pass, task: HeapCall) -> Option<Outcome>
     requires { Rests heap.now pass.now }
     ensures why { result ≡ barred heap.now pass.now task }
@@ -171,6 +177,7 @@ fn barred(heap: &Heap, pass: &Pass, task: HeapCall) -> Option<Outcome>
 }
 
 // The call of this task, which may begin.
+#[inline(never)]
 fn begin(heap: &Heap, pass: &mut Pass, task: HeapCall) -> Outcome
     requires { MayMake heap.now pass.old task }
     ensures rests { Rests heap.now pass.new }
@@ -206,15 +213,162 @@ fn begin(heap: &Heap, pass: &mut Pass, task: HeapCall) -> Outcome
     }
 }
 
-/// Makes the call of this task, where it may begin.
-pub fn make(heap: &Heap, pass: &mut Pass, task: HeapCall) -> Outcome
+/// A call on a pass. A `HeapCall` is the call of that task. An export that should have the code of one call alone makes it by a type of
+/// its own.
+pub trait PassCall: Copy {
+    ghost use Rattle.core_world.specs.declared.heap_call.HeapCall.{HeapCall};
+
+    /// The call's task.
+    ghost task: { Self → HeapCall };
+
+    /// The call's task.
+    fn task(&self) -> HeapCall
+        ensures { result ≡ task self.now };
+
+    /// Makes the call, which may begin.
+    fn begin(self, heap: &Heap, pass: &mut Pass) -> Outcome
+        requires { MayMake heap.now pass.old (task self) }
+        ensures rests { Rests heap.now pass.new }
+        ensures limit { pass.new.limit ≡ pass.old.limit }
+        ensures made { IsMade heap.now (task self) pass.old pass.new result };
+}
+
+impl PassCall for HeapCall {
+    ghost task = { λ t. t };
+
+    fn task(&self) -> HeapCall {
+        *self
+    }
+
+    fn begin(self, heap: &Heap, pass: &mut Pass) -> Outcome {
+        begin(heap, pass, self)
+    }
+}
+
+/// An enter of this object, at this time.
+#[derive(Clone, Copy)]
+pub struct EnterCall {
+    pub object: u32,
+    pub now: u64,
+}
+
+impl PassCall for EnterCall {
+    ghost task = { λ c. task.Enter c.object c.now };
+
+    #[inline(always)]
+    fn task(&self) -> HeapCall {
+        HeapCall::Enter {
+            object: self.object,
+            now: self.now,
+        }
+    }
+
+    #[inline(always)]
+    fn begin(self, heap: &Heap, pass: &mut Pass) -> Outcome {
+        enter(heap, pass, self.object, self.now)
+    }
+}
+
+/// An exit of this object.
+#[derive(Clone, Copy)]
+pub struct ExitCall {
+    pub object: u32,
+}
+
+impl PassCall for ExitCall {
+    ghost task = { λ c. task.Exit c.object };
+
+    #[inline(always)]
+    fn task(&self) -> HeapCall {
+        HeapCall::Exit {
+            object: self.object,
+        }
+    }
+
+    #[inline(always)]
+    fn begin(self, heap: &Heap, pass: &mut Pass) -> Outcome {
+        exit(heap, pass, self.object)
+    }
+}
+
+/// A get of this slot, from 0, of this object.
+#[derive(Clone, Copy)]
+pub struct GetCall {
+    pub object: u32,
+    pub slot: u32,
+}
+
+impl PassCall for GetCall {
+    ghost task = { λ c. task.Get c.object c.slot };
+
+    #[inline(always)]
+    fn task(&self) -> HeapCall {
+        HeapCall::Get {
+            object: self.object,
+            slot: self.slot,
+        }
+    }
+
+    #[inline(always)]
+    fn begin(self, heap: &Heap, pass: &mut Pass) -> Outcome {
+        get(heap, pass, self.object, self.slot)
+    }
+}
+
+/// A put of this value into this slot, from 0, of this object.
+#[derive(Clone, Copy)]
+pub struct PutCall {
+    pub object: u32,
+    pub slot: u32,
+    pub value: Value,
+}
+
+impl PassCall for PutCall {
+    ghost task = { λ c. task.Put c.object c.slot c.value };
+
+    #[inline(always)]
+    fn task(&self) -> HeapCall {
+        HeapCall::Put {
+            object: self.object,
+            slot: self.slot,
+            value: self.value,
+        }
+    }
+
+    #[inline(always)]
+    fn begin(self, heap: &Heap, pass: &mut Pass) -> Outcome {
+        put(heap, pass, self.object, self.slot, self.value)
+    }
+}
+
+/// A poll.
+#[derive(Clone, Copy)]
+pub struct PollCall;
+
+impl PassCall for PollCall {
+    ghost task = { λ c. task.Poll };
+
+    #[inline(always)]
+    fn task(&self) -> HeapCall {
+        HeapCall::Poll
+    }
+
+    #[inline(always)]
+    fn begin(self, heap: &Heap, pass: &mut Pass) -> Outcome {
+        poll(heap, pass)
+    }
+}
+
+/// Makes the call, where it may begin.
+#[inline(always)]
+pub fn make<C: PassCall>(heap: &Heap, pass: &mut Pass, call: C) -> Outcome
     requires { Rests heap.now pass.old }
     ensures rests { Rests heap.now pass.new }
-    ensures told { Told heap.now task pass.old pass.new result }
+    ensures told { Told heap.now (C.task call) pass.old pass.new result }
     ensures room { KeepsRoom pass.old → KeepsRoom pass.new }
 {
-    match barred(heap, pass, task) {
+    match barred(heap, pass, call.task()) {
         Some(why) => why,
-        None => begin(heap, pass, task),
+        None => call.begin(heap, pass),
     }
 }

@@ -5,6 +5,7 @@ ghost use Rattle.plain_monitor.specs.declared.entry.Ending.TheVariants as ending
 
 use crate::access::make_by;
 use crate::answers::{Answer, answered};
+use crate::calls::{EnterCall, ExitCall, PollCall};
 use crate::handle::Slot;
 use core_world::HeapCall;
 use plain_monitor::Ending;
@@ -14,7 +15,7 @@ use std::alloc::Global;
 pub extern "C" fn biasrun_poll(alloc: Global, at: &mut Slot) -> Answer
     ensures { Answers at.old at.new Poll result }
 {
-    answered(make_by(alloc, at, HeapCall::Poll))
+    answered(make_by(alloc, at, PollCall))
 }
 
 #[unsafe(no_mangle)]
@@ -42,7 +43,7 @@ pub extern "C" fn biasrun_check_stuck(alloc: Global, at: &mut Slot) -> Answer
 pub extern "C" fn biasrun_enter(alloc: Global, at: &mut Slot, object: u32, now: u64) -> Answer
     ensures { Answers at.old at.new (Enter object now) result }
 {
-    answered(make_by(alloc, at, HeapCall::Enter { object, now }))
+    answered(make_by(alloc, at, EnterCall { object, now }))
 }
 
 #[unsafe(no_mangle)]
@@ -50,7 +51,7 @@ pub extern "C" fn biasrun_exit(alloc: Global, at: &mut Slot, object: u32) -> Ans
     ensures told { Answers at.old at.new (Exit object) result }
     ensures full { IsNeverFull at.old result }
 {
-    answered(make_by(alloc, at, HeapCall::Exit { object }))
+    answered(make_by(alloc, at, ExitCall { object }))
 }
 
 #[unsafe(no_mangle)]

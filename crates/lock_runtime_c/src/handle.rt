@@ -29,6 +29,7 @@ impl Model for Handle {
 unsafe impl Send for Handle {}
 
 impl Handle {
+    #[inline(always)]
     fn none(alloc: Global) -> Handle
         ensures { result.held ≡ None }
     {
@@ -39,10 +40,12 @@ impl Handle {
     }
 
     // An empty handle needs nothing.
+    #[inline(always)]
     fn forget(self) {
         let Handle { ptr: _, alloc: _ } = self;
     }
 
+    #[inline(always)]
     fn of_parts(parts: Parts<Inner, Global>) -> Handle
         requires { RestsWithin parts.value }
         ensures { result.held ≡ Some parts.value }
@@ -54,6 +57,7 @@ impl Handle {
         }
     }
 
+    #[inline(always)]
     fn into_parts(self) -> Parts<Inner, Global>
         requires { IsSome self.held }
         ensures { (self.held ≡ Some result.value) × RestsWithin result.value }
@@ -82,6 +86,7 @@ impl Slot {
     }
 
     /// What it has. It is empty then. An empty one stays as it is.
+    #[inline(always)]
     pub fn take(&mut self, alloc: Global) -> Option<Box<Inner>>
         ensures live { IfSome result (λ _. self.new.live ≡ 0) }
         ensures gone { IfSome result (λ _. self.new.handle.held ≡ None) }
@@ -98,6 +103,7 @@ impl Slot {
     }
 
     /// Gives it something. It is empty.
+    #[inline(always)]
     pub fn put(&mut self, alloc: Global, held: Box<Inner>)
         requires empty { self.old.live ≡ 0 }
         requires rests { RestsWithin held.value }

@@ -35,6 +35,7 @@ pub fn bool_number(is: bool) -> u32
     }
 }
 
+#[inline(always)]
 pub fn path_number(path: Path) -> u32
     ensures { result ≡ numbers.path_number path }
 {
@@ -48,6 +49,7 @@ pub fn path_number(path: Path) -> u32
     }
 }
 
+#[inline(always)]
 pub fn cause_number(why: PendingCause) -> u32
     ensures { result ≡ numbers.cause_number why }
 {
@@ -63,6 +65,7 @@ pub fn cause_number(why: PendingCause) -> u32
 }
 
 /// The word that the call found.
+#[inline(always)]
 pub fn cause_word(why: PendingCause) -> u64
     ensures { result ≡ numbers.cause_word why }
 {

@@ -13,6 +13,7 @@ use heap_table::{Heap, Pass, wait_of_word};
 use mark_word::WaitForm;
 use plain_monitor::Value;
 
+#[inline(always)]
 fn same_op(one: Operation, other: Operation) -> bool
     ensures { result ≡ same_op one other }
 {
@@ -30,6 +31,7 @@ fn same_op(one: Operation, other: Operation) -> bool
 }
 
 // The operation that the call makes, and its object.
+#[inline(always)]
 fn operation(task: HeapCall) -> Option<(Operation, u32)>
     ensures { result ≡ reasons.operation task }
 {
@@ -46,6 +48,7 @@ fn operation(task: HeapCall) -> Option<(Operation, u32)>
 }
 
 // Whether it goes on with what is unfinished.
+#[inline(always)]
 fn goes_on(made: Option<(Operation, u32)>, left: Unfinished) -> bool
     ensures { result ≡ reasons.goes_on made (Some left) }
 {
@@ -55,6 +58,7 @@ fn goes_on(made: Option<(Operation, u32)>, left: Unfinished) -> bool
     }
 }
 
+#[inline(always)]
 fn other_operation(made: Option<(Operation, u32)>, left: Option<Unfinished>) -> Option<Misuse>
     ensures { result ≡ reasons.other_operation made left }
 {
@@ -71,6 +75,7 @@ fn other_operation(made: Option<(Operation, u32)>, left: Option<Unfinished>) -> 
 }
 
 // Whether the thread ended, by its waiting word.
+#[inline(always)]
 fn has_ended(pass: &Pass) -> bool
     ensures { result ≡ says_ended pass.now.known.wait }
 {
@@ -84,6 +89,7 @@ fn has_ended(pass: &Pass) -> bool
 }
 
 // How the thread stands, for an operation.
+#[inline(always)]
 fn of_standing(pass: &Pass, made: Option<(Operation, u32)>) -> Option<Misuse>
     ensures { result ≡ reasons.of_standing pass.now.known made }
 {
@@ -104,6 +110,7 @@ fn of_standing(pass: &Pass, made: Option<(Operation, u32)>) -> Option<Misuse>
 }
 
 // Each object of the heap is a declared one.
+#[inline(always)]
 fn of_object(heap: &Heap, object: u32) -> Option<Misuse>
     ensures { result ≡ reasons.of_object heap.now.heap.shape object }
 {
@@ -114,6 +121,7 @@ fn of_object(heap: &Heap, object: u32) -> Option<Misuse>
     }
 }
 
+#[inline(always)]
 fn of_slot(heap: &Heap, object: u32, slot: u32) -> Option<Misuse>
     ensures { result ≡ reasons.of_slot heap.now.heap.shape object slot }
 {
@@ -127,6 +135,7 @@ fn of_slot(heap: &Heap, object: u32, slot: u32) -> Option<Misuse>
     }
 }
 
+#[inline(always)]
 fn is_value(heap: &Heap, value: Value) -> bool
     ensures { result ≡ is_value_over (λ o. nat_lt o heap.now.heap.shape.declared) value }
 {
@@ -137,6 +146,7 @@ fn is_value(heap: &Heap, value: Value) -> bool
     }
 }
 
+#[inline(always)]
 fn of_value(heap: &Heap, value: Value) -> Option<Misuse>
     ensures { result ≡ reasons.of_value heap.now.heap.shape value }
 {
@@ -148,6 +158,7 @@ fn of_value(heap: &Heap, value: Value) -> Option<Misuse>
 }
 
 // What is wrong with what a put writes.
+#[inline(always)]
 fn of_put(heap: &Heap, object: u32, slot: u32, value: Value) -> Option<Misuse>
     ensures { result ≡ reasons.or_else (reasons.of_slot heap.now.heap.shape object slot)
         (reasons.of_value heap.now.heap.shape value) }
@@ -159,6 +170,7 @@ fn of_put(heap: &Heap, object: u32, slot: u32, value: Value) -> Option<Misuse>
 }
 
 // A thread ends without holds.
+#[inline(always)]
 fn of_holds(pass: &Pass) -> Option<Misuse>
     ensures { result ≡ reasons.of_holds pass.now.known }
 {
@@ -170,6 +182,7 @@ fn of_holds(pass: &Pass) -> Option<Misuse>
 }
 
 // What is wrong with the operands of an operation.
+#[inline(always)]
 fn of_operands(heap: &Heap, pass: &Pass, task: HeapCall) -> Option<Misuse>
     ensures { result ≡ reasons.of_operands heap.now.heap.shape pass.now.known task }
 {
@@ -193,6 +206,7 @@ fn of_operands(heap: &Heap, pass: &Pass, task: HeapCall) -> Option<Misuse>
 }
 
 // Poll and stop are for a thread that runs.
+#[inline(always)]
 fn of_running(pass: &Pass) -> Option<Misuse>
     ensures { result ≡ reasons.of_running pass.now.known }
 {
@@ -206,6 +220,7 @@ fn of_running(pass: &Pass) -> Option<Misuse>
 }
 
 // And resume for one that is stopped.
+#[inline(always)]
 fn of_stopped(pass: &Pass) -> Option<Misuse>
     ensures { result ≡ reasons.of_stopped pass.now.known }
 {
@@ -219,6 +234,7 @@ fn of_stopped(pass: &Pass) -> Option<Misuse>
 }
 
 // Whether the thread runs, or asks for a safepoint for a check.
+#[inline(always)]
 fn asks_to_check(pass: &Pass) -> bool
     ensures { result ≡ (if pass.now.known.requesting then pass.now.known.checking else pass.now.known.running) }
 {
@@ -229,6 +245,7 @@ fn asks_to_check(pass: &Pass) -> bool
     }
 }
 
+#[inline(always)]
 fn other_asked(pass: &Pass) -> Misuse
     ensures { result ≡ reasons.other_asked pass.now.known.requesting pass.now.known.unfinished }
 {
@@ -241,6 +258,7 @@ fn other_asked(pass: &Pass) -> Misuse
     }
 }
 
+#[inline(always)]
 fn of_check(pass: &Pass) -> Option<Misuse>
     ensures { result ≡ reasons.of_check pass.now.known }
 {
@@ -254,6 +272,7 @@ fn of_check(pass: &Pass) -> Option<Misuse>
     }
 }
 
+#[inline(always)]
 fn of_operation(heap: &Heap, pass: &Pass, task: HeapCall) -> Option<Misuse>
     ensures { result ≡ reasons.or_else (reasons.of_standing pass.now.known (reasons.operation task))
         (reasons.of_operands heap.now.heap.shape pass.now.known task) }
@@ -265,6 +284,7 @@ fn of_operation(heap: &Heap, pass: &Pass, task: HeapCall) -> Option<Misuse>
 }
 
 /// The first reason why a call of this task can't begin, the room of the log aside.
+#[inline(always)]
 pub fn first_reason(heap: &Heap, pass: &Pass, task: HeapCall) -> Option<Misuse>
     ensures { result ≡ reasons.first_reason heap.now.heap.shape pass.now.known task }
 {
@@ -284,6 +304,7 @@ pub fn first_reason(heap: &Heap, pass: &Pass, task: HeapCall) -> Option<Misuse>
 }
 
 // Whether this waiting word says that its thread waits on the object.
+#[inline(always)]
 fn waits_on(word: u64, object: u32) -> bool
     ensures { result ≡ waits_on word object }
 {
@@ -298,6 +319,7 @@ fn waits_on(word: u64, object: u32) -> bool
 
 // For how many entries the log has to have room. An exit only takes up what its hold had kept. All else leaves the room that each hold needs for
 // its exit, and but for an end and a wait that has let go it leaves one more, for these; an enter is a hold more.
+#[inline(always)]
 fn room_for(pass: &Pass, task: HeapCall) -> u32
     ensures room { result ≡ room_for pass.now task }
     ensures few { result ≤ 67 }
@@ -318,6 +340,7 @@ fn room_for(pass: &Pass, task: HeapCall) -> u32
 }
 
 // Whether that many fit, into the page and into what stamps allow.
+#[inline(always)]
 fn fits(pass: &Pass, entries: u32) -> bool
     ensures { result ≡ (nat_le (length pass.now.known.log + entries) pass.now.limit
         && nat_le (length pass.now.known.log + entries) log_limit) }
@@ -326,6 +349,7 @@ fn fits(pass: &Pass, entries: u32) -> bool
 }
 
 /// Whether the log hasn't the room that the call needs, besides what the thread's holds do.
+#[inline(always)]
 pub fn is_full(pass: &Pass, task: HeapCall) -> bool
     ensures { result ≡ is_full pass.now task }
 {

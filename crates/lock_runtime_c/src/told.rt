@@ -8,6 +8,7 @@ use crate::outcome::{Outcome, Refusal, Said};
 use core_world::{IllegalMonitorState, Progress, TooDeep, TooManyDumps, Unguarded};
 use plain_monitor::{Path, Value};
 
+#[inline(always)]
 pub fn turned(progress: Progress<()>) -> Outcome
     ensures { result ≡ of_progress nothing progress }
 {
@@ -17,6 +18,7 @@ pub fn turned(progress: Progress<()>) -> Outcome
     }
 }
 
+#[inline(always)]
 pub fn entered(answer: Result<Progress<Path>, TooDeep>) -> Outcome
     ensures { result ≡ of_result (of_progress said.Entered) refusal.TooDeep answer }
 {
@@ -27,6 +29,7 @@ pub fn entered(answer: Result<Progress<Path>, TooDeep>) -> Outcome
     }
 }
 
+#[inline(always)]
 pub fn owned(answer: Result<Progress<()>, IllegalMonitorState>) -> Outcome
     ensures { result ≡ of_result (of_progress nothing) refusal.NotOwner answer }
 {
@@ -65,6 +68,7 @@ pub fn hashed(progress: Progress<u32>) -> Outcome
     }
 }
 
+#[inline(always)]
 pub fn got(answer: Result<Value, Unguarded>) -> Outcome
     ensures { result ≡ of_result read refusal.Unguarded answer }
 {
@@ -74,6 +78,7 @@ pub fn got(answer: Result<Value, Unguarded>) -> Outcome
     }
 }
 
+#[inline(always)]
 pub fn stored(answer: Result<(), Unguarded>) -> Outcome
     ensures { result ≡ of_result stored refusal.Unguarded answer }
 {

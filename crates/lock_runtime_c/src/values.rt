@@ -6,6 +6,7 @@ ghost use Rattle.lock_runtime_c.specs.OfValues.{Finds, Gives, PrintOf, PutOf};
 
 use crate::access::make_by;
 use crate::answers::{Answer, answered};
+use crate::calls::{GetCall, PutCall};
 use crate::handle::Slot;
 use crate::numbers::{Cell, cell_of, value_of};
 use crate::outcome::{Misuse, Outcome, Said};
@@ -33,7 +34,7 @@ pub extern "C" fn biasrun_get(
 ) -> Answer
     ensures { Gives at.old at.new (Get object slot) out.old out.new result }
 {
-    let outcome = make_by(alloc, at, HeapCall::Get { object, slot });
+    let outcome = make_by(alloc, at, GetCall { object, slot });
     *out = read_of(outcome, *out);
     answered(outcome)
 }
@@ -50,12 +51,12 @@ pub extern "C" fn biasrun_put(
 {
     match value_of(value) {
         Some(value) => {
-            let task = HeapCall::Put {
+            let call = PutCall {
                 object,
                 slot,
                 value,
             };
-            answered(make_by(alloc, at, task))
+            answered(make_by(alloc, at, call))
         }
         None => answered(Outcome::Misused(Misuse::NoValue)),
     }

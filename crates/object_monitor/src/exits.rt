@@ -1,6 +1,5 @@
 //! How a thread leaves a hold by the monitor.
 ghost use Rattle.std.specs.Prelude.{◌≡◌, ◌<◌, length, Some};
-ghost use Rattle.core_world.specs.Locks.{hold_count};
 ghost use Rattle.core_world.specs.Threads.ThreadView.{local_of};
 ghost use Rattle.core_world.specs.Trees.MonitorSteps.{own_steps, release_steps, monitor_exit_steps};
 ghost use Rattle.core_world.specs.Trees.Plans.{top_place};
@@ -12,7 +11,7 @@ use core_world::{Stage, WordId};
 use heap_table::{CallContext, Heap, Pass, owner_of_word};
 use mark_word::{OwnerForm, encode_owner};
 use plain_monitor::Entry;
-use stack_lock::{clear, leave, top_place};
+use stack_lock::{clear, leave};
 
 /// Makes the thread itself the owner of the monitor, with no recursions, where one of its records is the owner by
 /// this form.
@@ -115,25 +114,30 @@ fn leave_owned(
     }
 }
 
-/// Leaves the thread's newest hold of the object, whose mark names this monitor. The thread has such a hold, and its
-/// record is no recursive one of a stack lock.
+/// Leaves the thread's newest hold of the object, at this place, whose mark names this monitor. The hold's record is no
+/// recursive one of a stack lock.
 ///
 /// The Exit is logged and the hold word is cleared. At the last hold the owner word is cleared, so that the monitor is
 /// free; at any other the recursions are lowered by one. Where a lock record of the thread was the owner, the thread
 /// itself became it before, with no recursions.
 ///
 /// In OpenJDK 8: `ObjectMonitor::exit` (`objectMonitor.cpp`). Nobody is woken.
-pub fn monitor_exit(heap: &Heap, pass: &mut Pass, call: &CallContext, object: u32, monitor: u32)
+pub fn monitor_exit(
+    heap: &Heap,
+    pass: &mut Pass,
+    call: &CallContext,
+    object: u32,
+    monitor: u32,
+    place: u32,
+)
     requires heap { IsOf heap.now pass.old }
-    requires object { object < length heap.now.heap.shape.objects }
-    requires held { 0 < hold_count object pass.old.known.holds }
+    requires place { place ≡ top_place object pass.old.known.holds }
     requires due { IsDueOn heap.now pass.old call.now.task
         (monitor_exit_steps call.now (local_of pass.old.known) object monitor) }
     requires room { length pass.old.known.log < pass.old.limit }
     ensures { HasMadeSteps heap.now (monitor_exit_steps call.now (local_of pass.old.known) object monitor)
         pass.old pass.new result }
 {
-    let place = top_place(pass, object);
     let owner = heap.load(pass, call, Stage::Settled, WordId::Owner { monitor });
     match owner_of_word(owner) {
         Some(form) => {

@@ -20,9 +20,10 @@ use mark_word::SafeForm;
 pub fn poll(heap: &Heap, pass: &mut Pass, call: &CallContext) -> Progress<()>
     requires heap { IsOf heap.now pass.old }
     requires due { IsDueOn heap.now pass.old call.now.task (poll_steps call.now) }
+    requires same { (call.now.unfinished ≡ pass.old.known.unfinished) × (call.now.check ≡ pass.old.known.checking) }
     ensures { HasMadeSteps heap.now (poll_steps call.now) pass.old pass.new result }
 {
-    let (word, form) = heap.look(pass, call);
+    let (word, form) = heap.look_in_passing(pass, call);
     if has_requester(form) {
         Progress::Pending(PendingCause::Requested { word })
     } else {

@@ -9,7 +9,6 @@ ghost use Rattle.heap_table.specs.Seen.{IsOf};
 ghost use Rattle.stack_lock.specs.Parts.{leave_at, clear_at};
 ghost use Rattle.stack_lock.specs.inner.Parts.{marked_exit};
 
-use crate::places::place_at_depth;
 use core_world::{PendingCause, StackOut, Stage, WordId};
 use heap_table::{CallContext, Heap, Pass, mark_of_word};
 use mark_word::MarkForm;
@@ -156,7 +155,7 @@ fn leave_record(
     leave_lock(heap, pass, call, object, place, header)
 }
 
-/// Leaves the thread's newest hold of the object, of which it has one.
+/// Leaves the thread's newest hold of the object, of which it has `depth`, at this place.
 ///
 /// `Left` says that the hold word is cleared and the Exit logged: the record was recursive, or the object's mark named
 /// it and was exchanged for the header. `Monitor { number }` says that the object's mark names this monitor, and
@@ -165,17 +164,22 @@ fn leave_record(
 /// the object's stamp was raised, where this is the thread's last hold.
 ///
 /// In OpenJDK 8: `ObjectSynchronizer::fast_exit` (`synchronizer.cpp`).
-pub fn stack_exit(heap: &Heap, pass: &mut Pass, call: &CallContext, object: u32) -> StackOut
+pub fn stack_exit(
+    heap: &Heap,
+    pass: &mut Pass,
+    call: &CallContext,
+    object: u32,
+    depth: u32,
+    place: u32,
+) -> StackOut
     requires heap { IsOf heap.now pass.old }
-    requires object { object < length heap.now.heap.shape.objects }
-    requires held { 0 < hold_count object pass.old.known.holds }
+    requires depth { depth ≡ hold_count object pass.old.known.holds }
+    requires place { place ≡ top_place object pass.old.known.holds }
     requires due { IsDueOn heap.now pass.old call.now.task (stack_exit_steps call.now (local_of pass.old.known) object) }
     requires room { length pass.old.known.log < pass.old.limit }
     ensures { HasMadeSteps heap.now (stack_exit_steps call.now (local_of pass.old.known) object)
         pass.old pass.new result }
 {
-    let depth = pass.held(object);
-    let place = place_at_depth(pass, object, depth);
     raise(heap, pass, call, object, depth);
     leave_record(heap, pass, call, object, place)
 }

@@ -15,4 +15,4 @@ mod words;
 
 pub use enters::{hold, stack_enter};
 pub use exits::{clear, leave, raise, stack_exit};
-pub use places::{free_place, place_at_depth, top_place};
+pub use places::{free_place, place_at_depth};

@@ -16,16 +16,6 @@ pub fn free_place(pass: &Pass) -> u32
     pass.place_of(0)
 }
 
-/// The place of the thread's newest record of an object of which it has one: that of the greatest depth.
-pub fn top_place(pass: &Pass, object: u32) -> u32
-    requires object { object < 2 ^ 15 }
-    requires some { 0 < hold_count object pass.now.known.holds }
-    ensures place { result ≡ top_place object pass.now.known.holds }
-    ensures few { result ≤ most_holds }
-{
-    place_at_depth(pass, object, pass.held(object))
-}
-
 /// The place of the thread's newest record of an object, for a caller who has counted: the thread has `depth` holds on it,
 /// at least one, so that the newest has this depth.
 pub fn place_at_depth(pass: &Pass, object: u32, depth: u32) -> u32

@@ -1,16 +1,11 @@
-use Rattle.std.proofs.Common.{refl, sym, ap, ◌∙◌, arith}
+use Rattle.std.proofs.Common.{refl, sym, ap, ◌∙◌}
 use Rattle.core_world.specs.Threads.ThreadView.{Local, local_of}
 use Rattle.core_world.specs.Trees.BiasSteps.{bias_exit_steps}
 use Rattle.core_world.specs.Trees.Plans.{top_place}
-use Rattle.heap_table.proofs.Ruled.{few_objects}
 use Rattle.heap_table.proofs.StepsLeft.{AreLeft, all_left, left_as, part_of, choice_left}
 use Rattle.bias_lock.specs.inner.Parts.{marked_exit}
 use Rattle.bias_lock.proofs.exits.bias_exit.Goals as goal
 use Rattle.bias_lock.proofs.exits.bias_exit.Goals.{After-raise}
-
-pub place_at_depth-place-requires-clause-object : goal.place_at_depth-place-requires-clause-object
-place_at_depth-place-requires-clause-object c =
-    let few = few_objects c.args.heap.now c.args.pass.now c.requires.heap in omega (arith, few, c.requires.object)
 
 pub raise-requires-clause-due : goal.raise-requires-clause-due
 raise-requires-clause-due c =
@@ -29,7 +24,7 @@ leave_marked-requires-clause-due c = (raised (goal.at.leave_marked-requires-clau
 
 pub leave_marked-requires-clause-place : goal.leave_marked-requires-clause-place
 leave_marked-requires-clause-place c =
-    c.place_at_depth-place.ensures.place ∙ ap (λ (l : Local). top_place c.args.object l.holds) (sym c.raise.ensures.kept)
+    c.requires.place ∙ ap (λ (l : Local). top_place c.args.object l.holds) (sym c.raise.ensures.kept)
 
 pub returns-clause-run : goal.returns-clause-run
 returns-clause-run c = (raised (goal.at.returns-clause-run c).After-raise).whole _ _ c.leave_marked.ensures.run

@@ -1,8 +1,9 @@
-use Rattle.std.proofs.Common.{◌<◌, if◌then◌else◌, refl, sym, ap, subst}
+use Rattle.std.proofs.Common.{if◌then◌else◌, refl, sym, ap, ◌∙◌, arith}
 use Rattle.core_world.specs.Locks.{hold_count}
 use Rattle.core_world.specs.Threads.ThreadView.{Local, local_of}
 use Rattle.core_world.specs.Trees.BiasSteps.{bias_exit_steps}
-use Rattle.core_world.specs.Trees.Plans.{done_with}
+use Rattle.core_world.specs.Trees.Plans.{done_with, top_place}
+use Rattle.heap_table.proofs.Ruled.{few_objects}
 use Rattle.lock_runtime.specs.inner.Parts.{exit_unbiased}
 use Rattle.lock_runtime.proofs.LeftNothing.{first_under_bias}
 use Rattle.lock_runtime.proofs.PartMade.{PartMade, first_due, next_due, next_made, last_made, room_after}
@@ -25,9 +26,17 @@ left c =
 pub returns-then-bias_exit : goal.returns-then-bias_exit
 returns-then-bias_exit c = last_made (left (goal.at.returns-then-bias_exit c).After-bias_exit) c.if-bias_exit.true refl
 
-pub leave_unbiased-requires-clause-held : goal.leave_unbiased-requires-clause-held
-leave_unbiased-requires-clause-held c =
-    subst (λ (x : Local). 0 < hold_count c.args.object x.holds) (sym (c.bias_exit.ensures.kept c.if-bias_exit.false)) c.requires.held
+pub place_at_depth-place-requires-clause-object : goal.place_at_depth-place-requires-clause-object
+place_at_depth-place-requires-clause-object c =
+    let few = few_objects c.args.heap.now c.args.pass.now c.requires.heap in omega (arith, few, c.requires.object)
+
+pub leave_unbiased-requires-clause-depth : goal.leave_unbiased-requires-clause-depth
+leave_unbiased-requires-clause-depth c =
+    c.requires.depth ∙ ap (λ (x : Local). hold_count c.args.object x.holds) (sym (c.bias_exit.ensures.kept c.if-bias_exit.false))
+
+pub leave_unbiased-requires-clause-place : goal.leave_unbiased-requires-clause-place
+leave_unbiased-requires-clause-place c =
+    c.place_at_depth-place.ensures.place ∙ ap (λ (x : Local). top_place c.args.object x.holds) (sym (c.bias_exit.ensures.kept c.if-bias_exit.false))
 
 pub leave_unbiased-requires-clause-due : goal.leave_unbiased-requires-clause-due
 leave_unbiased-requires-clause-due c =

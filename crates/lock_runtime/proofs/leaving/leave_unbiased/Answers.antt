@@ -1,11 +1,10 @@
-use Rattle.std.proofs.Common.{◌≡◌, ℕ, ◌<◌, refl, sym, ap, subst}
+use Rattle.std.proofs.Common.{◌≡◌, ℕ, refl, sym, ap, ◌∙◌}
 use Rattle.core_world.specs.declared.answer.StackOut.TheVariants.{Monitor}
-use Rattle.core_world.specs.Locks.{hold_count}
 use Rattle.core_world.specs.Threads.ThreadView.{Local, local_of}
 use Rattle.core_world.specs.Trees.LockSteps.{stack_exit_steps}
 use Rattle.core_world.specs.Trees.MonitorSteps.{monitor_exit_steps}
 use Rattle.core_world.specs.Trees.Operations.{exit_at}
-use Rattle.core_world.specs.Trees.Plans.{done_with}
+use Rattle.core_world.specs.Trees.Plans.{done_with, top_place}
 use Rattle.core_world.specs.Trees.StepTree.{◌>>=◌}
 use Rattle.lock_runtime.proofs.LeftNothing.{first_out, left_nothing}
 use Rattle.lock_runtime.proofs.PartMade.{PartMade, first_due, next_due, next_made, last_made, then_ends, room_after}
@@ -36,10 +35,10 @@ by_monitor : (c : After-stack_exit) (m : ℕ) → c.stack_exit.result ≡ Monito
     ≡ (monitor_exit_steps a.context.now (local_of c.stack_exit.new.pass.known) a.object m >>= (λ _. done_with (tt {0})))
 by_monitor c m is = ap (λ (l : Local). exit_at (Monitor m) c.args.context.now l c.args.object) (sym (same c m is))
 
-pub monitor_exit-requires-clause-held : goal.monitor_exit-requires-clause-held
-monitor_exit-requires-clause-held c =
-    let z = (goal.at.monitor_exit-requires-clause-held c).After-stack_exit in
-    subst (λ (l : Local). 0 < hold_count c.args.object l.holds) (sym (same z _ c.in-Monitor.is)) c.requires.held
+pub monitor_exit-requires-clause-place : goal.monitor_exit-requires-clause-place
+monitor_exit-requires-clause-place c =
+    let z = (goal.at.monitor_exit-requires-clause-place c).After-stack_exit in
+    c.requires.place ∙ ap (λ (l : Local). top_place c.args.object l.holds) (sym (same z _ c.in-Monitor.is))
 
 pub monitor_exit-requires-clause-due : goal.monitor_exit-requires-clause-due
 monitor_exit-requires-clause-due c =

@@ -1,19 +1,15 @@
-use Rattle.std.proofs.Common.{◌≡◌, refl, sym, ap, ◌∙◌, Option, Some, arith}
+use Rattle.std.proofs.Common.{◌≡◌, refl, sym, ap, ◌∙◌, Option, Some}
 use Rattle.mark_word.specs.declared.owner.OwnerForm.{OwnerForm}
 use Rattle.mark_word.specs.Owner.{read_owner}
 use Rattle.core_world.specs.Threads.ThreadView.{Local, local_of}
 use Rattle.core_world.specs.Trees.MonitorSteps.{own_steps, monitor_exit_steps}
 use Rattle.core_world.specs.Trees.Plans.{top_place}
 use Rattle.core_world.specs.Trees.StepTree.{◌>>=◌}
-use Rattle.heap_table.proofs.Ruled.{few_objects}
 use Rattle.object_monitor.specs.inner.ExitParts.{counted_exit}
 use Rattle.heap_table.proofs.StepsLeft.{AreLeft, all_left, can_make, step_made, left_as, never, part_of}
 use Rattle.object_monitor.proofs.OwningSteps.{owning_left}
 use Rattle.object_monitor.proofs.exits.monitor_exit.Goals as goal
 use Rattle.object_monitor.proofs.exits.monitor_exit.Goals.{After-load-owner, After-own}
-
-pub top_place-place-requires-clause-object : goal.top_place-place-requires-clause-object
-top_place-place-requires-clause-object c = let few = few_objects c.args.heap.now c.args.pass.now c.requires.heap in omega (arith, few, c.requires.object)
 
 pub load-owner-requires : goal.load-owner-requires
 load-owner-requires c = can_make (all_left c.requires.heap c.requires.due) refl refl refl tt
@@ -48,7 +44,7 @@ leave_owned-requires-clause-due c = (owned (goal.at.leave_owned-requires-clause-
 pub leave_owned-requires-clause-place : goal.leave_owned-requires-clause-place
 leave_owned-requires-clause-place c =
     let local : local_of c.own.new.pass.known ≡ local_of c.args.pass.now.known = c.own.ensures.kept ∙ ap local_of c.load-owner.ensures.known in
-    c.top_place-place.ensures.place ∙ ap (λ (l : Local). top_place c.args.object l.holds) (sym local)
+    c.requires.place ∙ ap (λ (l : Local). top_place c.args.object l.holds) (sym local)
 
 pub unreachable-requires : goal.unreachable-requires
 unreachable-requires c = never (by_form (goal.at.unreachable-requires c).After-load-owner _ (sym c.owner_of_word.ensures ∙ c.in-None.is)) refl

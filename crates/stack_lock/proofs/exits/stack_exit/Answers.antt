@@ -1,14 +1,10 @@
-use Rattle.std.proofs.Common.{refl, sym, ap, ◌∙◌, arith}
+use Rattle.std.proofs.Common.{refl, sym, ap, ◌∙◌}
 use Rattle.core_world.specs.Threads.ThreadView.{Local, local_of}
 use Rattle.core_world.specs.Trees.LockSteps.{stack_exit_record, stack_exit_steps}
 use Rattle.core_world.specs.Trees.Plans.{top_place}
-use Rattle.heap_table.proofs.Ruled.{few_objects}
 use Rattle.heap_table.proofs.StepsLeft.{AreLeft, all_left, left_as, part_of, choice_left}
 use Rattle.stack_lock.proofs.exits.stack_exit.Goals as goal
 use Rattle.stack_lock.proofs.exits.stack_exit.Goals.{After-raise}
-
-pub place_at_depth-place-requires-clause-object : goal.place_at_depth-place-requires-clause-object
-place_at_depth-place-requires-clause-object c = let few = few_objects c.args.heap.now c.args.pass.now c.requires.heap in omega (arith, few, c.requires.object)
 
 pub raise-requires-clause-due : goal.raise-requires-clause-due
 raise-requires-clause-due c =
@@ -26,7 +22,7 @@ pub leave_record-requires-clause-due : goal.leave_record-requires-clause-due
 leave_record-requires-clause-due c = (raised (goal.at.leave_record-requires-clause-due c).After-raise).due
 
 pub leave_record-requires-clause-place : goal.leave_record-requires-clause-place
-leave_record-requires-clause-place c = c.place_at_depth-place.ensures.place ∙ ap (λ (l : Local). top_place c.args.object l.holds) (sym c.raise.ensures.kept)
+leave_record-requires-clause-place c = c.requires.place ∙ ap (λ (l : Local). top_place c.args.object l.holds) (sym c.raise.ensures.kept)
 
 pub returns : goal.returns
 returns c = (raised (goal.at.returns c).After-raise).whole _ _ c.leave_record.ensures

@@ -1,22 +1,11 @@
-use Rattle.std.proofs.Common.{◌+◌, ◌==◌, not, ap, sym, ◌∙◌, arith, add-one, take, refl}
-use Rattle.core_world.specs.Locks.{count_where}
-use Rattle.heap_table.proofs.Counting.{number_more}
-use Rattle.heap_table.proofs.Held.{number_used}
+use Rattle.std.proofs.Common.{rules, ◌≡◌, ◌==◌, length, not, arith}
+use Rattle.plain_monitor.specs.Limits.{most_holds}
+use Rattle.heap_table.proofs.Counting.{number_few}
 use Rattle.heap_table.proofs.holds.Holds.count.Goals as goal
 
-pub loop-i-preserved : goal.loop-i-preserved
-loop-i-preserved c =
-    let i = c.loop-i.i in
-    let words = c.args.self.now.words in
-    let more = number_more (λ p h. not (h == 0)) 0 i words (omega (arith, c.loop-i-test.true, c.args.self.now.within)) in
-    let next = add-one i in
-    let inv = c.loop-i.invariant in
-    let one = c.one_if-count.ensures in
-    let value = one.value in
-    ((λ j. inv.0 j + value j) ∙ sym more ∙ ap (λ n. count_where (λ p h. not (h == 0)) 0 (take n words)) (sym next), omega (arith, inv.1, one.few))
-
-pub returns-clause-holds : goal.returns-clause-holds
-returns-clause-holds c =
+pub returns-clause-few : goal.returns-clause-few
+returns-clause-few c =
     let holds = c.args.self.now in
-    let all = number_used (λ h. not (h == 0)) 0 c.loop-i.i holds.words refl (λ i l. holds.rest i (omega (arith, l, c.loop-i-test.false))) in
-    c.loop-i.invariant.0 ∙ all
+    let n : length holds.words ≡ most_holds = search rules in
+    let few = number_few (λ p h. not (h == 0)) 0 holds.words in
+    let is = holds.counted in omega (arith, n, few, is)

@@ -1,4 +1,4 @@
-use Rattle.std.proofs.Common.{refl}
+use Rattle.std.proofs.Common.{◌<◌, refl, sym, subst}
 use Rattle.core_world.specs.declared.heap_call.HeapCall.TheVariants.{Exit}
 use Rattle.core_world.specs.declared.heap_call.Operation.TheVariants as op
 use Rattle.core_world.specs.Threads.ThreadView.{local_of}
@@ -13,8 +13,8 @@ use Rattle.lock_runtime.proofs.Goes.{GoesIfHeld, goes_due, goes_made, goes_rests
 use Rattle.lock_runtime.proofs.LeftNothing.{first_to_exit}
 use Rattle.lock_runtime.proofs.Refused.{some_by_log, goes_by_log}
 use Rattle.lock_runtime.proofs.StandsCalls.{exit_leaves}
-use Rattle.lock_runtime.proofs.leaving.exit_held.Goals as goal
-use Rattle.lock_runtime.proofs.leaving.exit_held.Goals.{After-unfinished-context}
+use Rattle.lock_runtime.proofs.leaving.exit_counted.Goals as goal
+use Rattle.lock_runtime.proofs.leaving.exit_counted.Goals.{After-unfinished-context}
 
 pub leave_held-requires-clause-object : goal.leave_held-requires-clause-object
 leave_held-requires-clause-object c =
@@ -23,8 +23,10 @@ leave_held-requires-clause-object c =
 pub leave_held-requires-clause-room : goal.leave_held-requires-clause-room
 leave_held-requires-clause-room c = room_one c.args.heap.now c.args.pass.now (Exit c.args.object) c.requires.may
 
-pub leave_held-requires-clause-held : goal.leave_held-requires-clause-held
-leave_held-requires-clause-held c = some_by_log c.args.heap.now c.args.pass.now c.requires.may.call.rests c.args.object c.requires.held
+pub leave_held-requires-clause-some : goal.leave_held-requires-clause-some
+leave_held-requires-clause-some c =
+    let held = some_by_log c.args.heap.now c.args.pass.now c.requires.may.call.rests c.args.object c.requires.held in
+    subst (λ n. 0 < n) (sym c.requires.depth) held
 
 -- the thread has a hold on the object, so the call goes on
 goes : (c : After-unfinished-context) → let a = c.args in
