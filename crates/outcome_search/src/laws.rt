@@ -125,8 +125,8 @@ pub fn spent_threads_are_counted_where_entries_lead_to_one()
         → (m : PlainMachine) × IsLed p top_fuel m × HasSpent m }
 {}
 
-/// By the way on which a search found an end, the walk of a witness comes to such an end, too, unless the way is cut short: with the most fuel that a
-/// run may have, and none given back, a thread is spent on it.
+/// By the way on which a search found an end, the walk of a witness comes to such an end, too, unless a way to such an end is cut short: with the most
+/// fuel that a run may have, and none given back, a thread is spent on it.
 pub fn ways_to_ends_are_walked_or_cut_short()
     ensures { (p : ProgramText) (choices key : List ℕ) (end : End) → IsProgram p → has_hash p ≡ false
         → LeadsBy (next_key p top_fuel top_steps) (length p.threads) (first_key p top_fuel top_steps) choices key
