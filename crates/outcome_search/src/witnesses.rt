@@ -14,8 +14,8 @@ ghost use Rattle.outcome_search.specs.Outcomes.{top_fuel, top_steps, has_hash};
 ghost use Rattle.outcome_search.specs.Real.{IsLed};
 ghost use Rattle.outcome_search.specs.SmallPrograms.{spinning, one_spent};
 
-/// A thread that jumps to where it is: of its one state `spent 1` is counted, and no state is left open. So it is with
-/// each program that meets the premises of `spent_threads_are_counted_where_entries_lead_to_one`.
+/// A thread that jumps to where it is: of its one state `spent 1` is counted, and no state is left open. So the
+/// premises of `spent_threads_are_counted_where_entries_lead_to_one` are met.
 pub fn a_thread_can_be_spent()
     ensures { (m : PlainMachine) × IsProgram spinning × IsEveryEnd spinning 1 one_spent × (1 ≤ one_spent.spent)
         × IsLed spinning top_fuel m × HasSpent m }
