@@ -8,6 +8,7 @@ use Rattle.object_program.specs.Valid.{IsProgram}
 use Rattle.plain_history.specs.ExactStamps.{StampsAreExact}
 use Rattle.plain_machine.specs.Legal.{IsLegal, machine_after}
 use Rattle.plain_machine.specs.Machine.{PlainMachine, is_stuck}
+use Rattle.plain_machine.specs.Thread.{ThreadState}
 use Rattle.plain_machine.specs.declared.monitor_call.Mode.TheVariants.{Waiting}
 use Rattle.plain_monitor.specs.History.{RisesAbove}
 use Rattle.plain_monitor.specs.Limits.{most_fuel}
@@ -21,6 +22,9 @@ pub run : IsProgram hash_program × (hash_fuel ≤ most_fuel) × IsLegal hash_pr
 run = (program, omega arith, legal, stamps, fit, under)
 
 -- a thread that waits, alone
+abbrev waiter : ThreadState
+waiter = record hashing_end { holds = 1 ∷ []; mode = Waiting 0 }
+
 abbrev waiting : PlainMachine
 waiting =
     record {
@@ -31,8 +35,8 @@ waiting =
         hash = None;
       } ∷ [];
       made = [] ∷ [];
-      threads = record hashing_end { holds = 1 ∷ []; mode = Waiting 0 } ∷ [];
+      threads = waiter ∷ [];
     }
 
-pub stuck : (m : PlainMachine) × (is_stuck m ≡ true)
-stuck = (waiting, refl)
+pub stuck : (m : PlainMachine) × (s : ThreadState) × (m.threads ≡ s ∷ []) × (s.mode ≡ Waiting 0) × (is_stuck m ≡ true)
+stuck = (waiting, waiter, refl, refl, refl)

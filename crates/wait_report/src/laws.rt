@@ -13,7 +13,7 @@ ghost use Rattle.wait_report.specs.Cycles.{IsCycle, AreCycles};
 
 /// A machine that is stuck and has no cycle has a thread that waits, and that nobody has notified (`waits`). One that is stuck and
 /// where no thread waits so has a cycle (`cycle`). Both hold of each machine that is reached, as the one under a program's logs is
-/// (`reached`). Nor will that thread be notified: no thread of a stuck machine is offered an entry.
+/// (`reached`).
 pub fn a_stuck_machine_without_a_cycle_has_one_that_waits()
     ensures waits { (m : PlainMachine) → IsReached m → is_stuck m ≡ true → AreCycles m []
         → (t : ℕ) × (o : ℕ) × WaitsUnnotified m t o }
