@@ -24,7 +24,6 @@ weaker P Q (w ∷ ws) f h = f w ws h
 pub has_word : (P : ℕ → List ℕ → Type 0) (xs : List ℕ) → GoesOn P xs → HasWord xs
 has_word P xs h = weaker P (λ w ws. Unit {0}) xs (λ w ws a. tt) h
 
-
 -- one value more
 pub value_next : (n less : ℕ) (xs : List ℕ) → n ≡ suc less → TellsValues n xs → GoesOn (λ w rest. TellsValue w × TellsValues less rest) xs
 value_next n less xs e h = subst (λ (k : ℕ). TellsValues k xs) e h

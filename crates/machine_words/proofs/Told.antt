@@ -66,7 +66,7 @@ threads_told p (s ∷ ss) ws valid all small made =
     let others = threads_told p ss ws valid all.1 small.1 (λ t z at. made (suc t) z at) in (
       subst TellsThread (sym apart) own,
       subst (TellsThreads (length ss))
-      (sym (ap (λ (xs : List ℕ). (read_thread xs).1) apart ∙ ap (λ (r : ThreadParts × List ℕ). r.1) back)) others,
+          (sym (ap (λ (xs : List ℕ). (read_thread xs).1) apart ∙ ap (λ (r : ThreadParts × List ℕ). r.1) back)) others,
     )
 
 row_told : (p : ProgramText) (row ws : List ℕ) → length p.classes < 2 ^ 32 → AllByRecursion (λ c. c < length p.classes) row
@@ -95,8 +95,8 @@ pairs_told n (p ∷ ps) ws few all counts =
     let own : counts_in (p ∷ ps) p.0 ≡ p.1 + counts_in ps p.0 = ap (λ (b : Bool). (if b then p.1 else 0) + counts_in ps p.0) same in
     let most = counts p.0 all.0.0 in
     let others : (t : ℕ) → t < n → counts_in ps t ≤ most_holds = λ t lt.
-        let whole : counts_in (p ∷ ps) t ≡ (if p.0 == t then p.1 else 0) + counts_in ps t = refl in
-        omega (arith, whole, counts t lt) in
+    let whole : counts_in (p ∷ ps) t ≡ (if p.0 == t then p.1 else 0) + counts_in ps t = refl in
+    omega (arith, whole, counts t lt) in
     (omega (arith, all.0.0, few), (omega (arith, own, most), pairs_told n ps ws few all.1 others))
 
 -- the owner, and how often it has entered
@@ -122,9 +122,9 @@ object_told n x ws few is hash values stands =
     append_assoc (pair_words m.waits ++ pair_words m.called) words ws ∙ append_assoc (pair_words m.waits) (pair_words m.called) (words ++ ws) in
     let owner = owner_told n m m.owner refl few is.owner stands in
     let waits_few : (t : ℕ) → t < n → counts_in m.waits t ≤ most_holds = λ t lt.
-        let most : for_owner m.owner m.count t + counts_in m.waits t + counts_in m.called t ≤ most_holds = stands t lt in omega (arith, most) in
+    let most : for_owner m.owner m.count t + counts_in m.waits t + counts_in m.called t ≤ most_holds = stands t lt in omega (arith, most) in
     let called_few : (t : ℕ) → t < n → counts_in m.called t ≤ most_holds = λ t lt.
-        let most : for_owner m.owner m.count t + counts_in m.waits t + counts_in m.called t ≤ most_holds = stands t lt in omega (arith, most) in
+    let most : for_owner m.owner m.count t + counts_in m.waits t + counts_in m.called t ≤ most_holds = stands t lt in omega (arith, most) in
     let after : (read_pairs (length m.waits) (pair_words m.waits ++ (pair_words m.called ++ (words ++ ws)))).1 ≡ pair_words m.called ++ (words ++ ws) =
     ap (λ (r : List (ℕ × ℕ) × List ℕ). r.1) (pairs_back m.waits (pair_words m.called ++ (words ++ ws))) in
     let last : (read_pairs (length m.called) (pair_words m.called ++ (words ++ ws))).1 ≡ words ++ ws =
@@ -144,7 +144,7 @@ pub objects_told : (m old : PlainMachine) → IsReached m → IsReached old → 
 objects_told m old h k same =
     let few : length m.threads ≤ most_threads = omega (arith, h.thread_count, h.program.threads_few) in
     let spelled : (o : ℕ) (x : PlainObject) → slice_get m.objects o ≡ Some x → AllByRecursion IsSpellable x.slots = λ o x at.
-        all_spelled m.program x.slots h.program (h.slots o x at).values in
+    all_spelled m.program x.slots h.program (h.slots o x at).values in
     record {
       count = h.object_count ∙ ap objects_total same ∙ sym k.object_count ∙ sym (length_map renewed old.objects);
       slots = λ o x y at old_at.

@@ -46,12 +46,12 @@ returns-in_err-read_threads-clause-lost c =
     let lost : IsLost ((m : PlainMachine) × IsReached m × HasNumbers m × (m.program ≡ p) × (words_of m ≡ ws)) c.in_err-read_threads.field-0.0 =
     lost_by c.in_err-read_threads.field-0.0
     (λ h.
-        let count : length c.renew_all.new.threads ≡ length h.0.threads =
-        c.renew_all.auto.threads ∙ c.requires.room.thread_count ∙ ap (λ (q : ProgramText). length q.threads) (sym h.3) ∙ sym h.1.thread_count in
-        let told : TellsThreads (length h.0.program.threads) (words_of h.0) =
-        threads_are_told h.0 (made_words h.0.made ++ objects_words 0 h.0.objects) h.1 h.2 in
-        let as_many : length h.0.program.threads ≡ length c.renew_all.new.threads = sym (count ∙ h.1.thread_count) in
-        subst (λ (n : ℕ). TellsThreads n ws) as_many (subst (TellsThreads (length h.0.program.threads)) h.4 told))
+    let count : length c.renew_all.new.threads ≡ length h.0.threads =
+    c.renew_all.auto.threads ∙ c.requires.room.thread_count ∙ ap (λ (q : ProgramText). length q.threads) (sym h.3) ∙ sym h.1.thread_count in
+    let told : TellsThreads (length h.0.program.threads) (words_of h.0) =
+    threads_are_told h.0 (made_words h.0.made ++ objects_words 0 h.0.objects) h.1 h.2 in
+    let as_many : length h.0.program.threads ≡ length c.renew_all.new.threads = sym (count ∙ h.1.thread_count) in
+    subst (λ (n : ℕ). TellsThreads n ws) as_many (subst (TellsThreads (length h.0.program.threads)) h.4 told))
     c.in_err-read_threads.ensures.lost in
     search rules
 
@@ -63,18 +63,18 @@ returns-in_err-read_made-clause-lost c =
     let lost : IsLost ((m : PlainMachine) × IsReached m × HasNumbers m × (m.program ≡ p) × (words_of m ≡ ws)) c.in_err-read_made.field-0.0 =
     lost_by c.in_err-read_made.field-0.0
     (λ h.
-        let count : length c.renew_all.new.threads ≡ length h.0.threads =
-        c.renew_all.auto.threads ∙ c.requires.room.thread_count ∙ ap (λ (q : ProgramText). length q.threads) (sym h.3) ∙ sym h.1.thread_count in
-        let beyond : drop c.read_threads.new.at ws ≡ made_words h.0.made ++ objects_words 0 h.0.objects =
-        c.in_ok-read_threads.ensures.rest ∙ threads_after c.args.fuel 0 c.renew_all.new.threads ws
-        ∙ after_threads h.0 (length c.renew_all.new.threads) ws h.1 count h.4 in
-        let rows : length c.args.register.now.made ≡ length h.0.made =
-        c.requires.room.row_count ∙ ap (λ (q : ProgramText). length q.threads) (sym h.3) ∙ sym h.1.row_count in
-        let told : TellsRows (length h.0.program.threads) (made_words h.0.made ++ objects_words 0 h.0.objects) =
-        rows_are_told h.0 (objects_words 0 h.0.objects) h.1 in
-        let as_many : length h.0.program.threads ≡ length c.args.register.now.made = sym (rows ∙ h.1.row_count) in
-        subst (TellsRows (length c.args.register.now.made)) (sym beyond)
-        (subst (λ (n : ℕ). TellsRows n (made_words h.0.made ++ objects_words 0 h.0.objects)) as_many told))
+    let count : length c.renew_all.new.threads ≡ length h.0.threads =
+    c.renew_all.auto.threads ∙ c.requires.room.thread_count ∙ ap (λ (q : ProgramText). length q.threads) (sym h.3) ∙ sym h.1.thread_count in
+    let beyond : drop c.read_threads.new.at ws ≡ made_words h.0.made ++ objects_words 0 h.0.objects =
+    c.in_ok-read_threads.ensures.rest ∙ threads_after c.args.fuel 0 c.renew_all.new.threads ws
+    ∙ after_threads h.0 (length c.renew_all.new.threads) ws h.1 count h.4 in
+    let rows : length c.args.register.now.made ≡ length h.0.made =
+    c.requires.room.row_count ∙ ap (λ (q : ProgramText). length q.threads) (sym h.3) ∙ sym h.1.row_count in
+    let told : TellsRows (length h.0.program.threads) (made_words h.0.made ++ objects_words 0 h.0.objects) =
+    rows_are_told h.0 (objects_words 0 h.0.objects) h.1 in
+    let as_many : length h.0.program.threads ≡ length c.args.register.now.made = sym (rows ∙ h.1.row_count) in
+    subst (TellsRows (length c.args.register.now.made)) (sym beyond)
+    (subst (λ (n : ℕ). TellsRows n (made_words h.0.made ++ objects_words 0 h.0.objects)) as_many told))
     c.in_err-read_made.ensures.lost in
     search rules
 
@@ -86,21 +86,21 @@ returns-in_err-read_objects-clause-lost c =
     let lost : IsLost ((m : PlainMachine) × IsReached m × HasNumbers m × (m.program ≡ p) × (words_of m ≡ ws)) c.in_err-read_objects.field-0.0 =
     lost_by c.in_err-read_objects.field-0.0
     (λ h.
-        let count : length c.renew_all.new.threads ≡ length h.0.threads =
-        c.renew_all.auto.threads ∙ c.requires.room.thread_count ∙ ap (λ (q : ProgramText). length q.threads) (sym h.3) ∙ sym h.1.thread_count in
-        let beyond : drop c.read_threads.new.at ws ≡ made_words h.0.made ++ objects_words 0 h.0.objects =
-        c.in_ok-read_threads.ensures.rest ∙ threads_after c.args.fuel 0 c.renew_all.new.threads ws
-        ∙ after_threads h.0 (length c.renew_all.new.threads) ws h.1 count h.4 in
-        let rows : length c.args.register.now.made ≡ length h.0.made =
-        c.requires.room.row_count ∙ ap (λ (q : ProgramText). length q.threads) (sym h.3) ∙ sym h.1.row_count in
-        let last : drop c.read_made.new.at ws ≡ objects_words 0 h.0.objects =
-        c.in_ok-read_made.ensures.rest ∙ after_made h.0 (length c.args.register.now.made) (drop c.read_threads.new.at ws) rows beyond in
-        let told : AreTold (length h.0.threads) (map renewed c.args.objects.now) h.0.objects = objects_told h.0 old h.1 c.requires.room h.3 in
-        let all : length h.0.threads ≡ length c.read_threads.new.threads = sym (c.read_threads.auto.threads ∙ count) in (
-          h.0.objects,
-          subst (λ (n : ℕ). AreTold n c.renew_all.new.objects h.0.objects) all
+    let count : length c.renew_all.new.threads ≡ length h.0.threads =
+    c.renew_all.auto.threads ∙ c.requires.room.thread_count ∙ ap (λ (q : ProgramText). length q.threads) (sym h.3) ∙ sym h.1.thread_count in
+    let beyond : drop c.read_threads.new.at ws ≡ made_words h.0.made ++ objects_words 0 h.0.objects =
+    c.in_ok-read_threads.ensures.rest ∙ threads_after c.args.fuel 0 c.renew_all.new.threads ws
+    ∙ after_threads h.0 (length c.renew_all.new.threads) ws h.1 count h.4 in
+    let rows : length c.args.register.now.made ≡ length h.0.made =
+    c.requires.room.row_count ∙ ap (λ (q : ProgramText). length q.threads) (sym h.3) ∙ sym h.1.row_count in
+    let last : drop c.read_made.new.at ws ≡ objects_words 0 h.0.objects =
+    c.in_ok-read_made.ensures.rest ∙ after_made h.0 (length c.args.register.now.made) (drop c.read_threads.new.at ws) rows beyond in
+    let told : AreTold (length h.0.threads) (map renewed c.args.objects.now) h.0.objects = objects_told h.0 old h.1 c.requires.room h.3 in
+    let all : length h.0.threads ≡ length c.read_threads.new.threads = sym (c.read_threads.auto.threads ∙ count) in (
+      h.0.objects,
+      subst (λ (n : ℕ). AreTold n c.renew_all.new.objects h.0.objects) all
           (subst (λ (xs : List PlainObject). AreTold (length h.0.threads) xs h.0.objects) (sym c.in_ok-renew_all.ensures.objects) told),
-          last,
-        ))
+      last,
+    ))
     c.in_err-read_objects.ensures.lost in
     search rules

@@ -90,9 +90,9 @@ returns-then-next-number-clause-lost c =
     let here : rest ≡ next ∷ drop (c.loop-at.at + 1) ws = drop_more ws c.loop-at.at 0 c.loop-at-test.true in
     let either = c.then-next-number.either in
     λ h.
-        let was = inv.told h.0 h.1 h.2 in
-        let g = goes_on_with c.loop-at.number h.0 next (drop (c.loop-at.at + 1) ws) (sym was.1 ∙ here) in
-        omega (arith, g.from, got_within h.0 next g.object g.at, h.1.count, inv.walks.count, either)
+    let was = inv.told h.0 h.1 h.2 in
+    let g = goes_on_with c.loop-at.number h.0 next (drop (c.loop-at.at + 1) ws) (sym was.1 ∙ here) in
+    omega (arith, g.from, got_within h.0 next g.object g.at, h.1.count, inv.walks.count, either)
 
 pub returns-in_err-read_at-clause-lost : goal.returns-in_err-read_at-clause-lost
 returns-in_err-read_at-clause-lost c =
@@ -115,10 +115,10 @@ returns-in_err-read_at-clause-lost c =
     c.in_err-read_at.field-0.0 =
     lost_by c.in_err-read_at.field-0.0
     (λ h.
-        let was = inv.told h.0 h.1 h.2 in
-        let g = goes_on_with c.loop-at.number h.0 next (drop (c.loop-at.at + 1) ws) (sym was.1 ∙ here) in
-        told_next old g.object rest (drop (c.loop-at.at + 1) ws) _ next here g.rest (h.1.slots next g.object old g.at old_is)
-        (h.1.told next g.object _ g.at))
+    let was = inv.told h.0 h.1 h.2 in
+    let g = goes_on_with c.loop-at.number h.0 next (drop (c.loop-at.at + 1) ws) (sym was.1 ∙ here) in
+    told_next old g.object rest (drop (c.loop-at.at + 1) ws) _ next here g.rest (h.1.slots next g.object old g.at old_is)
+    (h.1.told next g.object _ g.at))
     c.in_err-read_at.ensures.lost in
     search rules
 
@@ -146,18 +146,18 @@ returns-in_err-place_object-clause-lost c =
     c.in_err-place_object.field-0.0 =
     lost_by c.in_err-place_object.field-0.0
     (λ h.
-        let was = inv.told h.0 h.1 h.2 in
-        let g = goes_on_with c.loop-at.number h.0 next (drop (c.loop-at.at + 1) ws) (sym was.1 ∙ here) in
-        let back = object_read old g.object rest (drop (c.loop-at.at + 1) ws) _ next here g.rest (h.1.slots next g.object old g.at old_is)
-        (h.1.values next g.object g.at) in
-        let is_read : placed ≡ g.object = same ∙ c.in_ok-read_at.ensures.object ∙ ap (λ (r : PlainObject × List ℕ). r.0) back in
-        let few : (t : ℕ) → t < length c.loop-at.threads → standing placed.monitor t ≤ most_holds = λ t lt.
-            subst (λ (x : PlainObject). standing x.monitor t ≤ most_holds) (sym is_read)
-            (omega (arith, stands_few h.0 t next g.object g.at, h.1.few t (omega (arith, lt, c.loop-at.auto.threads)))) in (
-          few,
-          subst (AllByRecursion (λ (s : ThreadState). sum s.holds ≤ most_holds)) (sym inv.threads)
+    let was = inv.told h.0 h.1 h.2 in
+    let g = goes_on_with c.loop-at.number h.0 next (drop (c.loop-at.at + 1) ws) (sym was.1 ∙ here) in
+    let back = object_read old g.object rest (drop (c.loop-at.at + 1) ws) _ next here g.rest (h.1.slots next g.object old g.at old_is)
+    (h.1.values next g.object g.at) in
+    let is_read : placed ≡ g.object = same ∙ c.in_ok-read_at.ensures.object ∙ ap (λ (r : PlainObject × List ℕ). r.0) back in
+    let few : (t : ℕ) → t < length c.loop-at.threads → standing placed.monitor t ≤ most_holds = λ t lt.
+    subst (λ (x : PlainObject). standing x.monitor t ≤ most_holds) (sym is_read)
+    (omega (arith, stands_few h.0 t next g.object g.at, h.1.few t (omega (arith, lt, c.loop-at.auto.threads)))) in (
+      few,
+      subst (AllByRecursion (λ (s : ThreadState). sum s.holds ≤ most_holds)) (sym inv.threads)
           (beside_few objects 0 c.args.threads.now (λ u lt. omega (arith, held_in_all objects h.0 u was.0, h.1.few u (omega (arith, lt))))),
-        ))
+    ))
     c.in_err-place_object.ensures.lost in
     search rules
 

@@ -24,9 +24,9 @@ returns c =
     let o2 = c.add_made.new.out.items in
     record {
       words =
-      three_written o o1 o2 c.add_objects.new.out.items (threads_words m.threads) (made_words m.made) (objects_words 0 m.objects)
-    (c.in_ok-add_threads.ensures.words ∙ ap (λ (ss : List ThreadState). o ++ threads_words ss) c.threads.ensures)
-    (c.in_ok-add_made.ensures ∙ ap (λ (rows : List (List ℕ)). o1 ++ made_words rows) c.register.ensures.made)
-    c.in_ok-add_objects.ensures;
+          three_written o o1 o2 c.add_objects.new.out.items (threads_words m.threads) (made_words m.made) (objects_words 0 m.objects)
+          (c.in_ok-add_threads.ensures.words ∙ ap (λ (ss : List ThreadState). o ++ threads_words ss) c.threads.ensures)
+          (c.in_ok-add_made.ensures ∙ ap (λ (rows : List (List ℕ)). o1 ++ made_words rows) c.register.ensures.made)
+          c.in_ok-add_objects.ensures;
       numbers = subst (AllByRecursion HasSmall) c.threads.ensures c.in_ok-add_threads.ensures.numbers;
     }
