@@ -81,7 +81,8 @@ held_renewed xs ys k x below t o =
 
 -- threads beside objects that each holds at most as often as it may
 pub beside_few : (objects : List PlainObject) (t : ℕ) (ss : List ThreadState)
-    → ((u : ℕ) → u < t + length ss → sum (holds_in u objects) ≤ most_holds) → AllByRecursion (λ (s : ThreadState). sum s.holds ≤ most_holds) (beside objects t ss)
+    → ((u : ℕ) → u < t + length ss → sum (holds_in u objects) ≤ most_holds)
+    → AllByRecursion (λ (s : ThreadState). sum s.holds ≤ most_holds) (beside objects t ss)
 beside_few objects t [] few = tt
 beside_few objects t (s ∷ ss) few =
     (few t (omega arith), beside_few objects (t + 1) ss (λ u lt. few u (omega (arith, lt))))

@@ -53,7 +53,8 @@ fn standing(object: &Object, t: u32) -> Result<u32, Unread>
 /// Thread t holds the object with this number as often as its monitor says. Where its holds are more than they may be, `NoMachine`.
 fn hold(number: u32, object: &Object, t: u32, thread: &mut Thread) -> Result<(), Unread>
     requires { number < length thread.old.holds }
-    ensures lost { IfErr result (IsLost ((standing object.now.monitor t ≤ most_holds) × (sum thread.old.holds ≤ most_holds))) }
+    ensures lost { IfErr result (IsLost ((standing object.now.monitor t ≤ most_holds)
+        × (sum thread.old.holds ≤ most_holds))) }
     ensures held { OnOk result (thread.new
         ≡ record thread.old { holds = slice_set thread.old.holds number (standing object.now.monitor t) }) }
 {

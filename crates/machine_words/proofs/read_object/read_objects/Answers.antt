@@ -1,4 +1,5 @@
-use Rattle.std.proofs.Common.{rules, ◌≡◌, ◌≤◌, sum, ℕ, ◌+◌, ◌<◌, List, [], ◌∷◌, length, drop, slice_set, slice_get, slice_index_or, Some, sym, subst, ap, ◌∙◌, arith}
+use Rattle.std.proofs.Common.{rules, ◌≡◌, ◌≤◌, sum, ℕ, ◌+◌, ◌<◌, List, [], ◌∷◌, length, drop, slice_set, slice_get, slice_index_or}
+use Rattle.std.proofs.Common.{Some, sym, subst, ap, ◌∙◌, arith}
 use Rattle.std.specs.List.{AllByRecursion}
 use Rattle.std.proofs.lemmas.List.{drop_more, drop_all, get_or-set_same}
 use Rattle.std.proofs.lemmas.Option.{slice_get-get_or}

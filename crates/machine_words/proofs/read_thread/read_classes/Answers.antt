@@ -40,7 +40,8 @@ loop-preserved c =
       count = more.2 ∙ inv.count;
       same = more.0;
       reads = reads_more read_numbers (made_by first c.args.t) c.args.count (drop c.args.at.now ws) (made_by old c.args.t) (c.args.count - c.loop.counter)
-          (drop c.loop.at ws) c.in_ok-class.class less beyond (made_by new c.args.t) more.1 left (ap (read_numbers (suc less)) c.in_ok-class.ensures.read) inv.reads;
+          (drop c.loop.at ws) c.in_ok-class.class less beyond (made_by new c.args.t) more.1 left
+          (ap (read_numbers (suc less)) c.in_ok-class.ensures.read) inv.reads;
       grown =
           let one : length (made_by new c.args.t) ≡ length (made_by old c.args.t) + 1 =
           ap length more.1 ∙ length-append (made_by old c.args.t) (c.in_ok-class.class ∷ []) in

@@ -16,7 +16,8 @@ returns c =
     let o4 = c.add-4.new.out.items in
     record {
       words =
-          four_in_front c.args.out.now.items o1 o2 o3 o4 c.add_values.new.out.items (head_word s) (mode_rest s.mode) s.made (length s.locals) (map word_of s.locals)
+          four_in_front c.args.out.now.items o1 o2 o3 o4 c.add_values.new.out.items (head_word s) (mode_rest s.mode) s.made (length s.locals)
+          (map word_of s.locals)
           (c.in_ok-add.ensures ∙ ap (λ w. c.args.out.now.items ++ w ∷ []) c.head_word.ensures.word)
           (c.in_ok-add-2.ensures ∙ ap (λ w. o1 ++ w ∷ []) (c.mode_rest.ensures.rest ∙ ap mode_rest c.mode.ensures))
           (c.in_ok-add-3.ensures ∙ ap (λ w. o2 ++ w ∷ []) (c.from.ensures ∙ c.made.ensures))

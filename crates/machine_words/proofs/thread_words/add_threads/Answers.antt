@@ -28,7 +28,8 @@ loop-thread-preserved c =
 
 pub returns-clause-words : goal.returns-clause-words
 returns-clause-words c =
-    written_all threads_words c.args.threads.now c.loop-thread.thread-index c.loop-thread.out.items _ c.loop-thread-test.false refl c.loop-thread.invariant.words
+    written_all threads_words c.args.threads.now c.loop-thread.thread-index c.loop-thread.out.items _ c.loop-thread-test.false refl
+    c.loop-thread.invariant.words
 
 pub returns-clause-numbers : goal.returns-clause-numbers
 returns-clause-numbers c =
