@@ -84,7 +84,7 @@ fn find_ends<K: Sink>(
     match find_outcomes(alloc, program, states as usize) {
         Ok((counts, found)) => write_ends(alloc, witness, program, &counts, &found, sink),
         Err(OutcomeError::Hash) => finish_with(sink, 3, b"program: Hash\n"),
-        Err(OutcomeError::NoMemory | OutcomeError::NoState) => out_of_memory(),
+        Err(OutcomeError::NoMemory) => out_of_memory(),
     }
 }
 

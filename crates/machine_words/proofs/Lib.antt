@@ -16,3 +16,7 @@ pub mod There
 pub mod Jumps
 pub mod Beside
 pub mod Renewing
+pub mod Lost
+pub mod Holding
+pub mod Changed
+pub mod Told

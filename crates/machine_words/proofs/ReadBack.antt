@@ -20,7 +20,7 @@ use Rattle.machine_words.proofs.ReadThreads.{IsReadable, parts_of, threads_back,
 use Rattle.machine_words.proofs.ReadMade.{made_back}
 use Rattle.machine_words.proofs.ReadObjects.{AreReadable, objects_back}
 
-threads_readable : (p : ProgramText) (ss : List ThreadState) → IsProgram p → AllByRecursion (IsThreadOf p) ss → AllByRecursion IsReadable ss
+pub threads_readable : (p : ProgramText) (ss : List ThreadState) → IsProgram p → AllByRecursion (IsThreadOf p) ss → AllByRecursion IsReadable ss
 threads_readable p [] valid all = tt
 threads_readable p (s ∷ ss) valid all =
     (record { dumps = all.0.state.dumps; locals = all_spelled p s.locals valid all.0.state.locals }, threads_readable p ss valid all.1)

@@ -3,7 +3,7 @@ use Rattle.std.proofs.Common.{◌≡◌, ℕ, List, [], ◌∷◌, ◌++◌, len
 use Rattle.machine_words.specs.Readers.{read_numbers}
 use Rattle.machine_words.specs.MadeWords.{made_words, read_made}
 
-numbers_back : (ns ws : List ℕ) → read_numbers (length ns) (ns ++ ws) ≡ (ns, ws)
+pub numbers_back : (ns ws : List ℕ) → read_numbers (length ns) (ns ++ ws) ≡ (ns, ws)
 numbers_back [] ws = refl
 numbers_back (n ∷ ns) ws = ap (λ (r : List ℕ × List ℕ). (n ∷ r.0, r.1)) (numbers_back ns ws)
 

@@ -10,7 +10,7 @@ use Rattle.plain_monitor.specs.Objects.{PlainObject, new_object, same_value}
 use Rattle.plain_monitor.specs.ValueWords.{IsSpellable, word_of}
 use Rattle.machine_laws.proofs.ReachedObjects.{same_is}
 use Rattle.machine_words.specs.Readers.{option_word, pair_words, read_pairs, read_values}
-use Rattle.machine_words.specs.ObjectWords.{is_new, object_words, objects_words, read_slots, read_object, begins, read_objects}
+use Rattle.machine_words.specs.ObjectWords.{is_new, object_words, objects_words, read_slots, read_object, begins, after_one, read_objects}
 use Rattle.machine_words.proofs.ReadWords.{option_back, pairs_back, values_back}
 
 pub object_back : (n : ℕ) (x : PlainObject) (ws : List ℕ) → length x.slots ≡ n → AllByRecursion IsSpellable x.slots
@@ -108,3 +108,10 @@ objects_back slots k (x ∷ xs) all = go (is_new x) refl (objects_back slots (k 
         rw (e, here)
         (ap (λ (r : PlainObject × List ℕ). r.0 ∷ read_objects slots (k + 1) (length xs) r.1) (object_back (slots k) x (objects_words (k + 1) xs) all.0 all.1)
         ∙ ap (λ (ys : List PlainObject). x ∷ ys) ih)
+
+-- the object that the words go on with, which has as many slots as another
+pub object_read : (old x : PlainObject) (rest after ws : List ℕ) (w : ℕ) → rest ≡ w ∷ after → after ≡ object_words x ++ ws
+    → length x.slots ≡ length old.slots → AllByRecursion IsSpellable x.slots → read_object (length old.slots) (after_one rest) ≡ (x, ws)
+object_read old x rest after ws w is e count all =
+    ap (λ (ys : List ℕ). read_object (length old.slots) (after_one ys)) is ∙ ap (read_object (length old.slots)) e
+    ∙ object_back (length old.slots) x ws count all

@@ -44,7 +44,7 @@ parts_back s few =
     let kind : ((s.place * 8 + s.dumps) * 32 + mode_kind s.mode) % 32 ≡ mode_kind s.mode = omega (arith, few, small) in
     λ i. record { place = place i; dumps = dumps i; kind = kind i; rest = mode_rest s.mode; made = s.made; locals = s.locals }
 
-thread_back : (s : ThreadState) (ws : List ℕ) → IsReadable s → read_thread (thread_words s ++ ws) ≡ (parts_of s, ws)
+pub thread_back : (s : ThreadState) (ws : List ℕ) → IsReadable s → read_thread (thread_words s ++ ws) ≡ (parts_of s, ws)
 thread_back s ws h =
     ap (λ (r : List _ × List ℕ). (parts_with (head_word s) (mode_rest s.mode) s.made r.0, r.1)) (values_back s.locals ws h.locals)
     ∙ ap (λ (p : ThreadParts). (p, ws)) (parts_back s h.dumps)

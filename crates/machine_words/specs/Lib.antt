@@ -4,5 +4,6 @@ pub mod ThreadWords
 pub mod MadeWords
 pub mod ObjectWords
 pub mod MachineWords
+pub mod Numbers
 pub mod Untouched
 pub mod inner

@@ -1,10 +1,14 @@
 //! A machine by its words.
 
-ghost use Rattle.std.specs.Prelude.{◌≡◌, length, IfOk, OnOk};
+ghost use Rattle.std.specs.Prelude.{◌≡◌, length, Err, IfOk, IfErr, OnOk};
 ghost use Rattle.object_program.specs.Program.{numbering_of};
 ghost use Rattle.machine_laws.specs.Reached.{IsReached};
+ghost use Rattle.plain_machine.specs.Machine.{PlainMachine};
 ghost use Rattle.plain_machine.specs.Sound.{IsSound};
-ghost use Rattle.machine_words.specs.MachineWords.{machine_of};
+ghost use Rattle.machine_words.specs.MachineWords.{words_of, machine_of};
+ghost use Rattle.machine_words.specs.Numbers.{HasNumbers};
+ghost use Rattle.machine_words.specs.declared.unread.Unread.TheVariants.{NoMachine};
+ghost use Rattle.machine_words.specs.inner.Telling.{IsLost};
 ghost use Rattle.machine_words.specs.Untouched.{IsUntouched};
 
 use crate::place_thread::place_threads;
@@ -16,12 +20,18 @@ use object_program::Program;
 use plain_machine::{Machine, Object, Parts, Register, Thread};
 
 /// The machine of these words, whose threads have this much fuel each. It is made of a machine of the same program, and takes memory only
-/// where that has no room. Out of memory is `NoMemory`, and where the words are no machine's, `NoMachine`: the machine is gone then.
+/// where that has no room. After an error the machine is gone.
+///
+/// # Errors
+///
+/// `NoMemory` where an allocation fails. `NoMachine` only where these are the words of no machine that entries of the program lead to.
 pub fn load(machine: Machine, words: &[u64], fuel: u32) -> Result<Machine, Unread>
     requires room { IsReached machine }
     requires untouched { IsUntouched machine }
     requires sound { IsSound (machine_of machine.program fuel words.now) }
-    ensures { IfOk result (λ m. m ≡ machine_of machine.program fuel words.now) }
+    ensures machine { IfOk result (λ m. m ≡ machine_of machine.program fuel words.now) }
+    ensures lost { result ≡ Err NoMachine → (m : PlainMachine) → IsReached m → HasNumbers m
+        → m.program ≡ machine.program → words_of m ≡ words.now → ⊥ }
 {
     let Parts {
         program,
@@ -69,6 +79,8 @@ fn read_parts(
     }) }
     requires numbering { register.old.numbering ≡ numbering_of program.now }
     requires sound { IsSound (machine_of program.now fuel words.now) }
+    ensures lost { IfErr result (IsLost ((m : PlainMachine) × IsReached m × HasNumbers m
+        × (m.program ≡ program.now) × (words_of m ≡ words.now))) }
     ensures machine { OnOk result (record {
       program = program.now;
       objects = objects.new;

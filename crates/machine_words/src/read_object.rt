@@ -1,9 +1,11 @@
 //! Objects by their words.
 
-ghost use Rattle.std.specs.Prelude.{◌≡◌, ◌<◌, ◌^◌, ◌++◌, length, map, drop, OnOk};
+ghost use Rattle.std.specs.Prelude.{◌≡◌, ◌<◌, ◌^◌, ◌++◌, List, length, map, drop, IfErr, OnOk};
+ghost use Rattle.plain_monitor.specs.Objects.{PlainObject};
 ghost use Rattle.machine_words.specs.Readers.{read_pairs, read_values};
-ghost use Rattle.machine_words.specs.ObjectWords.{after_one, read_object};
+ghost use Rattle.machine_words.specs.ObjectWords.{objects_words, after_one, read_object};
 ghost use Rattle.machine_words.specs.inner.Reading.{walk, renewed, object_step, beside};
+ghost use Rattle.machine_words.specs.inner.Telling.{IsLost, HasWord, TellsPairs, TellsValues, TellsObject, AreTold};
 
 use crate::place_object::place_object;
 use crate::reader::{option_of, take_number, take_word, value_of};
@@ -14,9 +16,10 @@ use plain_machine::{Object, Thread};
 fn read_waiting(
     words: &[u64],
     at: &mut usize,
-    count: u32,
+    count: u64,
     object: &mut Object,
 ) -> Result<(), Unread>
+    ensures lost { IfErr result (IsLost (TellsPairs count (drop at.old words.now))) }
     ensures object { OnOk result (object.new ≡ record object.old {
       monitor = record object.old.monitor {
         waits = object.old.monitor.waits ++ (read_pairs count (drop at.old words.now)).0;
@@ -33,7 +36,8 @@ fn read_waiting(
 }
 
 /// So many threads that were notified, each with its count.
-fn read_called(words: &[u64], at: &mut usize, count: u32, object: &mut Object) -> Result<(), Unread>
+fn read_called(words: &[u64], at: &mut usize, count: u64, object: &mut Object) -> Result<(), Unread>
+    ensures lost { IfErr result (IsLost (TellsPairs count (drop at.old words.now))) }
     ensures object { OnOk result (object.new ≡ record object.old {
       monitor = record object.old.monitor {
         called = object.old.monitor.called ++ (read_pairs count (drop at.old words.now)).0;
@@ -56,6 +60,7 @@ fn read_slots(
     slots: usize,
     object: &mut Object,
 ) -> Result<(), Unread>
+    ensures lost { IfErr result (IsLost (TellsValues slots (drop at.old words.now))) }
     ensures object { OnOk result (object.new ≡ record object.old {
       slots = object.old.slots ++ (read_values slots (drop at.old words.now)).0;
     }) }
@@ -76,14 +81,15 @@ fn read_object(
     slots: usize,
     object: &mut Object,
 ) -> Result<(), Unread>
+    ensures lost { IfErr result (IsLost (TellsObject slots (drop at.old words.now))) }
     ensures object { OnOk result (object.new ≡ (read_object slots (drop at.old words.now)).0) }
     ensures rest { OnOk result (drop at.new words.now ≡ (read_object slots (drop at.old words.now)).1) }
 {
     let owner_word = take_word(words, at)?;
     let count = take_number(words, at)?;
     let hash_word = take_word(words, at)?;
-    let waiting = take_number(words, at)?;
-    let called = take_number(words, at)?;
+    let waiting = take_word(words, at)?;
+    let called = take_word(words, at)?;
     let owner = option_of(owner_word)?;
     let hash = option_of(hash_word)?;
     object.clear();
@@ -97,6 +103,8 @@ fn read_object(
 
 /// The object whose number the words go on with, with as many slots as it has.
 fn read_at(words: &[u64], at: &mut usize, object: &mut Object) -> Result<(), Unread>
+    ensures lost { IfErr result (IsLost (HasWord (drop at.old words.now)
+        × TellsObject (length object.old.slots) (after_one (drop at.old words.now)))) }
     ensures object { OnOk result (object.new ≡ (read_object (length object.old.slots) (after_one (drop at.old words.now))).0) }
     ensures rest { OnOk result (drop at.new words.now ≡ (read_object (length object.old.slots) (after_one (drop at.old words.now))).1) }
 {
@@ -118,6 +126,8 @@ pub(crate) fn read_objects(
     requires few { length objects.old < 2 ^ 32 }
     requires threads { length threads.old < 2 ^ 32 }
     requires beside { threads.old ≡ beside objects.old 0 threads.old }
+    ensures lost { IfErr result (IsLost ((xs : List PlainObject) × AreTold (length threads.old) objects.old xs
+        × (drop at.old words.now ≡ objects_words 0 xs))) }
     ensures objects { OnOk result (objects.new ≡ (walk object_step 0 objects.old (drop at.old words.now)).0) }
     ensures threads { OnOk result (threads.new ≡ beside objects.new 0 threads.old) }
 {

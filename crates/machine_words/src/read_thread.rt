@@ -1,6 +1,7 @@
 //! Threads by their words, not yet beside their objects.
 
-ghost use Rattle.std.specs.Prelude.{◌≡◌, ◌<◌, ◌++◌, length, drop, slice_set, OnOk};
+ghost use Rattle.std.specs.Prelude.{◌≡◌, ◌+◌, ◌<◌, ◌≤◌, ◌++◌, length, drop, slice_set, IfErr, OnOk};
+ghost use Rattle.plain_monitor.specs.Limits.{most_made};
 ghost use Rattle.plain_monitor.specs.Made.{made_by};
 ghost use Rattle.plain_machine.specs.declared.monitor_call.MonitorCall.TheVariants.{Dump};
 ghost use Rattle.plain_machine.specs.declared.monitor_call.Mode.TheVariants.{Calling};
@@ -9,6 +10,7 @@ ghost use Rattle.machine_words.specs.MadeWords.{read_row, read_made};
 ghost use Rattle.machine_words.specs.ModeWords.{fault_with, ending_with, mode_with};
 ghost use Rattle.machine_words.specs.ThreadWords.{read_thread};
 ghost use Rattle.machine_words.specs.inner.Reading.{walk, unplaced, thread_step};
+ghost use Rattle.machine_words.specs.inner.Telling.{IsLost, TellsNumbers, TellsValues, TellsThread, TellsThreads, TellsRow, TellsRows};
 
 use crate::reader::{number_of, take_number, take_word, value_of};
 use crate::unread::Unread;
@@ -68,7 +70,8 @@ fn mode_with(kind: u64, rest: u32) -> Mode
 }
 
 /// So many locals.
-fn read_locals(words: &[u64], at: &mut usize, count: u32, thread: &mut Thread) -> Result<(), Unread>
+fn read_locals(words: &[u64], at: &mut usize, count: u64, thread: &mut Thread) -> Result<(), Unread>
+    ensures lost { IfErr result (IsLost (TellsValues count (drop at.old words.now))) }
     ensures thread { OnOk result (thread.new ≡ record thread.old {
       locals = thread.old.locals ++ (read_values count (drop at.old words.now)).0;
     }) }
@@ -84,13 +87,14 @@ fn read_locals(words: &[u64], at: &mut usize, count: u32, thread: &mut Thread) -
 
 /// A thread that has this much fuel. Its holds stay.
 fn read_thread(words: &[u64], at: &mut usize, fuel: u32, thread: &mut Thread) -> Result<(), Unread>
+    ensures lost { IfErr result (IsLost (TellsThread (drop at.old words.now))) }
     ensures thread { OnOk result (thread.new ≡ unplaced fuel thread.old.holds (read_thread (drop at.old words.now)).0) }
     ensures rest { OnOk result (drop at.new words.now ≡ (read_thread (drop at.old words.now)).1) }
 {
     let head = take_word(words, at)?;
     let rest = take_number(words, at)?;
     let made = take_number(words, at)?;
-    let locals = take_number(words, at)?;
+    let locals = take_word(words, at)?;
     let place = number_of(head / 256)?;
     let dumps = (head / 32 % 8) as u32;
     let mode = mode_with(head % 32, rest);
@@ -107,6 +111,7 @@ pub(crate) fn read_threads(
     fuel: u32,
     threads: &mut [Thread],
 ) -> Result<(), Unread>
+    ensures lost { IfErr result (IsLost (TellsThreads (length threads.old) (drop at.old words.now))) }
     ensures threads { OnOk result (threads.new ≡ (walk (thread_step fuel) 0 threads.old (drop at.old words.now)).0) }
     ensures rest { OnOk result (drop at.new words.now ≡ (walk (thread_step fuel) 0 threads.old (drop at.old words.now)).1) }
 {
@@ -120,11 +125,13 @@ pub(crate) fn read_threads(
 fn read_classes(
     words: &[u64],
     at: &mut usize,
-    count: u32,
+    count: u64,
     t: u32,
     register: &mut Register,
 ) -> Result<(), Unread>
     requires { t < length register.old.made }
+    ensures lost { IfErr result (IsLost ((length (made_by register.old.made t) + count ≤ most_made)
+        × TellsNumbers count (drop at.old words.now))) }
     ensures made { OnOk result (register.new.made ≡ slice_set register.old.made t
         (made_by register.old.made t ++ (read_numbers count (drop at.old words.now)).0)) }
     ensures numbering { register.new.numbering ≡ register.old.numbering }
@@ -143,11 +150,12 @@ fn read_classes(
 /// What thread t has made.
 fn read_row(words: &[u64], at: &mut usize, t: u32, register: &mut Register) -> Result<(), Unread>
     requires { t < length register.old.made }
+    ensures lost { IfErr result (IsLost (TellsRow (drop at.old words.now))) }
     ensures made { OnOk result (register.new.made ≡ slice_set register.old.made t (read_row (drop at.old words.now)).0) }
     ensures numbering { register.new.numbering ≡ register.old.numbering }
     ensures rest { OnOk result (drop at.new words.now ≡ (read_row (drop at.old words.now)).1) }
 {
-    let count = take_number(words, at)?;
+    let count = take_word(words, at)?;
     register.clear(t);
     read_classes(words, at, count, t, register)?;
     Ok(())
@@ -159,6 +167,7 @@ pub(crate) fn read_made(
     at: &mut usize,
     register: &mut Register,
 ) -> Result<(), Unread>
+    ensures lost { IfErr result (IsLost (TellsRows (length register.old.made) (drop at.old words.now))) }
     ensures made { OnOk result (register.new.made ≡ (read_made (length register.old.made) (drop at.old words.now)).0) }
     ensures numbering { register.new.numbering ≡ register.old.numbering }
     ensures rest { OnOk result (drop at.new words.now ≡ (read_made (length register.old.made) (drop at.old words.now)).1) }

@@ -1,11 +1,14 @@
 //! A machine whose objects are all as at first, into which others are read.
 
-ghost use Rattle.std.specs.Prelude.{◌≡◌, ◌<◌, ◌^◌, length, map, slice_set, slice_index_or, OnOk};
+ghost use Rattle.std.specs.Prelude.{◌≡◌, ◌<◌, ◌≤◌, ◌^◌, length, map, slice_set, slice_index_or, sum, IfErr, OnOk};
+ghost use Rattle.std.specs.List.{AllByRecursion};
+ghost use Rattle.plain_monitor.specs.Limits.{most_holds};
 ghost use Rattle.plain_monitor.specs.Objects.{new_object};
 ghost use Rattle.object_program.specs.Program.{numbering_of};
 ghost use Rattle.machine_laws.specs.Reached.{IsReached};
 ghost use Rattle.machine_words.specs.Untouched.{IsUntouched};
 ghost use Rattle.machine_words.specs.inner.Reading.{renewed, beside};
+ghost use Rattle.machine_words.specs.declared.unread.Unread.TheVariants.{NoMemory as OutOfMemory};
 
 use crate::numbers::after_row;
 use crate::object_words::is_new;
@@ -33,6 +36,8 @@ fn renew_at(number: usize, objects: &mut [Object], threads: &mut [Thread]) -> Re
     requires small { length objects.old < 2 ^ 32 }
     requires few { length threads.old < 2 ^ 32 }
     requires beside { threads.old ≡ beside objects.old 0 threads.old }
+    requires holds { AllByRecursion (λ s. sum s.holds ≤ most_holds) threads.old }
+    ensures memory { IfErr result (λ e. e ≡ OutOfMemory) }
     ensures objects { OnOk result (objects.new
         ≡ slice_set objects.old number (renewed (slice_index_or objects.old number (new_object 0)))) }
     ensures threads { OnOk result (threads.new ≡ beside objects.new 0 threads.old) }
@@ -65,6 +70,7 @@ pub(crate) fn renew_all(
       threads = threads.old;
     }) }
     requires numbering { register.now.numbering ≡ numbering_of program.now }
+    ensures memory { IfErr result (λ e. e ≡ OutOfMemory) }
     ensures objects { OnOk result (objects.new ≡ map renewed objects.old) }
     ensures threads { OnOk result (threads.new ≡ beside objects.new 0 threads.old) }
 {

@@ -1,10 +1,11 @@
 //! The words of threads.
 
-ghost use Rattle.std.specs.Prelude.{◌≡◌, ◌<◌, ◌++◌, OnOk};
+ghost use Rattle.std.specs.Prelude.{◌≡◌, ◌<◌, ◌^◌, ◌++◌, IfOk, OnOk};
 ghost use Rattle.std.specs.List.{AllByRecursion};
 ghost use Rattle.plain_monitor.specs.ValueWords.{IsSpellable};
 ghost use Rattle.plain_machine.specs.Asking.{fault_number};
 ghost use Rattle.machine_words.specs.ModeWords.{ending_kind, ending_rest, mode_kind, mode_rest};
+ghost use Rattle.machine_words.specs.Numbers.{HasSmall};
 ghost use Rattle.machine_words.specs.ThreadWords.{head_word, thread_words, threads_words};
 
 use crate::writer::{add, add_values};
@@ -39,7 +40,8 @@ fn ending_kind(ending: Ending) -> u64
 }
 
 fn ending_rest(ending: Ending) -> u64
-    ensures { result ≡ ending_rest ending }
+    ensures rest { result ≡ ending_rest ending }
+    ensures small { result < 2 ^ 32 }
 {
     match ending {
         Ending::Trap { index, .. } => u64::from(index),
@@ -60,7 +62,8 @@ fn mode_kind(mode: Mode) -> u64
 }
 
 fn mode_rest(mode: Mode) -> u64
-    ensures { result ≡ mode_rest mode }
+    ensures rest { result ≡ mode_rest mode }
+    ensures small { result < 2 ^ 32 }
 {
     match mode {
         Mode::Calling { .. } => 0,
@@ -72,7 +75,8 @@ fn mode_rest(mode: Mode) -> u64
 
 /// The word of a thread's place, its dumps and the kind of its mode.
 fn head_word(thread: &Thread) -> u64
-    ensures { result ≡ head_word thread.now }
+    ensures word { result ≡ head_word thread.now }
+    ensures small { thread.now.place < 2 ^ 32 }
 {
     (u64::from(thread.place()) * 8 + u64::from(thread.dumps())) * 32 + mode_kind(thread.mode())
 }
@@ -80,7 +84,8 @@ fn head_word(thread: &Thread) -> u64
 /// The words of a thread.
 fn add_thread(out: &mut Vec<u64>, thread: &Thread) -> Result<(), NoMemory>
     requires { AllByRecursion IsSpellable thread.now.locals }
-    ensures { OnOk result (out.new.items ≡ out.old.items ++ thread_words thread.now) }
+    ensures words { OnOk result (out.new.items ≡ out.old.items ++ thread_words thread.now) }
+    ensures numbers { IfOk result (λ _. HasSmall thread.now) }
 {
     let locals = thread.locals();
     add(out, head_word(thread))?;
@@ -94,7 +99,8 @@ fn add_thread(out: &mut Vec<u64>, thread: &Thread) -> Result<(), NoMemory>
 /// The words of threads.
 pub(crate) fn add_threads(out: &mut Vec<u64>, threads: &[Thread]) -> Result<(), NoMemory>
     requires { AllByRecursion (λ s. AllByRecursion IsSpellable s.locals) threads.now }
-    ensures { OnOk result (out.new.items ≡ out.old.items ++ threads_words threads.now) }
+    ensures words { OnOk result (out.new.items ≡ out.old.items ++ threads_words threads.now) }
+    ensures numbers { IfOk result (λ _. AllByRecursion HasSmall threads.now) }
 {
     for thread in threads {
         add_thread(out, thread)?;

@@ -5,7 +5,8 @@
 ghost use Rattle.std.specs.Prelude.{◌≡◌};
 
 use crate::moves::MachineMoves;
-use state_search::{Moves, SearchError};
+use plain_monitor::NoMemory;
+use state_search::Moves;
 use std::marker::{Brand, PhantomData};
 
 /// The ways of a search.
@@ -44,7 +45,7 @@ impl<C: Course> Moves for MovesOf<C> {
         self.moves.choices()
     }
 
-    fn next(&mut self, key: &[u64], choice: u32) -> Result<Option<Vec<u64>>, SearchError> {
+    fn next(&mut self, key: &[u64], choice: u32) -> Result<Option<Vec<u64>>, NoMemory> {
         self.moves.go(key, choice)
     }
 }

@@ -1,6 +1,6 @@
 //! Every way in which a program can end.
 
-ghost use Rattle.std.specs.Prelude.{◌≡◌, ◌≢◌, ◌≤◌, ◌↔◌, true, Err, IfOk};
+ghost use Rattle.std.specs.Prelude.{◌≡◌, ◌≤◌, ◌↔◌, true, Err, IfOk};
 ghost use Rattle.std.specs.List.{list_any};
 ghost use Rattle.every_outcome.specs.NoHash.{is_hash_code};
 ghost use Rattle.outcome_search.specs.Keys.{IsKey};
@@ -12,8 +12,9 @@ use crate::course::{Course, MovesOf};
 use crate::moves::MachineMoves;
 use crate::outcome::{Outcomes, count_ends};
 use object_program::{Code, Program, ThreadDef};
+use plain_monitor::NoMemory;
 use plain_monitor::limits::FUEL;
-use state_search::{Found, SearchError, search};
+use state_search::{Found, search};
 use std::alloc::Global;
 use std::marker::{Brand, PhantomData};
 
@@ -27,16 +28,14 @@ pub enum OutcomeError {
     Hash,
     /// Memory is wanting.
     NoMemory,
-    /// A machine isn't read back from its words, which would be an error of this library.
-    NoState,
 }
 
 /// Looks for every machine that the program's entries lead to, at most `limit` of them, and counts how they end.
 ///
 /// # Errors
 ///
-/// `Hash` exactly where some thread has a `hash` instruction. `NoMemory` where an allocation fails. `NoState` where a
-/// machine isn't read back from its words, which would be an error of this library.
+/// `Hash` exactly where some thread has a `hash` instruction. `NoMemory` where an allocation fails: no other error
+/// comes, as each machine that was kept is read back from its words.
 pub fn find_outcomes(
     alloc: Global,
     program: &Program,
@@ -51,16 +50,7 @@ pub fn find_outcomes(
     }
     match find_with::<Brand>(alloc, program, FUEL, STEPS, limit) {
         Ok(found) => Ok(found),
-        Err(error) => Err(outcome_error(error)),
-    }
-}
-
-fn outcome_error(error: SearchError) -> OutcomeError
-    ensures { result ≢ Hash }
-{
-    match error {
-        SearchError::NoMemory => OutcomeError::NoMemory,
-        SearchError::NoState => OutcomeError::NoState,
+        Err(NoMemory) => Err(OutcomeError::NoMemory),
     }
 }
 
@@ -71,7 +61,7 @@ fn find_with<C: Course>(
     fuel: u32,
     steps: u32,
     limit: usize,
-) -> Result<(Outcomes, Found), SearchError>
+) -> Result<(Outcomes, Found), NoMemory>
     requires ways { record { program = program.now; fuel = fuel; steps = steps } ≡ C.ways }
     requires fuel { 1 ≤ fuel }
     requires limit { 1 ≤ limit }
@@ -91,7 +81,7 @@ fn find_by<C: Course>(
     moves: &mut MovesOf<C>,
     first: Vec<u64>,
     limit: usize,
-) -> Result<(Outcomes, Found), SearchError>
+) -> Result<(Outcomes, Found), NoMemory>
     requires first { first.items ≡ first_key C.ways.program C.ways.fuel C.ways.steps }
     requires key { IsKey C.ways.program C.ways.fuel first.items }
     requires limit { 1 ≤ limit }

@@ -4,6 +4,7 @@ ghost use Rattle.std.specs.Prelude.{◌≡◌, ◌<◌, ◌≤◌, length, IfOk,
 ghost use Rattle.every_outcome.specs.Fuel.{is_spent, refuelled};
 ghost use Rattle.plain_machine.specs.Machine.{new_machine};
 ghost use Rattle.machine_words.specs.MachineWords.{words_of, machine_of};
+ghost use Rattle.machine_words.specs.Numbers.{HasNumbers};
 ghost use Rattle.machine_words.specs.Untouched.{IsUntouched};
 ghost use Rattle.machine_laws.specs.Reached.{IsReached};
 ghost use Rattle.outcome_search.specs.Settled.{settled};
@@ -17,7 +18,7 @@ use machine_words::{Unread, add_words, load};
 use object_program::Program;
 use plain_machine::{Machine, Mode};
 use plain_monitor::{Ending, NoMemory};
-use state_search::{Moves, SearchError};
+use state_search::Moves;
 use std::alloc::Global;
 use std::marker::Model;
 
@@ -56,19 +57,12 @@ impl Model for MachineMoves {
 fn words_of(alloc: Global, machine: &Machine, room: usize) -> Result<Vec<u64>, NoMemory>
     requires reached { IsReached machine.now }
     requires untouched { IsUntouched machine.now }
-    ensures { IfOk result (λ v. v.items ≡ words_of machine.now) }
+    ensures words { IfOk result (λ v. v.items ≡ words_of machine.now) }
+    ensures numbers { IfOk result (λ _. HasNumbers machine.now) }
 {
     let mut words = Vec::with_capacity(alloc, room).map_err(|_| NoMemory)?;
     add_words(machine, &mut words)?;
     Ok(words)
-}
-
-/// Why a search has no answer, where no machine is read from a key.
-fn search_error(error: Unread) -> SearchError {
-    match error {
-        Unread::NoMemory => SearchError::NoMemory,
-        Unread::NoMachine => SearchError::NoState,
-    }
 }
 
 /// Whether a thread in this mode had no fuel left before an instruction.
@@ -154,7 +148,7 @@ impl MachineMoves {
     }
 
     /// Where a key leads to by the next entry of thread t, if it has one. After an error each later call fails too.
-    pub(crate) fn go(&mut self, key: &[u64], t: u32) -> Result<Option<Vec<u64>>, SearchError>
+    pub(crate) fn go(&mut self, key: &[u64], t: u32) -> Result<Option<Vec<u64>>, NoMemory>
         requires key { IsKey self.old.program self.old.fuel key.now }
         requires t { t < length self.old.program.threads }
         ensures next { IfOk result (λ to. option_map (λ v. v.items) to
@@ -166,7 +160,7 @@ impl MachineMoves {
     }
 
     /// How the machine of a key ends; `None` where it goes on. After an error each later call fails too.
-    pub fn end(&mut self, key: &[u64]) -> Result<Option<End>, SearchError>
+    pub fn end(&mut self, key: &[u64]) -> Result<Option<End>, NoMemory>
         requires { IsKey self.old.program self.old.fuel key.now }
         ensures end { IfOk result (λ e. e ≡ end_of (machine_of self.old.program self.old.fuel key.now)) }
         ensures same { self.new ≡ self.old }
@@ -243,8 +237,9 @@ fn settle_first(machine: &mut Machine, fuel: u32, steps: u32) -> Result<(), NoMe
     Ok(())
 }
 
-/// Makes the machine that is at hand that of a key. After an error there is none, and each later call fails with `NoMemory`.
-fn load_key(scratch: &mut Scratch, key: &[u64], fuel: u32) -> Result<(), SearchError>
+/// Makes the machine that is at hand that of a key, which is read back from it. Out of memory is the only error: there is no machine then, and
+/// each later call fails, too.
+fn load_key(scratch: &mut Scratch, key: &[u64], fuel: u32) -> Result<(), NoMemory>
     requires kept { IsScratch scratch.old.program fuel scratch.old.machine }
     requires key { IsKey scratch.old.program fuel key.now }
     ensures program { scratch.new.program ≡ scratch.old.program }
@@ -253,14 +248,16 @@ fn load_key(scratch: &mut Scratch, key: &[u64], fuel: u32) -> Result<(), SearchE
 {
     // It was lost where memory gave out.
     let Some(machine) = scratch.machine.take() else {
-        return Err(SearchError::NoMemory);
+        return Err(NoMemory);
     };
     match load(machine, key, fuel) {
         Ok(found) => {
             scratch.machine = Some(found);
             Ok(())
         }
-        Err(error) => Err(search_error(error)),
+        Err(Unread::NoMemory) => Err(NoMemory),
+        // The key is the words of a machine.
+        Err(Unread::NoMachine) => unreachable!(),
     }
 }
 
@@ -279,7 +276,7 @@ fn next_key(
     t: u32,
     fuel: u32,
     steps: u32,
-) -> Result<Option<Vec<u64>>, SearchError>
+) -> Result<Option<Vec<u64>>, NoMemory>
     requires some { 1 ≤ fuel }
     requires t { t < length scratch.old.program.threads }
     requires kept { IsScratch scratch.old.program fuel scratch.old.machine }
@@ -301,13 +298,13 @@ fn next_key(
         }
         Err(NoMemory) => {
             drop_machine(scratch);
-            Err(SearchError::NoMemory)
+            Err(NoMemory)
         }
     }
 }
 
 /// How the machine of a key ends. After an error no machine is at hand.
-fn end_of_key(scratch: &mut Scratch, key: &[u64], fuel: u32) -> Result<Option<End>, SearchError>
+fn end_of_key(scratch: &mut Scratch, key: &[u64], fuel: u32) -> Result<Option<End>, NoMemory>
     requires kept { IsScratch scratch.old.program fuel scratch.old.machine }
     requires key { IsKey scratch.old.program fuel key.now }
     ensures program { scratch.new.program ≡ scratch.old.program }
@@ -332,7 +329,7 @@ impl Moves for MachineMoves {
         self.scratch.program.threads.items().len() as u32
     }
 
-    fn next(&mut self, key: &[u64], choice: u32) -> Result<Option<Vec<u64>>, SearchError> {
+    fn next(&mut self, key: &[u64], choice: u32) -> Result<Option<Vec<u64>>, NoMemory> {
         self.go(key, choice)
     }
 }

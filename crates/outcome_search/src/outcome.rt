@@ -8,7 +8,8 @@ ghost use Rattle.outcome_search.specs.inner.Counting.{uncounted, or_number, with
 
 use crate::ends::End;
 use crate::moves::MachineMoves;
-use state_search::{Found, SearchError};
+use plain_monitor::NoMemory;
+use state_search::Found;
 
 /// How many machines a search found, and how many of them end in which way. Machines differ by the places, locals, dumps and modes of their
 /// threads, by what is made, and by their objects; the fuel that is left has no part in it.
@@ -77,7 +78,7 @@ fn uncounted(found: &Found) -> Outcomes
 }
 
 /// Counts how the machines of the keys end.
-pub(crate) fn count_ends(moves: &mut MachineMoves, found: &Found) -> Result<Outcomes, SearchError>
+pub(crate) fn count_ends(moves: &mut MachineMoves, found: &Found) -> Result<Outcomes, NoMemory>
     requires gone { found.now.gone ≤ length found.now.keys }
     requires keys { AreKeys (IsKey moves.old.program moves.old.fuel) found.now.keys }
     ensures same { moves.new ≡ moves.old }

@@ -4,20 +4,24 @@ ghost use Rattle.std.specs.Prelude.{◌≡◌, ◌<◌, ◌≤◌, ◌+◌, if�
 ghost use Rattle.state_search.specs.Search.{Has, AreKeys, IsUnderWay, IsSearch};
 ghost use Rattle.state_search.specs.inner.Steps.{Keeps, GoesOn};
 
-use crate::error::SearchError;
 use crate::found::{Found, Origin};
 use crate::moves::Moves;
+use plain_monitor::NoMemory;
 use std::alloc::Global;
 
 /// Finds all keys that choices lead to from the first one, and goes into each, unless there are more than `most`.
 ///
 /// It stops where it would find one more than `most`. Of the keys that it didn't go into then it may have found some of what they lead to.
+///
+/// # Errors
+///
+/// `NoMemory` where an allocation fails, here or in a move.
 pub fn search<M: Moves>(
     alloc: Global,
     moves: &mut M,
     first: Vec<u64>,
     most: usize,
-) -> Result<Found, SearchError>
+) -> Result<Found, NoMemory>
     requires is_key { M.is_key moves.old first.items }
     requires some { 1 ≤ most }
     ensures found { IfOk result (λ f. IsSearch (M.next moves.old) (M.choices moves.old) first.items most f) }
@@ -41,7 +45,7 @@ fn go_into<M: Moves>(
     found: &mut Found,
     moves: &mut M,
     most: usize,
-) -> Result<bool, SearchError>
+) -> Result<bool, NoMemory>
     requires open { found.old.gone < length found.old.keys }
     requires keys { AreKeys (M.is_key moves.old) found.old.keys }
     ensures goes_on { OnOk result (GoesOn (M.next moves.old) (M.choices moves.old) most found.old found.new) }
@@ -55,7 +59,7 @@ fn go_into<M: Moves>(
     let Some(key) = found.key(found.gone()) else {
         return Ok(false);
     };
-    let key = Vec::from_slice(alloc, key).map_err(|_| SearchError::NoMemory)?;
+    let key = Vec::from_slice(alloc, key).map_err(|_| NoMemory)?;
     for choice in 0..moves.choices() {
         if !try_choice(found, moves, &key, choice, most)? {
             return Ok(false);
@@ -73,7 +77,7 @@ fn try_choice<M: Moves>(
     key: &[u64],
     choice: u32,
     most: usize,
-) -> Result<bool, SearchError>
+) -> Result<bool, NoMemory>
     requires here { slice_get found.old.keys found.old.gone ≡ Some key.now }
     requires keys { AreKeys (M.is_key moves.old) found.old.keys }
     requires choice { choice < M.choices moves.old }

@@ -5,11 +5,9 @@
 #![tactic(auto)]
 
 mod breadth;
-mod error;
 mod found;
 mod moves;
 
 pub use breadth::search;
-pub use error::SearchError;
 pub use found::{Found, Origin};
 pub use moves::Moves;

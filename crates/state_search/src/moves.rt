@@ -2,7 +2,7 @@
 
 ghost use Rattle.std.specs.Prelude.{◌≡◌, ℕ, ◌<◌, List, Option, Some, IfOk, IfSome, option_map};
 
-use crate::error::SearchError;
+use plain_monitor::NoMemory;
 
 /// States, each told by the words of its key, and the choices that lead from each to others.
 ///
@@ -21,8 +21,9 @@ pub trait Moves {
     fn choices(&self) -> u32
         ensures { result ≡ choices self.now };
 
-    /// The key that this one leads to by the choice, if there is one. After an error each later call may fail too.
-    fn next(&mut self, key: &[u64], choice: u32) -> Result<Option<Vec<u64>>, SearchError>
+    /// The key that this one leads to by the choice, if there is one. Out of memory is the only error, now or at an earlier call that lost what is
+    /// wanted.
+    fn next(&mut self, key: &[u64], choice: u32) -> Result<Option<Vec<u64>>, NoMemory>
         requires is_key { is_key self.old key.now }
         requires choice { choice < choices self.old }
         ensures leads { IfOk result (λ to. option_map (λ v. v.items) to ≡ next self.old key.now choice) }

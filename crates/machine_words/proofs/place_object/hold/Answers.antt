@@ -10,5 +10,9 @@ set_holds-requires-clause-few c =
 
 pub returns : goal.returns
 returns c =
-    c.set_holds.ensures
-    ∙ ap (λ (n : ℕ). record c.args.thread.now { holds = slice_set c.args.thread.now.holds c.args.number n }) c.in_ok-count.ensures.standing
+    record {
+      lost = tt;
+      held =
+          c.set_holds.ensures
+          ∙ ap (λ (n : ℕ). record c.args.thread.now { holds = slice_set c.args.thread.now.holds c.args.number n }) c.in_ok-count.ensures.standing;
+    }

@@ -26,10 +26,10 @@ loop-t-preserved c =
     let inv = c.loop-t.invariant in
     let within : c.loop-t.t < length c.loop-t.threads = omega (arith, c.loop-t-test.true, inv.count) in
     walks_more (hold_step c.args.number c.args.object.now) c.args.threads.now [] c.loop-t.t c.loop-t.threads [] c.hold.new.thread
-    c.index-threads-t.result [] within c.in_ok-hold.ensures refl inv
+    c.index-threads-t.result [] within c.in_ok-hold.ensures.held refl inv
 
 pub returns : goal.returns
 returns c =
     let inv = c.loop-t.invariant in
     let past : length c.loop-t.threads ≤ c.loop-t.t = omega (arith, c.loop-t-test.false, inv.count) in
-    sym (walks_all (hold_step c.args.number c.args.object.now) c.args.threads.now [] c.loop-t.t c.loop-t.threads [] past inv).0
+    record { lost = tt; held = sym (walks_all (hold_step c.args.number c.args.object.now) c.args.threads.now [] c.loop-t.t c.loop-t.threads [] past inv).0 }

@@ -55,8 +55,8 @@ into_machine-requires-clause-numbering c =
     c.in_ok-read_parts.ensures.numbering ∙ c.into_parts-program.ensures.numbering
     ∙ ap (λ (m : PlainMachine). numbering_of m.program) c.into_parts-program.ensures.machine
 
-pub returns : goal.returns
-returns c =
+pub returns-clause-machine : goal.returns-clause-machine
+returns-clause-machine c =
     let parts = c.into_parts-program.result in
     let objects = c.read_parts.new.objects in
     let threads = c.read_parts.new.threads in

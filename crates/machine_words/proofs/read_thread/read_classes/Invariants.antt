@@ -1,7 +1,8 @@
-use Rattle.std.proofs.Common.{◌≡◌, ◌-◌, drop, length, set}
+use Rattle.std.proofs.Common.{◌≡◌, ◌-◌, drop, length, set, ◌+◌}
 use Rattle.plain_monitor.specs.Made.{made_by}
 use Rattle.machine_words.specs.Readers.{read_numbers}
 use Rattle.machine_words.specs.inner.Reading.{Reads}
+use Rattle.machine_words.specs.inner.Telling.{TellsNumbers}
 use Rattle.machine_words.proofs.read_thread.read_classes.Given as goal
 
 abbrev pub invariant-loop : goal.invariant-loop
@@ -11,4 +12,6 @@ invariant-loop l = record {
   same : l.register.made ≡ set l.initial.register.made l.t (made_by l.register.made l.t);
   reads : Reads read_numbers (made_by l.initial.register.made l.t) l.count (drop l.initial.at l.words) (made_by l.register.made l.t) (l.count - l.counter)
       (drop l.at l.words);
+  grown : length (made_by l.register.made l.t) ≡ length (made_by l.initial.register.made l.t) + l.counter;
+  told : TellsNumbers l.count (drop l.initial.at l.words) → TellsNumbers (l.count - l.counter) (drop l.at l.words);
 }

@@ -13,12 +13,12 @@ pub returns-clause-made : goal.returns-clause-made
 returns-clause-made c =
     let ws = c.args.words.now in
     (row_is c.args.t c.in_ok-count.count c.args.register.now.made c.clear.new.self.made c.read_classes.new.register.made (drop c.args.at.now ws)
-    (drop c.take_number.new.at ws) (drop c.read_classes.new.at ws) c.requires c.in_ok-count.ensures c.clear.ensures.made
+    (drop c.take_word.new.at ws) (drop c.read_classes.new.at ws) c.requires c.in_ok-count.ensures.read c.clear.ensures.made
     c.in_ok-read_classes.ensures.made c.in_ok-read_classes.ensures.rest).0
 
 pub returns-clause-rest : goal.returns-clause-rest
 returns-clause-rest c =
     let ws = c.args.words.now in
     (row_is c.args.t c.in_ok-count.count c.args.register.now.made c.clear.new.self.made c.read_classes.new.register.made (drop c.args.at.now ws)
-    (drop c.take_number.new.at ws) (drop c.read_classes.new.at ws) c.requires c.in_ok-count.ensures c.clear.ensures.made
+    (drop c.take_word.new.at ws) (drop c.read_classes.new.at ws) c.requires c.in_ok-count.ensures.read c.clear.ensures.made
     c.in_ok-read_classes.ensures.made c.in_ok-read_classes.ensures.rest).1

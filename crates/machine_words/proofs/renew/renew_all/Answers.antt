@@ -1,11 +1,16 @@
-use Rattle.std.proofs.Common.{◌≡◌, ℕ, ◌+◌, ◌<◌, ◌≤◌, false, [], List, length, slice_index_or, is_some, refl, sym, ap, ◌∙◌, subst, arith}
+use Rattle.std.proofs.Common.{◌≡◌, ℕ, ◌+◌, ◌<◌, ◌≤◌, false, [], List, length, slice_index_or, is_some, sum, refl, sym, ap, ◌∙◌, subst, arith}
+use Rattle.std.specs.List.{AllByRecursion}
+use Rattle.plain_monitor.specs.Limits.{most_holds}
 use Rattle.plain_monitor.specs.Made.{Numbering, first_made, class_if_there}
 use Rattle.plain_monitor.specs.Objects.{PlainObject, new_object}
 use Rattle.object_program.specs.Program.{numbering_of}
+use Rattle.plain_machine.specs.Thread.{ThreadState}
 use Rattle.plain_machine.specs.Machine.{PlainMachine}
 use Rattle.plain_machine.proofs.NeededObjects.{first_is_total}
 use Rattle.machine_words.specs.inner.Reading.{Walks, renewed, renew_step, beside, after_row}
 use Rattle.machine_words.proofs.Beside.{reached_beside, beside_again}
+use Rattle.machine_words.proofs.Holding.{HeldBelow, held_in_all, held_renewed, beside_few}
+use Rattle.machine_words.proofs.Told.{reached_few}
 use Rattle.machine_words.proofs.There.{not_declared}
 use Rattle.machine_words.proofs.Renewing.{is_not_there, renew_jump}
 use Rattle.machine_words.proofs.Walking.{walks_none, walks_more, walks_all}
@@ -16,13 +21,22 @@ pub loop-number-init : goal.loop-number-init
 loop-number-init c =
     let m : PlainMachine =
     record { program = c.args.program.now; objects = c.args.objects.now; made = c.args.register.now.made; threads = c.args.threads.now } in
-    record { walks = walks_none renew_step c.args.objects.now []; threads = reached_beside m c.requires.reached }
+    record { walks = walks_none renew_step c.args.objects.now []; threads = reached_beside m c.requires.reached; below = λ t o. omega arith }
 
 pub renew_at-requires-clause-beside : goal.renew_at-requires-clause-beside
 renew_at-requires-clause-beside c =
     let objects = c.loop-number.objects in
     let were = c.loop-number.invariant.threads in
     were ∙ sym (beside_again objects objects 0 c.args.threads.now) ∙ ap (beside objects 0) (sym were)
+
+pub renew_at-requires-clause-holds : goal.renew_at-requires-clause-holds
+renew_at-requires-clause-holds c =
+    let inv = c.loop-number.invariant in
+    let m : PlainMachine =
+    record { program = c.args.program.now; objects = c.args.objects.now; made = c.args.register.now.made; threads = c.args.threads.now } in
+    subst (AllByRecursion (λ (s : ThreadState). sum s.holds ≤ most_holds)) (sym inv.threads)
+    (beside_few c.loop-number.objects 0 c.args.threads.now (λ u lt.
+    omega (arith, held_in_all c.loop-number.objects c.args.objects.now u inv.below, reached_few m u c.requires.reached (omega (arith, lt)))))
 
 pub loop-number-preserved-then-is_some : goal.loop-number-preserved-then-is_some
 loop-number-preserved-then-is_some c =
@@ -39,6 +53,8 @@ loop-number-preserved-then-is_some c =
           inv.walks);
       threads =
           c.in_ok-renew_at.ensures.threads ∙ ap (beside new 0) inv.threads ∙ beside_again new objects 0 c.args.threads.now;
+      below = subst (λ (xs : List PlainObject). HeldBelow xs first) (sym c.in_ok-renew_at.ensures.objects)
+          (held_renewed objects first number (slice_index_or objects number (new_object 0)) inv.below);
     }
 
 pub after_row-number-requires-clause-made : goal.after_row-number-requires-clause-made
@@ -65,6 +81,7 @@ loop-number-preserved c =
       walks = subst (λ (j : ℕ). Walks renew_step c.args.objects.now [] j c.loop-number.objects []) to
           (renew_jump n c.args.register.now.made c.args.objects.now c.loop-number.number c.loop-number.objects c.requires.untouched none inv.walks);
       threads = inv.threads;
+      below = inv.below;
     }
 
 pub returns-clause-objects : goal.returns-clause-objects

@@ -35,5 +35,5 @@ returns-clause-threads c =
     let new = c.renew.new.object in
     let placed = slice_index_or (slice_set objects number new) number c.index-objects-number-3.result in
     let same : placed ≡ new = get_or-set_same objects number new c.index-objects-number-3.result c.requires.within in
-    held_more number placed objects c.args.threads.now c.args.threads.now c.place_object.new.threads c.requires.beside c.in_ok-place_object.ensures
+    held_more number placed objects c.args.threads.now c.args.threads.now c.place_object.new.threads c.requires.beside c.in_ok-place_object.ensures.held
     ∙ ap (λ (x : PlainObject). beside (slice_set objects number x) 0 c.args.threads.now) same

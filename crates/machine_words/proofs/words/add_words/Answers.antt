@@ -2,6 +2,7 @@ use Rattle.std.proofs.Common.{ℕ, ◌++◌, List, sym, ap, ◌∙◌, subst}
 use Rattle.std.specs.List.{AllByRecursion}
 use Rattle.plain_monitor.specs.ValueWords.{IsSpellable}
 use Rattle.plain_machine.specs.Thread.{ThreadState}
+use Rattle.machine_words.specs.Numbers.{HasSmall}
 use Rattle.machine_words.specs.ThreadWords.{threads_words}
 use Rattle.machine_words.specs.MadeWords.{made_words}
 use Rattle.machine_words.specs.ObjectWords.{objects_words}
@@ -21,7 +22,11 @@ returns c =
     let o = c.args.out.now.items in
     let o1 = c.add_threads.new.out.items in
     let o2 = c.add_made.new.out.items in
-    three_written o o1 o2 c.add_objects.new.out.items (threads_words m.threads) (made_words m.made) (objects_words 0 m.objects)
-    (c.in_ok-add_threads.ensures ∙ ap (λ (ss : List ThreadState). o ++ threads_words ss) c.threads.ensures)
-    (c.in_ok-add_made.ensures ∙ ap (λ (rows : List (List ℕ)). o1 ++ made_words rows) c.register.ensures.made)
-    c.in_ok-add_objects.ensures
+    record {
+      words =
+          three_written o o1 o2 c.add_objects.new.out.items (threads_words m.threads) (made_words m.made) (objects_words 0 m.objects)
+          (c.in_ok-add_threads.ensures.words ∙ ap (λ (ss : List ThreadState). o ++ threads_words ss) c.threads.ensures)
+          (c.in_ok-add_made.ensures ∙ ap (λ (rows : List (List ℕ)). o1 ++ made_words rows) c.register.ensures.made)
+          c.in_ok-add_objects.ensures;
+      numbers = subst (AllByRecursion HasSmall) c.threads.ensures c.in_ok-add_threads.ensures.numbers;
+    }

@@ -30,7 +30,7 @@ returns c =
       program = c.make_machine.ensures.program;
       kept = kept;
       first =
-          c.in_ok-words.ensures
+          c.in_ok-words.ensures.words
           ∙ ap words_of (c.in_ok-settle_first.ensures.settled ∙ ap (λ (m : PlainMachine). settled fuel c.args.steps (refuelled fuel m)) is);
-      key = record { machine = c.settle_first.new.machine; kept = kept; words = sym c.in_ok-words.ensures };
+      key = record { machine = c.settle_first.new.machine; kept = kept; numbers = c.in_ok-words.ensures.numbers; words = sym c.in_ok-words.ensures.words };
     }

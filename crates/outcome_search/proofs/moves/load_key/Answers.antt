@@ -20,7 +20,7 @@ returns-in-Ok-clause-kept c =
     let k = c.requires.key in
     let kept : IsKept p c.args.fuel c.in-Some.machine = subst (IsScratch p c.args.fuel) (sym c.in-Some.ensures.value) c.requires.kept in
     let is : c.in-Ok.found ≡ machine_of p c.args.fuel c.args.key.now =
-    c.in-Ok.ensures ∙ ap (λ (q : ProgramText). machine_of q c.args.fuel c.args.key.now) kept.0.program in
+    c.in-Ok.ensures.machine ∙ ap (λ (q : ProgramText). machine_of q c.args.fuel c.args.key.now) kept.0.program in
     subst (IsKept p c.args.fuel) (sym (is ∙ kept_read p c.args.fuel c.args.key.now k)) k.kept
 
 pub returns-in-Ok-clause-found : goal.returns-in-Ok-clause-found
@@ -28,5 +28,5 @@ returns-in-Ok-clause-found c =
     let p = c.args.scratch.now.program in
     let kept : IsKept p c.args.fuel c.in-Some.machine = subst (IsScratch p c.args.fuel) (sym c.in-Some.ensures.value) c.requires.kept in
     let is : c.in-Ok.found ≡ machine_of p c.args.fuel c.args.key.now =
-    c.in-Ok.ensures ∙ ap (λ (q : ProgramText). machine_of q c.args.fuel c.args.key.now) kept.0.program in
+    c.in-Ok.ensures.machine ∙ ap (λ (q : ProgramText). machine_of q c.args.fuel c.args.key.now) kept.0.program in
     ap Some is

@@ -31,7 +31,12 @@ returns c =
     record {
       next = (next_is c.args.fuel c.args.steps c.args.t m c.go.new.machine c.in_ok-words.words.items
           (sym c.is_any_spent.ensures ∙ c.if-is_any_spent.false) (sym c.in_ok-go.ensures.made ∙ c.if-not-branch.false) c.in_ok-go.ensures.machine
-          c.in_ok-words.ensures);
-      again = record { machine = c.go.new.machine; kept = (found, c.is_sound.ensures); words = sym c.in_ok-words.ensures };
+          c.in_ok-words.ensures.words);
+      again = record {
+        machine = c.go.new.machine;
+        kept = (found, c.is_sound.ensures);
+        numbers = c.in_ok-words.ensures.numbers;
+        words = sym c.in_ok-words.ensures.words;
+      };
       found = found;
     }
