@@ -31,6 +31,7 @@ pub struct Effect {
 
 /// What the act makes of the word `old`: the word afterwards, and whether the act did what it is for. A `CompareExchange` whose expected
 /// word differs from `old` leaves the word and misses; every other act hits.
+#[inline(always)]
 pub fn apply(old: u64, act: &Act) -> Effect
     ensures word { result.word ≡ word_after act.now old }
     ensures hit { result.hit ≡ hits act.now old }
@@ -46,6 +47,7 @@ pub fn apply(old: u64, act: &Act) -> Effect
 }
 
 /// The effect of an act that hit and left the word so.
+#[inline(always)]
 fn hit(word: u64) -> Effect
     ensures { result ≡ record { word = word; hit = true } }
 {
@@ -53,6 +55,7 @@ fn hit(word: u64) -> Effect
 }
 
 /// The effect of a compare-exchange.
+#[inline(always)]
 fn swap(old: u64, expected: u64, word: u64) -> Effect
     ensures word { result.word ≡ word_after (Act.CompareExchange expected word) old }
     ensures hit { result.hit ≡ hits (Act.CompareExchange expected word) old }

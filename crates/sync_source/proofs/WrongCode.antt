@@ -1,6 +1,8 @@
 -- Why code that does something else, and programs with blocks that are none, are refused.
-use Rattle.std.proofs.Common.{◌≡◌, ◌+◌, ℕ, true, false, List, [], ◌∷◌, decimal, slice_get, Some, refl, arith, rules, lit<}
-use Rattle.object_program.specs.Valid.{IsProgram}
+use Rattle.std.proofs.Common.{◌≡◌, ◌≤◌, ◌+◌, ℕ, length, true, false, List, [], ◌∷◌, decimal, slice_get, Some, refl, arith, rules, lit<}
+use Rattle.object_program.specs.Limits.{most_code}
+use Rattle.object_program.specs.Valid.{IsProgram, IsInstruction, EndsOnce}
+use Rattle.object_program.specs.declared.program.Code.{Code}
 use Rattle.object_program.specs.declared.program.Code.TheVariants.{Exit}
 use Rattle.plain_machine.specs.Legal.{IsLegal, machine_after}
 use Rattle.plain_machine.specs.Machine.{PlainMachine, code_of}
@@ -12,10 +14,11 @@ use Rattle.plain_monitor.specs.declared.entry.Entry.TheVariants as entry
 use Rattle.plain_monitor.specs.declared.entry.Fault.{Fault}
 use Rattle.plain_monitor.specs.declared.entry.Fault.TheVariants.{NotRef}
 use Rattle.plain_monitor.specs.declared.entry.Logged.{Logged}
+use Rattle.std.specs.List.{AllByRecursion}
 use Rattle.sync_source.specs.Compiled.{compiled}
 use Rattle.sync_source.specs.Endings.{ending_begun}
 use Rattle.sync_source.specs.Examples.{one_printer, prints_late, enters_nothing, has_no_end, changes_local, changed_logs}
-use Rattle.sync_source.specs.Examples.{ends_inside, entered, exited, printed, done}
+use Rattle.sync_source.specs.Examples.{of_code, ends_inside, entered, exited, printed, done}
 use Rattle.sync_source.specs.SameMeaning.{DoesTheSame}
 use Rattle.sync_source.specs.SyncMachine.{IsSyncLegal}
 use Rattle.sync_source.specs.SyncThread.{sync_run}
@@ -50,11 +53,11 @@ not_late h = late_not (h.legal_only 8 late_logs late_logs refl late_legal)
 pub not_unguarded : DoesTheSame one_printer enters_nothing → ⊥
 not_unguarded h = unguarded_not (h.legal_only 8 unguarded_logs unguarded_logs refl unguarded_legal)
 
-pub are_programs : IsProgram prints_late × IsProgram enters_nothing
-are_programs = (late, unguarded)
-  where
-    late : IsProgram prints_late
-    late = record {
+-- one thread with the locals x and y, and this code
+of_code_is : (instructions : List Code) → AllByRecursion (IsInstruction 1 2 1 []) instructions → length instructions ≤ most_code
+    → EndsOnce instructions → IsProgram (of_code instructions)
+of_code_is instructions each few once =
+    record {
       class_names = search;
       class_slots = (omega arith, tt);
       classes_few = omega arith;
@@ -67,10 +70,10 @@ are_programs = (late, unguarded)
           locals = search;
           locals_few = omega arith;
           labels = search;
-          targets = search arith;
-          code = search (arith, lit<);
-          code_few = omega arith;
-          ends = search rules;
+          targets = tt;
+          code = each;
+          code_few = few;
+          ends = once;
         },
         tt,
       );
@@ -78,30 +81,11 @@ are_programs = (late, unguarded)
       threads_few = omega arith;
     }
 
-    unguarded : IsProgram enters_nothing
-    unguarded = record {
-      class_names = search;
-      class_slots = (omega arith, tt);
-      classes_few = omega arith;
-      object_names = search;
-      objects = ((omega arith, refl, omega arith, λ e. refl), tt);
-      objects_few = omega arith;
-      thread_names = search;
-      threads = (
-        record {
-          locals = search;
-          locals_few = omega arith;
-          labels = search;
-          targets = search arith;
-          code = search (arith, lit<);
-          code_few = omega arith;
-          ends = search rules;
-        },
-        tt,
-      );
-      threads_some = omega arith;
-      threads_few = omega arith;
-    }
+pub are_programs : IsProgram prints_late × IsProgram enters_nothing
+are_programs = (
+  of_code_is _ (search (arith, lit<)) (omega arith) (search rules),
+  of_code_is _ (search (arith, lit<)) (omega arith) (search rules),
+)
 
 pub not_endless : IsProgram (compiled decimal has_no_end) → ⊥
 not_endless h = absurd (cc (h.threads.0.ends))
