@@ -81,7 +81,7 @@ module _ (s : Shape) (start : ℕ) where
     at_keeps (Some (Biased thread old age)) epoch k run = biased_keeps (old == epoch) thread epoch k run
     at_keeps _ epoch k run = absurd run
 
-    by_keeps : (f : Option MarkForm) (prototype : ℕ) (k : ThreadView) → Runs s start (bias_enter_by f e t o mark prototype) k l out
+    pub by_keeps : (f : Option MarkForm) (prototype : ℕ) (k : ThreadView) → Runs s start (bias_enter_by f e t o mark prototype) k l out
         → IsKeptUnlessTook out (local_of k) (local_of l)
     by_keeps (Some (Neutral hash age)) prototype k run = kept out (local_of k) (local_of l) (swapped e o mark prototype k l out run)
     by_keeps (Some (Anonymous epoch age)) prototype k run = at_keeps (read_mark mark) epoch k run

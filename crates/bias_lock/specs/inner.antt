@@ -1,3 +1,2 @@
 -- What only the private contracts of this crate cite: its own steps, states and invariants.
 pub mod Parts
-pub mod OwnBias

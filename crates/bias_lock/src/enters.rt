@@ -8,12 +8,11 @@ ghost use Rattle.heap_table.specs.Parts.{IsDueOn, HasMadeSteps};
 ghost use Rattle.heap_table.specs.Seen.{IsOf};
 ghost use Rattle.bias_lock.specs.Kept.{IsKeptUnlessTook};
 ghost use Rattle.bias_lock.specs.inner.Parts.{prototype_enter};
-ghost use Rattle.bias_lock.specs.inner.OwnBias.{IsOwnBias};
 ghost use Rattle.core_world.specs.Words.Forms.{is_biased};
 
 use crate::drops::unbias;
 use core_world::{BiasTry, Stage, WordId};
-use heap_table::{CallContext, Heap, Pass, is_biased, mark_of_word};
+use heap_table::{CallContext, Heap, Pass, is_biased, is_own, mark_of_word};
 use mark_word::{MarkForm, encode};
 use plain_monitor::Path;
 use stack_lock::hold;
@@ -161,28 +160,6 @@ fn enter_by_prototype(
     }
 }
 
-// Whether this mark, which has the bias pattern, is a bias to the thread that is valid by the prototype: the prototype is a bias to nobody,
-// and the mark has its epoch and the thread's number, raised by one, from bit 8 on. Both words are compared without being decoded.
-#[inline(always)]
-fn is_own_bias(mark: u64, prototype: u64, thread: u32) -> bool
-    requires biased { is_biased mark ≡ true }
-    requires few { thread < 16 }
-    ensures { result ≡ true → IsOwnBias mark prototype thread }
-{
-    let low = prototype % 8;
-    let age = prototype / 8 % 32;
-    let raised = prototype / 1024;
-    let own = prototype / 256 + (thread as u64 + 1) * 4;
-    if low == 0b101 {
-        if age < 16 {
-            if raised == 0 {
-                return mark / 256 == own;
-            }
-        }
-    }
-    false
-}
-
 // An enter by a biased mark: the class's prototype says whether the class may be biased, and which epoch is valid.
 fn enter_biased(
     heap: &Heap,
@@ -203,7 +180,7 @@ fn enter_biased(
 {
     let prototype = heap.load(pass, call, Stage::Settled, WordId::Prototype { class });
     let own = pass.thread();
-    if is_own_bias(mark, prototype, own) {
+    if is_own(mark, prototype, own) {
         return log_biased_enter(heap, pass, call, object, Path::BiasOwn);
     }
     match mark_of_word(prototype) {
@@ -242,4 +219,30 @@ pub fn bias_enter(heap: &Heap, pass: &mut Pass, call: &CallContext, object: u32)
         return enter_biased(heap, pass, call, class, object, mark);
     }
     BiasTry::Unbiased { mark }
+}
+
+/// Goes on with an enter under a bias that has found this mark, which has the bias pattern, and this prototype of the class. Its answer
+/// says what that of `bias_enter` does.
+pub fn bias_enter_loaded(
+    heap: &Heap,
+    pass: &mut Pass,
+    call: &CallContext,
+    object: u32,
+    mark: u64,
+    prototype: u64,
+) -> BiasTry
+    requires heap { IsOf heap.now pass.old }
+    requires object { object < length heap.now.heap.shape.objects }
+    requires due { IsDueOn heap.now pass.old call.now.task
+        (bias_enter_by (read_mark prototype) call.now (local_of pass.old.known) object mark prototype) }
+    requires room { length pass.old.known.log < pass.old.limit }
+    ensures run { HasMadeSteps heap.now
+        (bias_enter_by (read_mark prototype) call.now (local_of pass.old.known) object mark prototype)
+        pass.old pass.new result }
+    ensures kept { IsKeptUnlessTook result (local_of pass.old.known) (local_of pass.new.known) }
+{
+    match mark_of_word(prototype) {
+        Some(form) => enter_by_prototype(heap, pass, call, object, mark, prototype, form),
+        None => unreachable!(),
+    }
 }

@@ -15,5 +15,5 @@ mod exits;
 
 pub use drops::bias_drop;
 pub use enter_after_revocation::{bias_after, stage_after};
-pub use enters::bias_enter;
+pub use enters::{bias_enter, bias_enter_loaded};
 pub use exits::bias_exit;

@@ -1,10 +1,11 @@
 -- What the last state of the table says.
-use Rattle.std.proofs.Common.{◌≡◌, ℕ, zero, suc, ◌+◌, ◌<◌, refl, drop, List, [], ◌∷◌, ◌++◌, length, take, get_or, Some, sym, ap, ◌∙◌, subst, arith, append-nil}
+use Rattle.std.proofs.Common.{◌≡◌, ℕ, zero, suc, ◌+◌, ◌<◌, Bool, true, false, refl, drop, List, [], ◌∷◌, ◌++◌, length, take, get_or, Some, sym, ap, ◌∙◌, subst, arith, append-nil}
 use Rattle.std.specs.Prelude.{slice_index, slice_get}
-use Rattle.std.proofs.lemmas.List.{take_more, take_all}
+use Rattle.std.proofs.lemmas.List.{drop_all, take_more, take_all}
 use mathlib.Core.Option.{some, some-injective, some-ne-none}
 use lib.ListN.{get_elem?}
 use Rattle.atomic_table.specs.Table.{Final, Seen}
+use Rattle.plain_monitor.specs.declared.entry.Logged.{Logged}
 use Rattle.core_law.specs.HeapLaw.{HeapLaw}
 use Rattle.core_law.specs.Logic.{Heap}
 use Rattle.core_world.specs.Threads.ThreadView.{ThreadView}
@@ -14,7 +15,7 @@ use Rattle.heap_table.specs.inner.Ruled.{Each, Rules, Ruled}
 use Rattle.heap_table.specs.declared.setting.Setting.{Setting}
 use Rattle.std.specs.List.{All}
 use Rattle.heap_table.specs.Seen.{HeapSeen, PassSeen, IsOf, LastWorld, given_of, page_of, pages_of, logs_of}
-use Rattle.heap_table.specs.Kept.{Mirrors}
+use Rattle.heap_table.specs.Kept.{Mirrors, IsPageFrom, limit_by}
 use Rattle.heap_table.specs.declared.mirror.Mirror.{Mirror}
 use Rattle.heap_table.specs.inner.Seen.{AllOf}
 
@@ -65,10 +66,24 @@ all_of h [] f = tt
 all_of h (p ∷ ps) f = ((f 0 p (omega arith)).table, all_of h ps (λ k d lt. f (suc k) d (omega arith)))
 
 -- the page that a pass keeps is what its log has besides the pages that were handed out
-pub page_is : (m : Mirror) (p : PassSeen) → Mirrors m p.known → p.limit ≡ m.given + m.room → p.room ≡ m.room → page_of p ≡ m.log.items
-page_is m p f limit room =
-    let given : given_of p ≡ m.given = omega (arith, limit, room) in
-    ap (λ n. drop n p.known.log) given ∙ f.log.entries
+pub page_is : (m : Mirror) (p : PassSeen) → Mirrors m p.known → p.limit ≡ limit_by m.keeps m.given m.room → p.room ≡ m.room → page_of p ≡ m.log.items
+page_is m p f limit room = by_kept m.keeps f.log limit
+  where
+    by_kept : (keeps : Bool) → IsPageFrom keeps m.given p.known.log m.log.items → p.limit ≡ limit_by keeps m.given m.room → page_of p ≡ m.log.items
+    by_kept true page limit =
+        let given : given_of p ≡ m.given = omega (arith, limit, room) in
+        ap (λ n. drop n p.known.log) given ∙ page.entries
+    by_kept false page limit =
+        let whole = page.whole in
+        let few = m.few in
+        let none : length m.log.items ≡ 0 = ap length page.entries in
+        drop_all (given_of p) p.known.log (omega (arith, limit, room, whole, few, none)) ∙ sym page.entries
+
+-- when it is handed out, so many more entries may be logged
+pub limit_grows : (keeps : Bool) (given room n : ℕ) (log page : List Logged) → IsPageFrom keeps given log page → n ≡ length page
+    → limit_by keeps (given + n) room ≡ limit_by keeps given room + length page
+limit_grows true given room n log page p e = omega (arith, e)
+limit_grows false given room n log page p e = let none : length page ≡ 0 = ap length p.entries in omega (arith, none)
 
 -- where no page was handed out, all entries are left
 pub all_left : (h : HeapSeen) (ps : List PassSeen) → All (IsOf h) ps → All (λ p. p.limit ≡ h.room) ps → pages_of ps ≡ logs_of ps

@@ -35,7 +35,8 @@ use Rattle.heap_table.specs.declared.afters.Stand.{Stand}
 use Rattle.heap_table.specs.declared.mirror.Mirror.{Mirror}
 use Rattle.core_world.specs.Trees.Plans.{CallContext, load}
 use Rattle.heap_table.proofs.Idling.{looked_idle}
-use Rattle.heap_table.specs.Kept.{Mirrors, LogHasRoom, IsPageFrom}
+use Rattle.core_world.specs.Clauses.Lengths.{log_limit}
+use Rattle.heap_table.specs.Kept.{Mirrors, LogHasRoom, IsPageFrom, limit_by}
 use Rattle.heap_table.specs.inner.Kept.{entry_after, with_any_entry, stand_after, made_after}
 use Rattle.std.proofs.lemmas.List.{drop-append-le}
 use Rattle.plain_history.specs.Known.{news, class_made}
@@ -57,39 +58,59 @@ last_end n [] l = refl
 last_end n (x ∷ log) l = last_end x.stamp log l
 
 -- an entry after the page stands after the log
-page_grows : (given : ℕ) (log page : List Logged) (l : Logged) → IsPageFrom given log page → IsPageFrom given (log ++ l ∷ []) (page ++ l ∷ [])
+pub page_grows : (given : ℕ) (log page : List Logged) (l : Logged) → IsPageFrom true given log page → IsPageFrom true given (log ++ l ∷ []) (page ++ l ∷ [])
 page_grows given log page l p =
     let whole = p.whole in let longer = length-append log (l ∷ []) in let more = length-append page (l ∷ []) in record {
       entries = drop-append-le given log (l ∷ []) (omega (arith, whole)) ∙ ap (λ (x : List Logged). x ++ l ∷ []) p.entries;
       whole = omega (arith, whole, longer, more);
     }
 
-pub noted : (note : LogEffect) (found last stamp : ℕ) (page next : List Logged) (e : Entry) → entry_after note found ≡ Some e → stamp ≡ stamp_by e found last
-    → next ≡ page ++ record { stamp = stamp; entry = e } ∷ [] → (given : ℕ) (log : List Logged) → IsPageFrom given log page → last_stamp log ≡ last
-    → IsPageFrom given (log_after note found log) next × (last_stamp (log_after note found log) ≡ stamp)
-noted note found last stamp page next e is by more given log p same =
+-- or it is passed over, where none are kept
+pub page_passes : (given next : ℕ) (log page : List Logged) (l : Logged) → next ≡ given + 1 → IsPageFrom false given log page
+    → IsPageFrom false next (log ++ l ∷ []) page
+page_passes given next log page l e p =
+    let whole = p.whole in let longer = length-append log (l ∷ []) in record { entries = p.entries; whole = omega (arith, whole, longer, e) }
+
+pub noted : (keeps : Bool) (note : LogEffect) (found last stamp given more : ℕ) (page next : List Logged) (e : Entry) → entry_after note found ≡ Some e
+    → stamp ≡ stamp_by e found last
+    → ((all : List Logged) → IsPageFrom keeps given all page → IsPageFrom keeps more (all ++ record { stamp = stamp; entry = e } ∷ []) next)
+    → (log : List Logged) → IsPageFrom keeps given log page → last_stamp log ≡ last
+    → IsPageFrom keeps more (log_after note found log) next × (last_stamp (log_after note found log) ≡ stamp)
+noted keeps note found last stamp given more page next e is by kept log p same =
     let l : Logged = record { stamp = stamp; entry = e } in
     let s : stamp ≡ stamp_by e found (last_stamp log) = by ∙ ap (stamp_by e found) (sym same) in
     let b : log ++ l ∷ [] ≡ log_after note found log =
     ap (λ (x : ℕ). log ++ record { stamp = x; entry = e } ∷ []) s
     ∙ ap (λ (x : Option Entry). with_any_entry x found log) (sym is) ∙ sym (log_is note found log) in
-    let grown : IsPageFrom given (log ++ l ∷ []) next = subst (IsPageFrom given (log ++ l ∷ [])) (sym more) (page_grows given log page l p) in
-    (subst (λ (x : List Logged). IsPageFrom given x next) b grown, ap last_stamp (sym b) ∙ last_end 0 log l)
+    (subst (λ (x : List Logged). IsPageFrom keeps more x next) b (kept log p), ap last_stamp (sym b) ∙ last_end 0 log l)
 
-pub unnoted : (note : LogEffect) (found last : ℕ) (page : List Logged)
-    → entry_after note found ≡ None → (given : ℕ) (log : List Logged) → IsPageFrom given log page
-    → last_stamp log ≡ last → IsPageFrom given (log_after note found log) page × (last_stamp (log_after note found log) ≡ last)
-unnoted note found last page is given log p same =
+pub unnoted : (keeps : Bool) (note : LogEffect) (found last given : ℕ) (page : List Logged)
+    → entry_after note found ≡ None → (log : List Logged) → IsPageFrom keeps given log page
+    → last_stamp log ≡ last → IsPageFrom keeps given (log_after note found log) page × (last_stamp (log_after note found log) ≡ last)
+unnoted keeps note found last given page is log p same =
     let b : log ≡ log_after note found log = ap (λ (x : Option Entry). with_any_entry x found log) (sym is) ∙ sym (log_is note found log) in
-    (subst (λ (x : List Logged). IsPageFrom given x page) b p, ap last_stamp (sym b) ∙ same)
+    (subst (λ (x : List Logged). IsPageFrom keeps given x page) b p, ap last_stamp (sym b) ∙ same)
+
+-- where an entry is logged, there is room for it
+pub room_noted : (note : LogEffect) (found room : ℕ) (page : List Logged) (e : Entry) → entry_after note found ≡ Some e → LogHasRoom note page room
+    → length page < room
+room_noted Quiet found room page e is h = absurd (cc is)
+room_noted (Log x) found room page e is h = h
+room_noted (LogGet o slot) found room page e is h = h
+room_noted (LogHash o) found room page e is h = h
 
 -- what has room in the log has room in the page
-pub room_in_page : (note : LogEffect) (given room : ℕ) (log page : List Logged)
-    → IsPageFrom given log page → LogHasRoom note log (given + room) → LogHasRoom note page room
-room_in_page Quiet given room log page p h = tt
-room_in_page (Log e) given room log page p h = let whole = p.whole in omega (arith, whole, h)
-room_in_page (LogGet o slot) given room log page p h = let whole = p.whole in omega (arith, whole, h)
-room_in_page (LogHash o) given room log page p h = let whole = p.whole in omega (arith, whole, h)
+pub room_in_page : (keeps : Bool) (note : LogEffect) (given room : ℕ) (log page : List Logged)
+    → IsPageFrom keeps given log page → LogHasRoom note log (limit_by keeps given room) → keeps ≡ true → LogHasRoom note page room
+room_in_page false note given room log page p h e = absurd (cc e)
+room_in_page true Quiet given room log page p h e = tt
+room_in_page true (Log x) given room log page p h e = let whole = p.whole in omega (arith, whole, h)
+room_in_page true (LogGet o slot) given room log page p h e = let whole = p.whole in omega (arith, whole, h)
+room_in_page true (LogHash o) given room log page p h e = let whole = p.whole in omega (arith, whole, h)
+
+-- no more were handed out or passed over than there are
+pub few_given : (m : Mirror) (k : ThreadView) → Mirrors m k → length k.log ≤ log_limit → m.given + 1 < 2 ^ 42
+few_given m k f few = let whole = f.log.whole in omega (arith, whole, few)
 
 abbrev stand_of : ThreadView → Stand
 stand_of k = record { running = k.running; requesting = k.requesting; reached = k.reached; halted = k.halted }
@@ -212,8 +233,8 @@ shots_follow (own.CountVerdict class verdict reset) s k taken cut cells e d = e
 
 pub follow_hit : (s : Shape) (start : ℕ) (p : StepPlan) (n : ℕ) (k : ThreadView) (m l : Mirror) → hits p.act n ≡ true → Mirrors m k
     → l.thread ≡ m.thread
-    → ((given : ℕ) (all : List Logged) → IsPageFrom given all m.log.items → last_stamp all ≡ m.last
-    → IsPageFrom given (log_after p.note n all) l.log.items × (last_stamp (log_after p.note n all) ≡ l.last))
+    → ((all : List Logged) → IsPageFrom m.keeps m.given all m.log.items → last_stamp all ≡ m.last
+    → IsPageFrom l.keeps l.given (log_after p.note n all) l.log.items × (last_stamp (log_after p.note n all) ≡ l.last))
     → l.stand ≡ stand_after p.at p.act (word_after p.act n) m.thread m.stand
     → l.kept ≡ kept_after p.own n m.kept
     → l.saved ≡ saved_after p.own n m.saved
@@ -222,7 +243,7 @@ pub follow_hit : (s : Shape) (start : ℕ) (p : StepPlan) (n : ℕ) (k : ThreadV
     → ((k : ThreadView) → k.published ≡ m.published → l.published ≡ published_after p.at p.act k)
     → l.unfinished ≡ unfinished_after p.note n p.after
     → l.checking ≡ p.check
-    → (l.room ≡ m.room) × (l.given ≡ m.given) × (l.classes ≡ m.classes) × (l.first ≡ m.first)
+    → (l.classes ≡ m.classes) × (l.first ≡ m.first)
     → ((n : ℕ) (k : List CountedVerdict) → m.counts.items ≡ counts_shown 0 n k → l.counts.items ≡ counts_shown 0 n (counts_after p.own k))
     → l.drawing.installed ≡ draws_after p.note m.drawing.installed
     → ((first : ℕ) → m.drawing.generator ≡ state_after first (m.drawing.installed + 1) → l.drawing.generator ≡ state_after first (l.drawing.installed + 1))
@@ -231,12 +252,12 @@ pub follow_hit : (s : Shape) (start : ℕ) (p : StepPlan) (n : ℕ) (k : ThreadV
     → IsDrafted p.own s k m.shots.draft.cut.items (cells_shown m.shots.draft.cells.items)
     → Mirrors l (known_after s start p n k)
 follow_hit s start p n k m l hit f thread log stand kept saved holds wait published unfinished checking fixed counts draws generator made shots drafted =
-    let g = log m.given k.log f.log f.last in
+    let g = log k.log f.log f.last in
     let st : stand_known p.at p.act (word_after p.act n) k ≡ l.stand = known_stand p.at p.act (word_after p.act n) k m.stand f.running
     f.requesting f.reached f.halted ∙ ap (λ (t : ℕ). stand_after p.at p.act (word_after p.act n) t m.stand) f.thread ∙ sym stand in
     let here : Mirrors l (known_hit s start p n k) = record {
       thread = f.thread ∙ sym thread;
-      log = subst (λ (given : ℕ). IsPageFrom given (log_after p.note n k.log) l.log.items) (sym fixed.1) g.0;
+      log = g.0;
       last = g.1;
       running = ap (λ (x : Stand). x.running) st;
       requesting = ap (λ (x : Stand). x.requesting) st;
@@ -249,13 +270,13 @@ follow_hit s start p n k m l hit f thread log stand kept saved holds wait publis
       published = sym (published k f.published);
       unfinished = sym unfinished;
       checking = sym checking;
-      counts = counts m.classes k.counts f.counts ∙ ap (λ c. counts_shown 0 c (counts_after p.own k.counts)) (sym fixed.2);
+      counts = counts m.classes k.counts f.counts ∙ ap (λ c. counts_shown 0 c (counts_after p.own k.counts)) (sym fixed.0);
       shots = shots_follow p.own s k m.shots.taken.items _ _ f.shots drafted ∙ sym shots;
       draws = ap (draws_after p.note) f.draws ∙ sym draws;
       made = news_follow p.note n k.log ∙ ap (made_after p.note) f.made ∙ sym made;
       few = few_draws p.note n k.log k.draws f.few;
       generator = generator m.first (f.generator ∙ ap (λ n. state_after m.first (n + 1)) f.draws)
-          ∙ (λ i. state_after (sym fixed.3 i) ((draws ∙ ap (draws_after p.note) (sym f.draws)) i + 1));
+          ∙ (λ i. state_after (sym fixed.1 i) ((draws ∙ ap (draws_after p.note) (sym f.draws)) i + 1));
     } in
     subst (λ (b : Bool). Mirrors l (cond b (known_hit s start p n k) (known_miss s start p n k))) (sym hit) here
 
@@ -263,5 +284,5 @@ follow_hit s start p n k m l hit f thread log stand kept saved holds wait publis
 pub follow_idle : (s : Shape) (start : ℕ) (e : CallContext) (n : ℕ) (k : ThreadView) (m : Mirror) → n < 2 ^ 32 → m.stand.requesting ≡ false
     → m.unfinished ≡ e.unfinished → m.checking ≡ e.check → Mirrors m k → Mirrors m (known_after s start (load e id.Safepoint) n k)
 follow_idle s start e n k m low asks unfinished checking f =
-    follow_hit s start (load e id.Safepoint) n k m m refl f refl (λ given all p same. (p, same)) (sym (looked_idle n m.stand low asks)) refl refl
-    (λ k e. sym e) (λ k t e. sym e) (λ k e. sym e) unfinished checking (refl, refl, refl, refl) (λ n k e. e) refl (λ first e. e) refl refl tt
+    follow_hit s start (load e id.Safepoint) n k m m refl f refl (λ all p same. (p, same)) (sym (looked_idle n m.stand low asks)) refl refl
+    (λ k e. sym e) (λ k t e. sym e) (λ k e. sym e) unfinished checking (refl, refl) (λ n k e. e) refl (λ first e. e) refl refl tt

@@ -6,7 +6,7 @@ use Rattle.std.proofs.lemmas.Bool.Decides.{nat_tests}
 use Rattle.std.proofs.lemmas.List.Sums.{position_or_len_is, fails_before_first}
 use Rattle.std.specs.List.{position_or_len}
 use Rattle.mark_word.specs.Hold.{read_hold}
-use Rattle.core_world.specs.Locks.{count_where}
+use Rattle.core_world.specs.Locks.{count_where, hold_count}
 use Rattle.core_world.specs.Threads.Stages.{one_if}
 use Rattle.core_world.specs.Words.Forms.{names, names_form}
 use Rattle.heap_table.specs.Held.{IsEmptyFrom}
@@ -63,7 +63,11 @@ pub none_named : (o : ℕ) → names o 0 ≡ false
 unfolding read_hold
 none_named o = refl
 
-abbrev IsNamed : ℕ → ℕ → Bool
+-- where no word is in use, none names the object
+pub none_held : (o n : ℕ) (xs : List ℕ) → n ≡ 0 → IsEmptyFrom n xs → hold_count o xs ≡ 0
+none_held o n xs none empty = sym (number_used (λ h. names o h) 0 0 xs (none_named o) (λ i l. empty i (omega (arith, none))))
+
+abbrev pub IsNamed : ℕ → ℕ → Bool
 IsNamed o word = (nat_lt o 32768 && nat_lt ((o + 1) * 128) word) && nat_le word ((o + 1) * 128 + 64)
 
 -- a word names the object whose number, raised by one, stands in it above a depth from 1 to 64

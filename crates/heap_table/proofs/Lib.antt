@@ -24,4 +24,12 @@ pub mod Forms
 pub mod ClassSteps
 pub mod Idling
 pub mod BiasPattern
+pub mod LowBits
 pub mod StepsLeft
+pub mod Own
+pub mod Stacked
+pub mod Late
+pub mod HoldEnds
+mod QuickAnswers
+pub mod HoldSteps
+pub mod RecursionRoom

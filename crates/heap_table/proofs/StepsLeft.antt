@@ -15,18 +15,13 @@ use Rattle.heap_table.specs.inner.Parts.{is_shot}
 use Rattle.heap_table.specs.Parts.{IsDueOn, HasMadeSteps}
 use Rattle.heap_table.specs.Seen.{HeapSeen, PassSeen, IsOf}
 use Rattle.heap_table.specs.Stepping.{CanStep, HasStepped}
+pub use Rattle.heap_table.specs.StepsLeft.{AreLeft}
 use Rattle.heap_table.proofs.Arms.{after_choice}
 use Rattle.heap_table.proofs.ClassSteps.{class_then}
 use Rattle.heap_table.proofs.Aside.{StartsAlike, keeps_aside, leaves_own_words, runs_aside, room_aside}
 use Rattle.heap_table.proofs.Knows.{same_thread}
 use Rattle.heap_table.proofs.Parts.{can, rest_due, part_then, stepped, in_turn, ends}
 use Rattle.heap_table.proofs.Ruled.{not_due}
-
--- Of the steps d, which were due on pass o in a call of task t, the steps x are left on pass p.
-pub record AreLeft {A : Type 0} (h : HeapSeen) (t : HeapCall) (o : PassSeen) (d : StepTree A) (p : PassSeen) (x : StepTree A) : Type 0 where
-  pub heap : IsOf h p
-  pub due : IsDueOn h p t x
-  pub whole : (q : PassSeen) (a : A) → HasMadeSteps h x p q a → HasMadeSteps h d o q a
 
 module _ {A : Type 0} {h : HeapSeen} {t : HeapCall} {o : PassSeen} {d : StepTree A} where
   -- at the beginning all of them are

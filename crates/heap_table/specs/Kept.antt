@@ -1,5 +1,5 @@
 -- What a pass keeps agrees with what its thread knows.
-use Rattle.std.specs.Prelude.{◌≡◌, ℕ, ◌+◌, ◌<◌, ◌≤◌, ◌==◌, not, List, length, drop}
+use Rattle.std.specs.Prelude.{◌≡◌, ℕ, ◌+◌, ◌<◌, ◌≤◌, ◌==◌, ◌^◌, Bool, true, false, not, List, [], length, drop}
 use Rattle.plain_monitor.specs.declared.entry.Logged.{Logged}
 use Rattle.plain_monitor.specs.History.{last_stamp}
 use Rattle.plain_history.specs.Known.{news}
@@ -15,14 +15,24 @@ use Rattle.heap_table.specs.declared.mirror.Mirror.{Mirror}
 abbrev pub all_holds : List ℕ → ℕ
 all_holds hs = count_where (λ p h. not (h == 0)) 0 hs
 
--- the page has the log's entries from this number on
-pub record IsPageFrom (given : ℕ) (log page : List Logged) : Type 0 where
-  pub entries : drop given log ≡ page
+-- A pass that keeps its entries has a page of them, and one that doesn't has none. So its page has the log's entries from this number on, or is empty,
+abbrev pub AreKept : Bool → ℕ → List Logged → List Logged → Type 0
+AreKept true given log page = drop given log ≡ page
+AreKept false given log page = page ≡ []
+
+-- and so many were handed out, or passed over.
+pub record IsPageFrom (keeps : Bool) (given : ℕ) (log page : List Logged) : Type 0 where
+  pub entries : AreKept keeps given log page
   pub whole : given + length page ≡ length log
+
+-- How many entries the log may have before it hands out its next page. Where none are kept, that is out of reach: no log has so many.
+abbrev pub limit_by : Bool → ℕ → ℕ → ℕ
+limit_by true given room = given + room
+limit_by false given room = 2 ^ 42 + room
 
 pub record Mirrors (m : Mirror) (k : ThreadView) : Type 0 where
   pub thread : k.thread ≡ m.thread
-  pub log : IsPageFrom m.given k.log m.log.items
+  pub log : IsPageFrom m.keeps m.given k.log m.log.items
   pub last : last_stamp k.log ≡ m.last
   pub running : k.running ≡ m.stand.running
   pub requesting : k.requesting ≡ m.stand.requesting

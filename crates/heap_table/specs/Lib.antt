@@ -4,6 +4,7 @@ pub mod Drafts
 pub mod Tallies
 pub mod Held
 pub mod Kept
+pub mod LogEnds
 pub mod SafepointLoads
 pub mod Ruled
 pub mod Seen
@@ -11,6 +12,10 @@ pub mod StepPlans
 pub mod Stepping
 pub mod Fresh
 pub mod Parts
+pub mod StepsLeft
+pub mod Own
+pub mod ExitParts
+pub mod Quick
 pub mod BiasesAtEnd
 pub mod Resting
 pub mod inner

@@ -1,5 +1,5 @@
 //! What a step makes of the parts of its thread's knowledge that a pass keeps.
-ghost use Rattle.std.specs.Prelude.{◌≡◌, ◌<◌, ◌≤◌, ℕ, List, vec_capacity, vec_len};
+ghost use Rattle.std.specs.Prelude.{◌≡◌, ◌+◌, ◌^◌, ◌<◌, ◌≤◌, ℕ, true, List, [], ◌∷◌, ◌++◌, vec_capacity, vec_len};
 ghost use Rattle.plain_monitor.specs.declared.entry.Logged.{Logged as LoggedSeen};
 ghost use Rattle.mark_word.specs.Safe.{read_safe};
 ghost use Rattle.core_world.specs.Threads.ThreadView.{ThreadView};
@@ -7,7 +7,8 @@ ghost use Rattle.core_world.specs.Steps.{kept_after, saved_after, unfinished_aft
 ghost use Rattle.plain_monitor.specs.Limits.{most_threads};
 ghost use Rattle.plain_monitor.specs.Monitor.{is_thread};
 ghost use Rattle.plain_monitor.specs.History.{last_stamp};
-ghost use Rattle.heap_table.specs.Kept.{LogHasRoom, IsPageFrom};
+ghost use Rattle.heap_table.specs.Kept.{LogHasRoom, IsPageFrom, limit_by};
+ghost use Rattle.heap_table.specs.LogEnds.{end_by};
 ghost use Rattle.heap_table.specs.inner.Kept.{StampFits, entry_after, looked, left, stand_after};
 ghost use Rattle.heap_table.specs.inner.Layout.{IsPlaced};
 
@@ -242,22 +243,60 @@ pub fn store_hold(holds: &mut Holds, at: WordId, act: &Act)
     }
 }
 
-/// Adds the entry that the step logs, if it logs one, to the page of the log, and keeps its stamp as the log's last
+// Adds the entry to the page of the log, or passes it over where none are kept. The log has one more of them.
+#[inline(always)]
+fn keep_entry(keeps: bool, given: &mut u64, length: &mut u64, log: &mut Vec<Logged>, logged: Logged)
+    requires room { keeps ≡ true → vec_len log.old < vec_capacity log.old }
+    requires few { given.old + 1 < 2 ^ 42 }
+    requires short { length.old + 1 < 2 ^ 64 }
+    ensures log { (all : List LoggedSeen) → IsPageFrom keeps given.old all log.old.items
+        → IsPageFrom keeps given.new (all ++ logged ∷ []) log.new.items }
+    ensures room { vec_capacity log.new ≡ vec_capacity log.old }
+    ensures within { (limit : ℕ) → (keeps ≡ true → vec_len log.old < limit) → vec_len log.old ≤ limit → vec_len log.new ≤ limit }
+    ensures few { given.new < 2 ^ 42 }
+    ensures limit { (room : ℕ) → limit_by keeps given.new room ≡ limit_by keeps given.old room }
+    ensures end { (room : ℕ) → end_by keeps given.new room ≡ end_by keeps given.old room }
+    ensures length { length.new ≡ length.old + 1 }
+    ensures whole { given.new + vec_len log.new ≡ given.old + vec_len log.old + 1 }
+{
+    if keeps {
+        log.push_reserved(logged);
+    } else {
+        *given += 1;
+    }
+    *length += 1;
+}
+
+/// Adds the entry that the step logs, if it logs one, to the page of the log, where entries are kept, and keeps its stamp as the log's last
 /// one.
 #[inline(always)]
-pub fn note_entry(log: &mut Vec<Logged>, last: &mut u64, note: &LogEffect, found: u64)
-    requires room { LogHasRoom note.now log.old.items (vec_capacity log.old) }
+pub fn note_entry(
+    keeps: bool,
+    given: &mut u64,
+    length: &mut u64,
+    log: &mut Vec<Logged>,
+    last: &mut u64,
+    note: &LogEffect,
+    found: u64,
+)
+    requires room { keeps ≡ true → LogHasRoom note.now log.old.items (vec_capacity log.old) }
+    requires few { given.old + 1 < 2 ^ 42 }
+    requires short { length.old + 1 < 2 ^ 64 }
     requires stamp { StampFits note.now found last.old }
-    ensures log { (given : ℕ) (all : List LoggedSeen) → IsPageFrom given all log.old.items → last_stamp all ≡ last.old
-        → IsPageFrom given (log_after note.now found all) log.new.items
+    ensures log { (all : List LoggedSeen) → IsPageFrom keeps given.old all log.old.items → last_stamp all ≡ last.old
+        → IsPageFrom keeps given.new (log_after note.now found all) log.new.items
         × (last_stamp (log_after note.now found all) ≡ last.new) }
     ensures room { vec_capacity log.new ≡ vec_capacity log.old }
-    ensures within { (limit : ℕ) → LogHasRoom note.now log.old.items limit → vec_len log.old ≤ limit
+    ensures within { (limit : ℕ) → (keeps ≡ true → LogHasRoom note.now log.old.items limit) → vec_len log.old ≤ limit
         → vec_len log.new ≤ limit }
+    ensures few { given.new < 2 ^ 42 }
+    ensures limit { (room : ℕ) → limit_by keeps given.new room ≡ limit_by keeps given.old room }
+    ensures end { (room : ℕ) → end_by keeps given.new room ≡ end_by keeps given.old room }
+    ensures whole { length.old ≡ given.old + vec_len log.old → length.new ≡ given.new + vec_len log.new }
 {
     if let Some(entry) = entry_next(note, found) {
         let stamp = stamp_next(&entry, found, *last);
-        log.push_reserved(Logged { stamp, entry });
+        keep_entry(keeps, given, length, log, Logged { stamp, entry });
         *last = stamp;
     }
 }

@@ -1,10 +1,10 @@
 //! A thread's hold words, as it last stored them.
-ghost use Rattle.std.specs.Prelude.{ℕ, not, ◌≡◌, ◌≢◌, ◌-◌, ◌<◌, ◌≤◌, ◌==◌, length, slice_index, slice_set, replicate};
+ghost use Rattle.std.specs.Prelude.{ℕ, not, true, ◌≡◌, ◌≢◌, ◌+◌, ◌-◌, ◌<◌, ◌≤◌, ◌==◌, length, slice_index, slice_set, replicate, take};
 ghost use Rattle.plain_monitor.specs.Limits.{most_holds};
-ghost use Rattle.core_world.specs.Locks.{count_where};
+ghost use Rattle.core_world.specs.Locks.{count_where, hold_count};
 ghost use Rattle.core_world.specs.Threads.Stages.{one_if};
 ghost use Rattle.core_world.specs.Words.Forms.{names};
-ghost use Rattle.heap_table.specs.Held.{IsEmptyFrom};
+ghost use Rattle.heap_table.specs.Held.{ComesAfter, IsEmptyFrom, IsStacked};
 
 use plain_monitor::limits::HOLDS;
 
@@ -24,10 +24,13 @@ pub struct Holds {
     pub words: [u64; PLACES],
     pub used: u32,
     pub count: u32,
+    /// Whether the words in use stand as they were taken, one on the other: then the last of them is the newest hold of its object.
+    pub stacked: bool,
     pub ghost within: { used ≤ most_holds },
     pub ghost rest: { IsEmptyFrom used words },
     pub ghost tight: { 0 < used → slice_index words (used - 1) ≢ 0 },
     pub ghost counted: { count ≡ count_where (λ p h. not (h == 0)) 0 words },
+    pub ghost stacks: { stacked ≡ true → IsStacked used words },
 }
 
 /// Whether the hold word names this object: the word of its number raised by one, with a depth from 1 to 64 below it. The
@@ -87,9 +90,55 @@ fn used_after_store(words: &[u64; PLACES], used: u32, place: u32, word: u64) -> 
     if used <= place { place + 1 } else { used }
 }
 
+// How many of the words before the place name the object.
+#[inline(always)]
+fn held_before(words: &[u64; PLACES], object: u32, place: u32) -> u32
+    requires { place ≤ most_holds }
+    ensures held { result ≡ hold_count object (take place words.now) }
+    ensures few { result ≤ place }
+{
+    let mut held = 0;
+    for i in 0..place as usize {
+        held += one_if(names(object, words[i]));
+    }
+    held
+}
+
+// Whether the word at the place is that of one more hold of its object than the words before it tell of.
+#[inline(always)]
+fn comes_after(words: &[u64; PLACES], place: u32) -> bool
+    requires { place < most_holds }
+    ensures { result ≡ true → ComesAfter (take place words.now) (slice_index words.now place) }
+{
+    let word = words[place as usize];
+    let number = word / OBJECT;
+    if number == 0 || number > OBJECTS as u64 {
+        return false;
+    }
+    word == number * OBJECT + 1 + held_before(words, number as u32 - 1, place) as u64
+}
+
+// Whether the words in use stand as they were taken, where the first of them are known to. It is a function of its own, so that a store
+// that takes no hold stays small.
+#[inline(never)]
+fn are_stacked(words: &[u64; PLACES], known: u32, used: u32) -> bool
+    requires within { used ≤ most_holds }
+    requires known { IsStacked known words.now }
+    ensures { result ≡ true → IsStacked used words.now }
+{
+    for place in known..used {
+        if !comes_after(words, place) {
+            return false;
+        }
+    }
+    true
+}
+
 impl Holds {
     ghost use Rattle.std.specs.List.{position_or_len};
-    ghost use Rattle.core_world.specs.Locks.{hold_count};
+    ghost use Rattle.std.specs.Prelude.{◌^◌};
+    ghost use Rattle.core_world.specs.Trees.Plans.{free_place, top_place};
+    ghost use Rattle.core_world.specs.Words.Forms.{hold_word};
     ghost use Rattle.heap_table.specs.Kept.{all_holds};
 
     /// Makes the hold words of a thread that holds nothing.
@@ -100,6 +149,20 @@ impl Holds {
             words: [0; PLACES],
             used: 0,
             count: 0,
+            stacked: true,
+        }
+    }
+
+    // How many words are known to stand as they were taken, and stay so where the word at the place is stored to.
+    #[inline(always)]
+    fn stacked_before(&self, place: u32) -> u32
+        ensures before { result ≤ place }
+        ensures stacked { IsStacked result self.now.words }
+    {
+        if self.stacked {
+            place.min(self.used)
+        } else {
+            0
         }
     }
 
@@ -109,10 +172,49 @@ impl Holds {
         requires { place < most_holds }
         ensures { self.new.words ≡ slice_set self.old.words place word }
     {
+        let known = self.stacked_before(place);
         let old = self.words[place as usize];
         self.words[place as usize] = word;
         self.count = self.count + one_if(word != 0) - one_if(old != 0);
         self.used = used_after_store(&self.words, self.used, place, word);
+        self.stacked = self.used <= known || are_stacked(&self.words, known, self.used);
+    }
+
+    /// Puts the hold word of one more hold of the object at the place past the last in use.
+    #[inline(always)]
+    pub fn push(&mut self, object: u32, word: u64)
+        requires room { self.old.used < most_holds }
+        requires object { object < 2 ^ 15 }
+        requires word { word ≡ hold_word object (hold_count object self.old.words + 1) }
+        ensures { self.new.words ≡ slice_set self.old.words self.old.used word }
+    {
+        self.words[self.used as usize] = word;
+        self.used += 1;
+        self.count += 1;
+    }
+
+    // `clear` for any place, as a function of its own, so that the hot way stays small.
+    #[inline(never)]
+    fn clear_below(&mut self, place: u32)
+        requires { place < most_holds }
+        ensures { self.new.words ≡ slice_set self.old.words place 0 }
+    {
+        self.store(place, 0);
+    }
+
+    /// Clears the place. Mostly it is the last in use, and those before it are not empty.
+    #[inline(always)]
+    pub fn clear(&mut self, place: u32)
+        requires { place < most_holds }
+        ensures { self.new.words ≡ slice_set self.old.words place 0 }
+    {
+        if self.stacked && place + 1 == self.used {
+            self.words[place as usize] = 0;
+            self.used = place;
+            self.count -= 1;
+        } else {
+            self.clear_below(place);
+        }
     }
 
     /// How many of the words name the object.
@@ -121,11 +223,7 @@ impl Holds {
         ensures held { result ≡ hold_count object self.now.words }
         ensures few { result ≤ most_holds }
     {
-        let mut held = 0;
-        for i in 0..self.used as usize {
-            held += one_if(names(object, self.words[i]));
-        }
-        held
+        held_before(&self.words, object, self.used)
     }
 
     /// The first place with this word, or one past the last.
@@ -152,6 +250,90 @@ impl Holds {
             return false;
         }
         self.place_of(0) == HOLDS
+    }
+
+    /// Whether the words that are not empty are known to stand side by side from the first place on, and one more place is free: it is the one
+    /// past them.
+    #[inline(always)]
+    pub fn is_packed(&self) -> bool
+        ensures free { result ≡ true → free_place self.now.words ≡ self.now.used }
+        ensures few { result ≡ true → self.now.used < most_holds }
+    {
+        self.stacked && self.used < HOLDS
+    }
+
+    // `next_word` by a search, as a function of its own, so that the hot way stays small.
+    #[inline(never)]
+    fn next_word_searched(&self, object: u32) -> u64
+        ensures { result ≡ hold_word object (hold_count object self.now.words + 1) }
+    {
+        (object as u64 + 1) * OBJECT + 1 + self.held(object) as u64
+    }
+
+    /// The hold word of one more hold of the object. Where the newest hold is of it, that is the next word.
+    #[inline(always)]
+    pub fn next_word(&self, object: u32) -> u64
+        ensures { result ≡ hold_word object (hold_count object self.now.words + 1) }
+    {
+        let number = object as u64 + 1;
+        if self.used == 0 {
+            return number * OBJECT + 1;
+        }
+        let newest = self.words[self.used as usize - 1];
+        if self.stacked && newest / OBJECT == number {
+            return newest + 1;
+        }
+        self.next_word_searched(object)
+    }
+
+    // `depth` by a search.
+    #[inline(never)]
+    fn depth_searched(&self, object: u32) -> u32
+        ensures depth { result ≡ hold_count object self.now.words }
+        ensures few { result ≤ most_holds }
+    {
+        self.held(object)
+    }
+
+    /// How many of the words name the object. Where the newest hold is of it, that one tells.
+    #[inline(always)]
+    pub fn depth(&self, object: u32) -> u32
+        requires { object < 2 ^ 15 }
+        ensures depth { result ≡ hold_count object self.now.words }
+        ensures few { result ≤ most_holds }
+    {
+        if self.used == 0 {
+            return 0;
+        }
+        let newest = self.words[self.used as usize - 1];
+        if self.stacked && newest / OBJECT == object as u64 + 1 {
+            return (newest % OBJECT) as u32;
+        }
+        self.depth_searched(object)
+    }
+
+    // `place_of` as a function of its own.
+    #[inline(never)]
+    fn place_searched(&self, word: u64) -> u32
+        ensures { result ≡ position_or_len (λ h. h == word) self.now.words }
+    {
+        self.place_of(word)
+    }
+
+    /// The place of the newest hold of the object, of which there are so many. Mostly it is the last in use.
+    #[inline(always)]
+    pub fn top(&self, object: u32, depth: u32) -> u32
+        requires depth { depth ≡ hold_count object self.now.words }
+        ensures { result ≡ top_place object self.now.words }
+    {
+        let word = (object as u64 + 1) * OBJECT + depth as u64;
+        if self.stacked && self.used > 0 {
+            let last = self.used - 1;
+            if self.words[last as usize] == word {
+                return last;
+            }
+        }
+        self.place_searched(word)
     }
 
     /// How many of the words are not empty.

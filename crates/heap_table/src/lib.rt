@@ -15,6 +15,7 @@ mod counts;
 mod draws;
 mod entries;
 mod heap;
+mod holding;
 mod holds;
 mod made;
 mod mirror;
@@ -22,6 +23,9 @@ mod opening;
 mod opening_conditions;
 mod pass;
 mod plans;
+mod quick;
+mod quick_enters;
+mod quick_exits;
 mod reads;
 mod rule;
 mod setting;
@@ -37,9 +41,10 @@ pub use counts::ClassCounts;
 pub use heap::Heap;
 pub use holds::{PLACES, names};
 pub use pass::Pass;
+pub use quick::{QuickEnter, QuickExit};
 pub use reads::{
-    class_epoch, hash_of_word, hold_of_word, is_biased, mark_of_word, owner_of_word, safe_of_word,
-    value_of_word, wait_of_word,
+    class_epoch, hash_of_word, hold_of_word, is_biased, is_own, mark_of_word, owner_of_word,
+    safe_of_word, value_of_word, wait_of_word,
 };
 pub use shape::{HeapShape, no_two_names_have_one_place, words_of_two_groups_lie_apart};
 pub use shots::{Cell, Shot};

@@ -1,10 +1,11 @@
 //! What a pass keeps of its steps: at run time what its thread knows.
-ghost use Rattle.std.specs.Prelude.{◌≡◌, ◌+◌, ◌^◌, ◌<◌, ◌≤◌, ℕ, IfOk, [], length, true, vec_capacity, vec_len};
+ghost use Rattle.std.specs.Prelude.{◌≡◌, ◌+◌, ◌*◌, ◌^◌, ◌<◌, ◌≤◌, ℕ, IfOk, [], length, true, vec_capacity, vec_len};
 ghost use Rattle.plain_monitor.specs.Limits.{most_threads};
 ghost use Rattle.heap_table.specs.Cells.{cells_shown};
 ghost use Rattle.core_world.specs.There.{HasPlace};
 ghost use Rattle.heap_table.specs.Drafts.{IsDrafted, IsLeft};
 ghost use Rattle.heap_table.specs.inner.Drafts.{taken_after};
+ghost use Rattle.heap_table.specs.LogEnds.{end_by};
 ghost use Rattle.heap_table.specs.Tallies.{counts_shown};
 
 use crate::afters::{
@@ -17,17 +18,29 @@ use crate::holds::Holds;
 use crate::made::made_next;
 use crate::reads::has_running_bits_alone;
 use crate::shots::Shots;
-use core_world::{LocalEffect, StepPlan, Unfinished, apply};
-use plain_monitor::Logged;
+use core_world::{LocalEffect, LogEffect, StepPlan, Unfinished, apply};
+use plain_monitor::{Entry, Logged};
 use std::alloc::{AllocError, Global};
+use std::mem;
+
+/// How many entries a log may have: so many stamps there are for each thread.
+const MOST_LOGGED: u64 = 2_199_023_255_552;
 
 #[derive(Drop)]
 pub struct Mirror {
     pub thread: u32,
+    /// The thread's own bits in a mark that is biased to it.
+    pub own_bits: u64,
     /// How many entries a page of the log may have.
     pub room: u32,
-    /// How many entries of the log were handed out.
+    /// Whether entries are kept, for a page.
+    pub keeps: bool,
+    /// How many entries of the log were handed out, or passed over where none are kept.
     pub given: u64,
+    /// How many entries the log has, with those handed out or passed over.
+    pub length: u64,
+    /// How many it may have before the next page is handed out: by the page's room, where entries are kept, and by the stamps that there are.
+    pub end: u64,
     /// The number of classes.
     pub classes: u32,
     /// The first word of the thread's generator.
@@ -51,7 +64,10 @@ pub struct Mirror {
     pub ghost has_room: { room ≤ vec_capacity log },
     pub ghost within: { vec_len log ≤ room },
     pub ghost few: { given < 2 ^ 42 },
+    pub ghost whole: { length ≡ given + vec_len log },
+    pub ghost ends: { end ≡ end_by keeps given room },
     pub ghost low: { thread < most_threads },
+    pub ghost owns: { own_bits ≡ (thread + 1) * 1024 },
 }
 
 // The shots after a step that hit.
@@ -69,6 +85,40 @@ fn shoot(shots: &mut Shots, own: &LocalEffect)
     }
 }
 
+/// How many entries a log may have before its next page is handed out, where so many were: no more than the stamps allow.
+#[inline(always)]
+fn end_after(keeps: bool, given: u64, room: u32) -> u64
+    requires { given < 2 ^ 42 }
+    ensures { result ≡ end_by keeps given room }
+{
+    if keeps {
+        (given + u64::from(room)).min(MOST_LOGGED)
+    } else {
+        MOST_LOGGED
+    }
+}
+
+/// Hands out the page, and goes on with this empty one.
+pub fn turn_page(
+    keeps: bool,
+    room: u32,
+    given: &mut u64,
+    end: &mut u64,
+    log: &mut Vec<Logged>,
+    empty: Vec<Logged>,
+) -> Vec<Logged>
+    requires { given.old + vec_len log.old < 2 ^ 42 }
+    ensures page { result ≡ log.old }
+    ensures log { log.new ≡ empty }
+    ensures given { given.new ≡ given.old + vec_len log.old }
+    ensures end { end.new ≡ end_by keeps given.new room }
+{
+    let page = mem::replace(log, empty);
+    *given += page.len() as u64;
+    *end = end_after(keeps, *given, room);
+    page
+}
+
 /// No verdict on any of so many classes.
 fn no_counts(alloc: Global, classes: u32) -> Result<Vec<ClassCounts>, AllocError>
     ensures { IfOk result (λ v. v.items ≡ counts_shown 0 classes []) }
@@ -81,15 +131,22 @@ fn no_counts(alloc: Global, classes: u32) -> Result<Vec<ClassCounts>, AllocError
 }
 
 impl Mirror {
-    ghost use Rattle.std.specs.Prelude.{replicate};
+    ghost use Rattle.std.specs.Prelude.{replicate, Bool, Option, None};
+    ghost use Rattle.core_world.specs.declared.heap_call.Unfinished.{Unfinished};
     ghost use Rattle.plain_monitor.specs.History.{last_stamp};
     ghost use Rattle.core_world.specs.Words.Acts.{word_after, hits};
     ghost use Rattle.core_world.specs.Threads.ThreadView.{ThreadView};
     ghost use Rattle.core_world.specs.Opening.{first_known};
     ghost use Rattle.core_world.specs.Words.Shape.{Shape};
     ghost use Rattle.core_world.specs.Steps.{known_after, with_entry, stamp_by};
-    ghost use Rattle.heap_table.specs.Kept.{Mirrors, LogHasRoom};
+    ghost use Rattle.heap_table.specs.Kept.{Mirrors, LogHasRoom, limit_by};
     ghost use Rattle.heap_table.specs.SafepointLoads.{IsSafepointLoad};
+    ghost use Rattle.core_world.specs.declared.act.Act.{Act};
+    ghost use Rattle.core_world.specs.declared.plan.LogEffect.TheVariants.{Log};
+    ghost use Rattle.core_world.specs.declared.stage.Stage.{Stage};
+    ghost use Rattle.core_world.specs.declared.word_id.WordId.{WordId};
+    ghost use Rattle.core_world.specs.Trees.Plans.{CallContext, logging_plan, with_stage};
+    ghost use Rattle.heap_table.specs.inner.Amid.{IsAside, IsSameFrame, lagging};
     ghost use Rattle.heap_table.specs.inner.Kept.{StampFits, with_any_entry, entry_after};
     ghost use Rattle.heap_table.specs.inner.Layout.{IsPlaced};
 
@@ -103,6 +160,7 @@ impl Mirror {
         alloc: Global,
         thread: u32,
         room: u32,
+        keeps: bool,
         classes: u32,
         first: u32,
         shots: Shots,
@@ -111,12 +169,16 @@ impl Mirror {
         requires shots { shots.taken.items ≡ [] }
         ensures follows { IfOk result (λ m. Mirrors m (first_known thread)) }
         ensures fixed { IfOk result (λ m. (m.room ≡ room) × (m.given ≡ 0) × (m.classes ≡ classes) × (m.first ≡ first)
-            × (m.shots ≡ shots)) }
+            × (m.shots ≡ shots) × (m.keeps ≡ keeps)) }
     {
         Ok(Mirror {
             thread,
+            own_bits: (thread as u64 + 1) * 1024,
             room,
+            keeps,
             given: 0,
+            length: 0,
+            end: end_after(keeps, 0, room),
             classes,
             first,
             log: Vec::with_capacity(alloc, room as usize)?,
@@ -148,7 +210,8 @@ impl Mirror {
         requires look { IsSafepointLoad step.now }
         requires same { (step.now.after ≡ self.old.unfinished) × (step.now.check ≡ self.old.checking) }
         requires at { IsPlaced step.now.at }
-        requires room { LogHasRoom step.now.note self.old.log.items self.old.room }
+        requires room { self.old.keeps ≡ true → LogHasRoom step.now.note self.old.log.items self.old.room }
+        requires few { self.old.given + 1 < 2 ^ 42 }
         requires shots { HasPlace step.now.own (length self.old.shots.taken.items) }
         requires draws { self.old.drawing.installed ≤ self.old.given + length self.old.log.items }
         requires made { self.old.made ≤ self.old.given + length self.old.log.items }
@@ -156,7 +219,8 @@ impl Mirror {
         ensures follows { (s : Shape) (start : ℕ) (k : ThreadView) → Mirrors self.old k
             → IsDrafted step.now.own s k self.old.shots.draft.cut.items (cells_shown self.old.shots.draft.cells.items)
             → Mirrors self.new (known_after s start step.now found k) }
-        ensures fixed { (self.new.room ≡ self.old.room) × (self.new.given ≡ self.old.given)
+        ensures fixed { (self.new.room ≡ self.old.room)
+            × (limit_by self.new.keeps self.new.given self.new.room ≡ limit_by self.old.keeps self.old.given self.old.room)
             × (self.new.classes ≡ self.old.classes) × (self.new.first ≡ self.old.first) × (self.new.shots.threads ≡ self.old.shots.threads)
             × (self.new.shots.objects ≡ self.old.shots.objects) }
         ensures draft { IsLeft step.now.own self.old.shots.draft.cut.items
@@ -173,7 +237,8 @@ impl Mirror {
     #[inline(always)]
     pub fn follow(&mut self, step: &StepPlan, found: u64)
         requires at { IsPlaced step.now.at }
-        requires room { LogHasRoom step.now.note self.old.log.items self.old.room }
+        requires room { self.old.keeps ≡ true → LogHasRoom step.now.note self.old.log.items self.old.room }
+        requires few { self.old.given + 1 < 2 ^ 42 }
         requires shots { HasPlace step.now.own (length self.old.shots.taken.items) }
         requires draws { self.old.drawing.installed ≤ self.old.given + length self.old.log.items }
         requires made { self.old.made ≤ self.old.given + length self.old.log.items }
@@ -181,7 +246,12 @@ impl Mirror {
         ensures follows { (s : Shape) (start : ℕ) (k : ThreadView) → Mirrors self.old k
             → IsDrafted step.now.own s k self.old.shots.draft.cut.items (cells_shown self.old.shots.draft.cells.items)
             → Mirrors self.new (known_after s start step.now found k) }
-        ensures fixed { (self.new.room ≡ self.old.room) × (self.new.given ≡ self.old.given)
+        ensures late { hits step.now.act found ≡ true → (s : Shape) (start : ℕ) (k : ThreadView) (left : Option Unfinished) (check : Bool)
+            → Mirrors (record self.old { unfinished = left; checking = check }) k
+            → IsDrafted step.now.own s k self.old.shots.draft.cut.items (cells_shown self.old.shots.draft.cells.items)
+            → Mirrors self.new (known_after s start step.now found k) }
+        ensures fixed { (self.new.room ≡ self.old.room)
+            × (limit_by self.new.keeps self.new.given self.new.room ≡ limit_by self.old.keeps self.old.given self.old.room)
             × (self.new.classes ≡ self.old.classes) × (self.new.first ≡ self.old.first) × (self.new.shots.threads ≡ self.old.shots.threads)
             × (self.new.shots.objects ≡ self.old.shots.objects) }
         ensures draft { IsLeft step.now.own self.old.shots.draft.cut.items
@@ -190,7 +260,15 @@ impl Mirror {
     {
         let effect = apply(found, &step.act);
         if effect.hit {
-            note_entry(&mut self.log, &mut self.last, &step.note, found);
+            note_entry(
+                self.keeps,
+                &mut self.given,
+                &mut self.length,
+                &mut self.log,
+                &mut self.last,
+                &step.note,
+                found,
+            );
             stand_next(
                 step.at,
                 &step.act,
@@ -212,5 +290,29 @@ impl Mirror {
         } else {
             self.stand.halted = halted_next(step.at, found, self.stand.halted);
         }
+    }
+
+    /// Keeps the entry that a step logged which found this word, and nothing else of what the step makes of the knowledge.
+    #[inline(always)]
+    pub fn note(&mut self, entry: Entry, found: u64)
+        requires room { self.old.keeps ≡ true → length self.old.log.items < self.old.room }
+        requires few { self.old.given + 1 < 2 ^ 42 }
+        requires stamp { StampFits (Log entry) found self.old.last }
+        ensures shows { (s : Shape) (start : ℕ) (e : CallContext) (stage : Stage) (at : WordId) (act : Act) (k : ThreadView)
+            → IsAside entry at act found self.old → Mirrors (lagging e self.old) k
+            → Mirrors (lagging (record e { unfinished = None }) self.new)
+            (known_after s start (with_stage stage (logging_plan entry e at act)) found k) }
+        ensures frame { IsSameFrame self.old self.new }
+        ensures holds { self.new.holds.words ≡ self.old.holds.words }
+    {
+        note_entry(
+            self.keeps,
+            &mut self.given,
+            &mut self.length,
+            &mut self.log,
+            &mut self.last,
+            &LogEffect::Log { entry },
+            found,
+        );
     }
 }

@@ -1,9 +1,10 @@
 //! How a heap begins.
-ghost use Rattle.std.specs.Prelude.{◌≡◌, ℕ, ◌+◌, ◌*◌, ◌-◌, ◌<◌, ◌≤◌, [], IfOk};
+ghost use Rattle.std.specs.Prelude.{◌≡◌, ℕ, ◌+◌, ◌*◌, ◌-◌, ◌<◌, ◌≤◌, ◌^◌, [], IfOk};
 ghost use Rattle.plain_monitor.specs.Limits.{most_fuel, entries_for};
 ghost use Rattle.core_world.specs.Words.Shape.{IsInLimits};
 ghost use Rattle.core_law.specs.HeapLaw.{HeapLaw};
 ghost use Rattle.heap_table.specs.Fresh.{IsFresh};
+ghost use Rattle.heap_table.specs.Kept.{limit_by};
 ghost use Rattle.heap_table.specs.inner.Firsts.{first_knowns};
 ghost use Rattle.heap_table.specs.Layout.{word_count};
 ghost use Rattle.heap_table.specs.Ruled.{heap_in};
@@ -30,6 +31,7 @@ fn next_pass(
     seat: &mut Place,
     thread: u32,
     room: u32,
+    keeps: bool,
 ) -> Result<Pass, AllocError>
     requires setting { IsInLimits setting.now.shape × (words.now.shared.key ≡ setting.now)
         × (words.now.shared.table_id.words ≡ word_count setting.now.shape) }
@@ -42,11 +44,19 @@ fn next_pass(
       table = words.now.shared.table_id;
       heap = heap_in setting.now;
       room = room;
-    }) room thread) }
+    }) (limit_by keeps 0 room) thread) }
 {
     let first = setting.start.wrapping_add(thread);
     let shots = Shots::new(alloc, setting.shape.threads(), setting.shape.objects())?;
-    let mirror = Mirror::new(alloc, thread, room, setting.shape.classes(), first, shots)?;
+    let mirror = Mirror::new(
+        alloc,
+        thread,
+        room,
+        keeps,
+        setting.shape.classes(),
+        first,
+        shots,
+    )?;
     let own = words.shared.split_seat::<First>(seat);
     Ok(Pass { seat: own, mirror })
 }
@@ -66,13 +76,18 @@ fn spare(alloc: Global, words: usize, threads: usize) -> Result<Spare, AllocErro
 }
 
 // A heap, and a stopped pass for each thread, with room for so many entries in a page of its log.
-fn begin(alloc: Global, setting: Setting, room: u32) -> Result<(Heap, Vec<Pass>), AllocError>
+fn begin(
+    alloc: Global,
+    setting: Setting,
+    room: u32,
+    keeps: bool,
+) -> Result<(Heap, Vec<Pass>), AllocError>
     requires law { IsInLimits setting.shape → HeapLaw (heap_in setting) }
     ensures heap { IfOk result (λ r. r.0.heap ≡ heap_in setting) }
     ensures room { IfOk result (λ r. r.0.room ≡ room) }
-    ensures passes { IfOk result (λ r. r.1.items ≡ first_passes r.0 room 0 setting.shape.threads) }
+    ensures passes { IfOk result (λ r. r.1.items ≡ first_passes r.0 (limit_by keeps 0 room) 0 setting.shape.threads) }
     ensures law { IfOk result (λ r. HeapLaw r.0.heap) }
-    ensures fresh { IfOk result (λ r. (t : ℕ) → t < setting.shape.threads → IsFresh r.0 t (first_pass r.0 room t)) }
+    ensures fresh { IfOk result (λ r. (t : ℕ) → t < setting.shape.threads → IsFresh r.0 t (first_pass r.0 (limit_by keeps 0 room) t)) }
 {
     let start = opening_words(alloc, &setting)?;
     let threads = setting.shape.threads();
@@ -80,7 +95,7 @@ fn begin(alloc: Global, setting: Setting, room: u32) -> Result<(Heap, Vec<Pass>)
     let mut passes = Vec::with_capacity(alloc, threads as usize)?;
     let (words, mut seat): (Words, Place) = Words::of_words(alloc, start.as_slice(), &setting)?;
     for thread in 0..threads {
-        let pass = next_pass(alloc, &words, &setting, &mut seat, thread, room)?;
+        let pass = next_pass(alloc, &words, &setting, &mut seat, thread, room, keeps)?;
         passes.push_reserved(pass);
     }
     let heap = Heap {
@@ -127,7 +142,36 @@ impl Heap {
             start,
             biasing,
         };
-        match begin(alloc, setting, 2 * fuel + LAST_ENTRIES) {
+        match begin(alloc, setting, 2 * fuel + LAST_ENTRIES, true) {
+            Ok((heap, passes)) => Ok((heap, List::of(passes))),
+            Err(_) => Err(NoMemory),
+        }
+    }
+
+    /// Makes such a heap whose passes keep no entries: no page has any, and a log may have as many as stamps allow.
+    ///
+    /// # Errors
+    ///
+    /// `NoMemory` where an allocation fails.
+    pub fn without_pages(
+        alloc: Global,
+        shape: HeapShape,
+        start: u32,
+        biasing: bool,
+    ) -> Result<(Heap, List<Pass>), NoMemory>
+        requires law { IsInLimits shape → HeapLaw (record { shape = shape; start = start; biasing = biasing }) }
+        ensures heap { IfOk result (λ r. r.0.heap ≡ record { shape = shape; start = start; biasing = biasing }) }
+        ensures room { IfOk result (λ r. r.0.room ≡ 0) }
+        ensures passes { IfOk result (λ r. r.1 ≡ first_passes r.0 (2 ^ 42) 0 shape.threads) }
+        ensures law { IfOk result (λ r. HeapLaw r.0.heap) }
+        ensures fresh { IfOk result (λ r. (t : ℕ) → t < shape.threads → IsFresh r.0 t (first_pass r.0 (2 ^ 42) t)) }
+    {
+        let setting = Setting {
+            shape,
+            start,
+            biasing,
+        };
+        match begin(alloc, setting, 0, false) {
             Ok((heap, passes)) => Ok((heap, List::of(passes))),
             Err(_) => Err(NoMemory),
         }

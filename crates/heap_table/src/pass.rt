@@ -1,5 +1,5 @@
 //! What one thread steps with.
-ghost use Rattle.std.specs.Prelude.{◌≡◌, ◌+◌, ◌-◌, ◌<◌, ◌≤◌, ◌^◌, ◌==◌, [], ◌∷◌, ◌++◌, length, nat_le, vec_capacity};
+ghost use Rattle.std.specs.Prelude.{◌≡◌, ◌+◌, ◌-◌, ◌<◌, ◌≤◌, ◌^◌, ◌==◌, ◌&&◌, [], ◌∷◌, ◌++◌, length, nat_le, false, true, vec_capacity};
 ghost use Rattle.std.specs.List.{position_or_len};
 ghost use Rattle.lock_policy.specs.Draws.{nth_value};
 ghost use Rattle.plain_monitor.specs.Limits.{most_threads, most_holds};
@@ -8,19 +8,19 @@ ghost use Rattle.plain_history.specs.Known.{news};
 ghost use Rattle.core_world.specs.Clauses.Lengths.{log_limit};
 ghost use Rattle.core_world.specs.Locks.{hold_count};
 ghost use Rattle.heap_table.specs.Kept.{all_holds};
+ghost use Rattle.heap_table.specs.Quick.{IsCalm};
 ghost use Rattle.heap_table.specs.Seen.{PassSeen, IsOf, page_of};
 ghost use Rattle.heap_table.specs.Tallies.{counts_shown};
 
 use crate::counts::ClassCounts;
 use crate::heap::Heap;
 use crate::holds::PLACES;
-use crate::mirror::Mirror;
+use crate::mirror::{Mirror, turn_page};
 use crate::rule::Place;
 use crate::shots::{Cell, Shot};
 use core_world::Unfinished;
 use plain_monitor::Logged;
 use std::marker::Model;
-use std::mem;
 
 /// A thread's own part of a heap: it alone makes the thread's steps, and knows what the thread knows.
 #[derive(Drop)]
@@ -34,14 +34,14 @@ impl Model for Pass {
     ghost use Rattle.heap_table.specs.Cells.{cells_shown};
     ghost use Rattle.heap_table.specs.Ruled.{only};
     ghost use Rattle.heap_table.specs.Seen.{PassSeen};
-    ghost use Rattle.heap_table.specs.Kept.{Mirrors};
+    ghost use Rattle.heap_table.specs.Kept.{Mirrors, limit_by};
 
     ghost Value = { PassSeen };
 
     ghost view = { λ p. record {
       table = p.seat.table_id;
       known = only p.seat.me.0;
-      limit = p.mirror.given + p.mirror.room;
+      limit = limit_by p.mirror.keeps p.mirror.given p.mirror.room;
       room = p.mirror.room;
       classes = p.mirror.classes;
       first = p.mirror.first;
@@ -64,6 +64,17 @@ impl Pass {
         self.mirror.thread
     }
 
+    /// Whether the thread asks for nothing and waits for nothing.
+    #[inline(always)]
+    pub fn is_calm(&self) -> bool
+        ensures { result ≡ true → IsCalm self.now.known }
+    {
+        if self.mirror.stand.requesting {
+            return false;
+        }
+        self.mirror.wait == 0
+    }
+
     /// The entries of the thread's log that were not handed out, in its own order: all of them before the first page.
     #[inline(always)]
     pub fn log(&self) -> &[Logged]
@@ -79,7 +90,17 @@ impl Pass {
         ensures few { result < 2 ^ 43 }
     {
         prove!(self.mirror.log.len() <= self.mirror.room as usize);
-        self.mirror.given + self.mirror.log.len() as u64
+        self.mirror.length
+    }
+
+    /// Whether so many entries more may be logged: where they are kept, the page has room for them, and stamps allow 2^41 of each thread, with those
+    /// that were handed out.
+    #[inline(always)]
+    pub fn fits(&self, entries: u32) -> bool
+        ensures { result ≡ (nat_le (length self.now.known.log + entries) self.now.limit
+            && nat_le (length self.now.known.log + entries) log_limit) }
+    {
+        self.mirror.length + u64::from(entries) <= self.mirror.end
     }
 
     /// Whether the log may have so many entries more, with those that were handed out: stamps allow 2^41 of each thread.
@@ -101,9 +122,16 @@ impl Pass {
         ensures page { result.items ≡ page_of self.old }
         ensures pass { self.new ≡ record self.old { limit = self.old.limit + length (page_of self.old) } }
     {
-        let page = mem::replace(&mut self.mirror.log, empty);
-        self.mirror.given += page.len() as u64;
-        page
+        let keeps = self.mirror.keeps;
+        let room = self.mirror.room;
+        turn_page(
+            keeps,
+            room,
+            &mut self.mirror.given,
+            &mut self.mirror.end,
+            &mut self.mirror.log,
+            empty,
+        )
     }
 
     /// The stamp of the log's last entry, or 0.
@@ -114,12 +142,24 @@ impl Pass {
         self.mirror.last
     }
 
-    /// How many entries may still be logged before the next page is handed out.
+    /// How many entries may still be logged before the next page is handed out. Where entries aren't kept, that is more than a log may have.
     #[inline(always)]
-    pub fn room(&self) -> u32
+    pub fn room(&self) -> u64
         ensures room { result + length self.now.known.log ≡ self.now.limit }
     {
-        self.mirror.room - self.mirror.log.len() as u32
+        let room = self.mirror.room as u64;
+        if self.mirror.keeps {
+            room - self.mirror.log.len() as u64
+        } else {
+            room + 4_398_046_511_104 - self.mirror.given
+        }
+    }
+
+    /// Whether the entries that the thread logs are kept, for a page. Where they aren't, no page has any.
+    pub fn keeps(&self) -> bool
+        ensures { result ≡ false → page_of self.now ≡ [] }
+    {
+        self.mirror.keeps
     }
 
     /// How many holds the thread has on the object, by its hold words.

@@ -1,5 +1,7 @@
 //! What words say, as the definitions read them.
-ghost use Rattle.std.specs.Prelude.{◌≡◌, ◌^◌, nat_lt};
+ghost use Rattle.std.specs.Prelude.{◌≡◌, ◌≢◌, ℕ, ◌+◌, ◌*◌, ◌<◌, ◌≤◌, ◌^◌, nat_lt, true, None};
+ghost use Rattle.heap_table.specs.Own.{IsOwn};
+ghost use Rattle.heap_table.specs.inner.Prototypes.{IsPrototypeForm};
 ghost use Rattle.mark_word.specs.Hold.{read_hold};
 ghost use Rattle.mark_word.specs.Mark.{read_mark};
 ghost use Rattle.mark_word.specs.Safe.{read_safe};
@@ -36,6 +38,49 @@ pub fn is_biased(mark: u64) -> bool
     let low = mark % 8;
     let age = mark / 8 % 32;
     (low == 0b101) & (age < 16) & (mark / 1024 < 33)
+}
+
+/// Whether a mark that says something has the bias pattern: then its low bits alone tell.
+#[inline(always)]
+#[tactic(auto, using(crate::proofs::LowBits::biased_by_low))]
+pub(crate) fn has_bias_bits(mark: u64) -> bool
+    requires { read_mark mark ≢ None }
+    ensures { result ≡ is_biased mark }
+{
+    mark % 8 == 0b101
+}
+
+/// Whether this mark, which has the bias pattern, is a bias to the thread that is valid by the prototype. Where it isn't said, it may be one
+/// still: then it is found by what the words say.
+#[inline(always)]
+pub fn is_own(mark: u64, prototype: u64, thread: u32) -> bool
+    requires biased { is_biased mark ≡ true }
+    requires few { thread < 16 }
+    ensures { result ≡ true → IsOwn mark prototype thread }
+{
+    let low = prototype % 8;
+    let age = prototype / 8 % 32;
+    let raised = prototype / 1024;
+    let own = prototype / 256 + (thread as u64 + 1) * 4;
+    if low == 5 {
+        if age < 16 {
+            if raised == 0 {
+                return mark / 256 == own;
+            }
+        }
+    }
+    false
+}
+
+/// `is_own` by one sum, for a prototype: a thread's own bits stand above those of the prototype, in a mark that is biased to it.
+#[inline(always)]
+pub(crate) fn is_own_by_sum(mark: u64, prototype: u64, own_bits: u64) -> bool
+    requires biased { is_biased mark ≡ true }
+    requires prototype { IsPrototypeForm (read_mark prototype) }
+    requires few { own_bits ≤ 2 ^ 14 }
+    ensures { result ≡ true → (thread : ℕ) → own_bits ≡ (thread + 1) * 1024 → IsOwn mark prototype thread }
+{
+    mark == prototype + own_bits
 }
 
 /// The epoch of a prototype, where it is biased, which it is to no thread.

@@ -1,7 +1,7 @@
 //! The one step.
 ghost use Rattle.std.specs.Prelude.{◌≡◌, [], ◌∷◌};
 ghost use Rattle.core_world.specs.Steps.{known_after};
-ghost use Rattle.heap_table.specs.Layout.{word_count};
+ghost use Rattle.heap_table.specs.Layout.{place_of, word_count};
 ghost use Rattle.heap_table.specs.Ruled.{only, heap_in, Stepped};
 ghost use Rattle.heap_table.specs.inner.Ruled.{MayStep};
 
@@ -12,17 +12,23 @@ use core_world::{Act, StepPlan};
 use std::marker::Brand;
 
 #[inline(always)]
-fn step_as<C: Chosen>(words: &Words, setting: &Setting, seat: &mut Place, plan: StepPlan) -> u64
+fn step_as<C: Chosen>(
+    words: &Words,
+    setting: &Setting,
+    seat: &mut Place,
+    at: usize,
+    plan: StepPlan,
+) -> u64
     requires chosen { (C.heap ≡ heap_in setting.now) × (C.plan ≡ plan) }
     requires setting { (words.now.shared.key ≡ setting.now)
         × (words.now.shared.table_id.words ≡ word_count setting.now.shape) }
     requires seat { (seat.old.table_id ≡ words.now.shared.table_id) × (seat.old.me ≡ (only seat.old.me.0 ∷ [], [])) }
     requires may { MayStep (heap_in setting.now) (only seat.old.me.0) plan }
+    requires place { at ≡ place_of setting.now.shape plan.at }
     ensures seat { (seat.new.table_id ≡ seat.old.table_id)
         × (seat.new.me ≡ (known_after setting.now.shape setting.now.start plan result (only seat.old.me.0) ∷ [], [])) }
     ensures stepped { Stepped (heap_in setting.now) (only seat.old.me.0) plan result }
 {
-    let at = setting.shape.place(plan.at);
     match plan.act {
         Act::Load => words.shared.load::<Does<C>>(seat, at),
         Act::Store { word } => words.shared.swap::<Does<C>>(seat, at, word),
@@ -48,5 +54,21 @@ pub fn step_in_table(words: &Words, setting: &Setting, seat: &mut Place, plan: S
         × (seat.new.me ≡ (known_after setting.now.shape setting.now.start plan result (only seat.old.me.0) ∷ [], [])) }
     ensures stepped { Stepped (heap_in setting.now) (only seat.old.me.0) plan result }
 {
-    step_as::<Brand>(words, setting, seat, plan)
+    let at = setting.shape.place(plan.at);
+    step_at(words, setting, seat, at, plan)
+}
+
+/// `step_in_table` at the word's place, which was reckoned before.
+#[inline(always)]
+pub fn step_at(words: &Words, setting: &Setting, seat: &mut Place, at: usize, plan: StepPlan) -> u64
+    requires setting { (words.now.shared.key ≡ setting.now)
+        × (words.now.shared.table_id.words ≡ word_count setting.now.shape) }
+    requires seat { (seat.old.table_id ≡ words.now.shared.table_id) × (seat.old.me ≡ (only seat.old.me.0 ∷ [], [])) }
+    requires may { MayStep (heap_in setting.now) (only seat.old.me.0) plan }
+    requires place { at ≡ place_of setting.now.shape plan.at }
+    ensures seat { (seat.new.table_id ≡ seat.old.table_id)
+        × (seat.new.me ≡ (known_after setting.now.shape setting.now.start plan result (only seat.old.me.0) ∷ [], [])) }
+    ensures stepped { Stepped (heap_in setting.now) (only seat.old.me.0) plan result }
+{
+    step_as::<Brand>(words, setting, seat, at, plan)
 }

@@ -4,7 +4,7 @@
 //! proof of a heap's law calls `Heap::new` with it.
 #![tactic(auto)]
 
-ghost use Rattle.std.specs.Prelude.{◌≡◌, ◌+◌, ◌*◌, ◌<◌, ◌≤◌, ℕ, IfOk};
+ghost use Rattle.std.specs.Prelude.{◌≡◌, ◌+◌, ◌*◌, ◌<◌, ◌≤◌, ◌^◌, ℕ, IfOk};
 ghost use Rattle.plain_monitor.specs.Limits.{most_fuel, entries_for};
 ghost use Rattle.core_world.specs.Opening.{opening};
 ghost use Rattle.core_law.specs.Sound.{Sound};
@@ -43,4 +43,29 @@ pub fn new_heap(
 {
     every_heap_has_its_law();
     Heap::new(alloc, shape, fuel, start, biasing)
+}
+
+/// Makes such a heap whose passes keep no log, for those who want the locks and no journal.
+///
+/// A pass counts and stamps its entries as that of `new_heap` does, and keeps none: its page is always empty, none has to be handed out, and
+/// no memory is taken for one. A thread goes on until stamps allow it no more entries, 2^41 in all. What `close` gives has an empty log for each
+/// thread; what it says of the threads' whole logs, that they are legal and their stamps exact, holds of the entries that were logged and not kept.
+///
+/// # Errors
+///
+/// `NoMemory` where an allocation fails.
+pub fn new_heap_without_pages(
+    alloc: Global,
+    shape: HeapShape,
+    start: u32,
+    biasing: bool,
+) -> Result<(Heap, List<Pass>), NoMemory>
+    ensures heap { IfOk result (λ r. r.0.heap ≡ record { shape = shape; start = start; biasing = biasing }) }
+    ensures room { IfOk result (λ r. r.0.room ≡ 0) }
+    ensures passes { IfOk result (λ r. r.1 ≡ first_passes r.0 (2 ^ 42) 0 shape.threads) }
+    ensures opening { IfOk result (λ r. Sound (opening shape start biasing)) }
+    ensures fresh { IfOk result (λ r. (t : ℕ) → t < shape.threads → IsFresh r.0 t (first_pass r.0 (2 ^ 42) t)) }
+{
+    every_heap_has_its_law();
+    Heap::without_pages(alloc, shape, start, biasing)
 }

@@ -65,7 +65,7 @@ at_form (Some (Biased t old age)) epoch e k o mark =
 at_form (Some (Anonymous old age)) epoch e k o mark = rebiases e k o mark epoch
 at_form _ epoch e k o mark = tt
 
-by_prototype : (f : Option MarkForm) (e : CallContext) (k : Local) (o mark prototype : ℕ) → AreSame (bias_enter_by f e k o mark prototype)
+pub by_prototype : (f : Option MarkForm) (e : CallContext) (k : Local) (o mark prototype : ℕ) → AreSame (bias_enter_by f e k o mark prototype)
 by_prototype (Some (Neutral hash age)) e k o mark prototype = unbiases e o mark prototype
 by_prototype (Some (Anonymous epoch age)) e k o mark prototype = at_form (read_mark mark) epoch e k o mark
 by_prototype _ e k o mark prototype = tt

@@ -26,3 +26,4 @@ pub mod LockedPaths
 pub mod OwnLocks
 pub mod Declared
 pub mod Created
+pub mod Quickly

@@ -12,15 +12,17 @@ ghost use Rattle.core_calls.specs.CallsSay.{ExitSays};
 ghost use Rattle.heap_table.specs.Parts.{IsDueOn, HasMadeSteps};
 ghost use Rattle.heap_table.specs.Resting.{MayOperate, Rests, start_now};
 ghost use Rattle.heap_table.specs.Seen.{IsOf};
+ghost use Rattle.heap_table.specs.declared.quick.QuickExit.TheVariants as exits;
+ghost use Rattle.lock_runtime.specs.Begun.{EndsExit, IsAmidExit};
 ghost use Rattle.lock_runtime.specs.inner.Parts.{exit_unbiased};
 ghost use Rattle.lock_runtime.specs.Standing.{StandsAfterTurn, StandsOrSame};
 ghost use Rattle.lock_runtime.specs.Refusals.{IsRefusedUnheld};
 
 use crate::contexts::unfinished;
 use bias_lock::bias_exit;
-use core_world::{HeapCall, IllegalMonitorState, Operation, Progress, StackOut};
-use heap_table::{CallContext, Heap, Pass};
-use object_monitor::monitor_exit;
+use core_world::{HeapCall, IllegalMonitorState, Operation, PendingCause, Progress, StackOut};
+use heap_table::{CallContext, Heap, Pass, QuickExit};
+use object_monitor::{monitor_exit, monitor_exit_found};
 use stack_lock::{place_at_depth, stack_exit};
 
 // The object's mark has no bias pattern: the thread leaves its newest lock record, or the monitor.
@@ -74,6 +76,92 @@ fn leave_held(
     leave_unbiased(heap, pass, context, object, depth, place)
 }
 
+// Nothing is made yet.
+#[inline(never)]
+fn exit_slowly(
+    heap: &Heap,
+    pass: &mut Pass,
+    object: u32,
+) -> Result<Progress<()>, IllegalMonitorState>
+    requires { MayOperate heap.now pass.old (Exit object) }
+    ensures rests { Rests heap.now pass.new }
+    ensures run { HasMadeSteps heap.now (exit_steps (start_now heap.now pass.old) object) pass.old pass.new result }
+    ensures says { Tells pass.old.known pass.new.known (λ ms. ExitSays (start_now heap.now pass.old) object ms result) }
+    ensures stands { StandsOrSame pass.old.known pass.new.known result }
+    ensures owner { IsRefusedUnheld pass.old.known.log object result }
+{
+    let depth = pass.held(object);
+    if depth == 0 {
+        return Err(IllegalMonitorState);
+    }
+    Ok(exit_counted(heap, pass, object, depth))
+}
+
+/// Goes on with an exit of which `quick_exit` has loaded this owner word of this monitor, which isn't the thread's own, and
+/// whose newest hold is at this place. From the pass on which it began, this is what `exit` does and answers.
+#[inline(never)]
+pub fn exit_from_owner(
+    heap: &Heap,
+    pass: &mut Pass,
+    object: u32,
+    monitor: u32,
+    owner: u64,
+    place: u32,
+) -> Progress<()>
+    requires { IsAmidExit heap.now pass.old object (exits.Owned monitor owner place) }
+    ensures rests { Rests heap.now pass.new }
+    ensures whole { EndsExit heap.now pass.old pass.new object (exits.Owned monitor owner place) result }
+{
+    let call = unfinished(HeapCall::Exit { object }, Operation::Exit, object);
+    monitor_exit_found(heap, pass, &call, object, monitor, place, owner);
+    Progress::Done(())
+}
+
+/// Goes on with an exit of which `quick_exit` has found that the mark has no bias pattern, and whose newest hold is at this place, and is the one of this
+/// depth. From the pass on which it began, this is what `exit` does and answers.
+#[inline(always)]
+pub fn exit_from_mark(
+    heap: &Heap,
+    pass: &mut Pass,
+    object: u32,
+    depth: u32,
+    place: u32,
+) -> Progress<()>
+    requires { IsAmidExit heap.now pass.old object (exits.Unbiased depth place) }
+    ensures rests { Rests heap.now pass.new }
+    ensures whole { EndsExit heap.now pass.old pass.new object (exits.Unbiased depth place) result }
+{
+    match heap.quick_exit_unbiased(pass, object, depth, place) {
+        QuickExit::Left => Progress::Done(()),
+        QuickExit::Inflating => Progress::Pending(PendingCause::Inflating),
+        QuickExit::Raced { expected, found } => {
+            Progress::Pending(PendingCause::Raced { expected, found })
+        }
+        QuickExit::Owned {
+            monitor,
+            owner,
+            place: newest,
+        } => exit_from_owner(heap, pass, object, monitor, owner, newest),
+        QuickExit::Not | QuickExit::Unbiased { .. } => unreachable!(),
+    }
+}
+
+// The same, out of line.
+#[inline(never)]
+fn exit_from_mark_apart(
+    heap: &Heap,
+    pass: &mut Pass,
+    object: u32,
+    depth: u32,
+    place: u32,
+) -> Progress<()>
+    requires { IsAmidExit heap.now pass.old object (exits.Unbiased depth place) }
+    ensures rests { Rests heap.now pass.new }
+    ensures whole { EndsExit heap.now pass.old pass.new object (exits.Unbiased depth place) result }
+{
+    exit_from_mark(heap, pass, object, depth, place)
+}
+
 /// Leaves the thread's newest hold of the object.
 ///
 /// `Done(())` says that it has: the Exit is logged, and nothing is unfinished.
@@ -88,6 +176,7 @@ fn leave_held(
 /// `IllegalMonitorState` exactly where the thread has no hold on the object. Then no step is made.
 ///
 /// In OpenJDK 8: `ObjectSynchronizer::slow_exit` and `fast_exit` (`synchronizer.cpp`).
+#[inline(always)]
 pub fn exit(heap: &Heap, pass: &mut Pass, object: u32) -> Result<Progress<()>, IllegalMonitorState>
     requires { MayOperate heap.now pass.old (Exit object) }
     ensures rests { Rests heap.now pass.new }
@@ -96,11 +185,23 @@ pub fn exit(heap: &Heap, pass: &mut Pass, object: u32) -> Result<Progress<()>, I
     ensures stands { StandsOrSame pass.old.known pass.new.known result }
     ensures owner { IsRefusedUnheld pass.old.known.log object result }
 {
-    let depth = pass.held(object);
-    if depth == 0 {
-        return Err(IllegalMonitorState);
+    match heap.quick_exit(pass, object) {
+        QuickExit::Not => exit_slowly(heap, pass, object),
+        QuickExit::Left => Ok(Progress::Done(())),
+        QuickExit::Inflating => Ok(Progress::Pending(PendingCause::Inflating)),
+        QuickExit::Raced { expected, found } => Ok(Progress::Pending(PendingCause::Raced {
+            expected,
+            found,
+        })),
+        QuickExit::Unbiased { depth, place } => {
+            Ok(exit_from_mark_apart(heap, pass, object, depth, place))
+        }
+        QuickExit::Owned {
+            monitor,
+            owner,
+            place,
+        } => Ok(exit_from_owner(heap, pass, object, monitor, owner, place)),
     }
-    Ok(exit_counted(heap, pass, object, depth))
 }
 
 // The same where the thread has so many holds on it, at least one by its log.

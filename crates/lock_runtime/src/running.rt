@@ -20,6 +20,7 @@ use heap_table::{Heap, Pass};
 /// to stop. Nothing is logged, and an unfinished operation and check stay so.
 ///
 /// In OpenJDK 8: the polling page, and the look of `SafepointSynchronize::block` (`safepoint.cpp`).
+#[inline(always)]
 pub fn poll(heap: &Heap, pass: &mut Pass) -> Progress<()>
     requires { MayCall heap.now pass.old Poll }
     ensures rests { Rests heap.now pass.new }

@@ -55,5 +55,5 @@ told_not h p q o out None by room told full = made_not out told.1.0 told.1.1 ful
 pub never_full : (before after : Slot) (o : ℕ) (out : Outcome) → ByHandle before after (Exit o) out → IsNeverFull before (answered out)
 never_full before after o out by s live held some full =
     let w = (by.had (inner.Seat s) live held).3 in
-    let room = ap not (roomy _ s.lent.thing w.4 some) in
+    let room = ap not (roomy _ s.lent.thing w.4.exits some) in
     told_not s.room.value.heap s.lent.thing w.0.lent.thing o out _ refl room w.5 full

@@ -212,8 +212,11 @@ module _ (h : HeapSeen) (p q : PassSeen) (rp : Rests h p) (rq : Rests h q) (limi
   pub begun_keeps : (t : HeapCall) (out : Outcome) → MayMake h p t → barred h p t ≡ None → KeepsRoom p → IsMade h t p q out → KeepsRoom q
   begun_keeps t out may none kept made =
       let full = (not_barred h p t none).1 in
-      let page = made_keeps p.limit h p q rp rq t out may (λ needs. (roomy t full needs).page) kept.page made in
+      let page = made_keeps p.limit h p q rp rq t out may (λ needs. (roomy t full needs).page) kept.exits.page made in
       record {
-        page = omega (arith, page, limit);
-        stamps = made_keeps log_limit h p q rp rq t out may (λ needs. (roomy t full needs).stamps) kept.stamps made;
+        exits = record {
+          page = omega (arith, page, limit);
+          stamps = made_keeps log_limit h p q rp rq t out may (λ needs. (roomy t full needs).stamps) kept.exits.stamps made;
+        };
+        wide = λ none. let was = kept.wide (rp.is_of.room ∙ sym rq.is_of.room ∙ none) in omega (arith, was, limit);
       }

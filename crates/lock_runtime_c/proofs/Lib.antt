@@ -4,6 +4,7 @@ mod Exits
 mod Keeps
 mod LogRoom
 mod MayBegin
+mod QuickCalls
 mod Threads
 mod Closed
 mod Seated

@@ -1,5 +1,5 @@
 -- The room that a thread's log keeps.
-use Rattle.std.specs.Prelude.{ℕ, ◌+◌, ◌≤◌, ◌&&◌, nat_le, not, Bool, true, false, length, if◌then◌else◌}
+use Rattle.std.specs.Prelude.{◌≡◌, ℕ, ◌+◌, ◌≤◌, ◌&&◌, nat_le, not, Bool, true, false, length, if◌then◌else◌}
 use Rattle.core_world.specs.declared.heap_call.HeapCall.{HeapCall}
 use Rattle.core_world.specs.declared.heap_call.HeapCall.TheVariants.{Enter, Exit, Wait, Finish, Poll, Stop, Resume, Check}
 use Rattle.core_world.specs.Clauses.Lengths.{log_limit}
@@ -12,9 +12,11 @@ pub record Fits (p : PassSeen) (entries : ℕ) : Type 0 where
   pub page : length p.known.log + entries ≤ p.limit
   pub stamps : length p.known.log + entries ≤ log_limit
 
--- the log has room for an exit of each hold
-abbrev pub KeepsRoom : PassSeen → Type 0
-KeepsRoom p = Fits p (all_holds p.known.holds)
+-- The log has room for an exit of each hold. And where a page has room for no entry, so that none are kept, it has as much room as stamps allow: a call
+-- is full only by these then.
+pub record KeepsRoom (p : PassSeen) : Type 0 where
+  pub exits : Fits p (all_holds p.known.holds)
+  pub wide : p.room ≡ 0 → log_limit ≤ p.limit
 
 -- For how many entries it has to have room before the call. An exit only takes up what its hold had kept. All else
 -- leaves the room that each hold needs for its exit, and but for an end and a wait that has let go it leaves one more, for these; an enter is a hold

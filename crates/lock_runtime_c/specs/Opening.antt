@@ -1,5 +1,5 @@
 -- How a planned heap is opened, and how threads get their passes of it.
-use Rattle.std.specs.Prelude.{◌≡◌, ◌⊎◌, ◌≤◌, ℕ, length, Some, ◌<◌, []}
+use Rattle.std.specs.Prelude.{◌≡◌, ◌⊎◌, ◌≤◌, ◌==◌, if◌then◌else◌, ℕ, length, Some, ◌<◌, []}
 use Rattle.plain_monitor.specs.Limits.{entries_for}
 use Rattle.heap_table.specs.Seen.{HeapSeen}
 use Rattle.heap_table.specs.Layout.{shape_of}
@@ -17,7 +17,11 @@ use Rattle.lock_runtime_c.specs.declared.outcome.Said.TheVariants.{Nothing}
 use Rattle.lock_runtime_c.specs.Planning.{Fills}
 use Rattle.lock_runtime_c.specs.Rest.{IsHome}
 
--- the heap is the planned one, and a page of its logs has room for the entries that so much fuel may log
+-- for how many entries a page of its logs has room: for those that so much fuel may log, and for none where none are asked for
+abbrev pub page_room : ℕ → ℕ
+page_room fuel = if fuel == 0 then 0 else entries_for fuel
+
+-- the heap is the planned one, and a page of its logs has that room
 abbrev pub IsPlanned : Plan → HeapSeen → Type 0
 IsPlanned p h =
     (h.heap ≡ record {
@@ -25,7 +29,7 @@ IsPlanned p h =
       start = p.start;
       biasing = p.biased;
     })
-    × (h.room ≡ entries_for p.fuel)
+    × (h.room ≡ page_room p.fuel)
 
 -- a plan becomes its heap; or memory is wanting, and it stays
 abbrev pub Opens : Inner → Inner → Outcome → Type 0

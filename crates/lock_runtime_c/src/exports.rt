@@ -3,7 +3,7 @@ ghost use Rattle.core_world.specs.declared.heap_call.HeapCall.TheVariants.{Enter
 ghost use Rattle.lock_runtime_c.specs.ByHandle.{Answers, IsNeverFull};
 ghost use Rattle.plain_monitor.specs.declared.entry.Ending.TheVariants as ending;
 
-use crate::access::make_by;
+use crate::access::{answer_by, make_by};
 use crate::answers::{Answer, answered};
 use crate::calls::{EnterCall, ExitCall, PollCall};
 use crate::handle::Slot;
@@ -15,7 +15,7 @@ use std::alloc::Global;
 pub extern "C" fn biasrun_poll(alloc: Global, at: &mut Slot) -> Answer
     ensures { Answers at.old at.new Poll result }
 {
-    answered(make_by(alloc, at, PollCall))
+    answer_by(alloc, at, PollCall)
 }
 
 #[unsafe(no_mangle)]
@@ -43,7 +43,7 @@ pub extern "C" fn biasrun_check_stuck(alloc: Global, at: &mut Slot) -> Answer
 pub extern "C" fn biasrun_enter(alloc: Global, at: &mut Slot, object: u32, now: u64) -> Answer
     ensures { Answers at.old at.new (Enter object now) result }
 {
-    answered(make_by(alloc, at, EnterCall { object, now }))
+    answer_by(alloc, at, EnterCall { object, now })
 }
 
 #[unsafe(no_mangle)]
@@ -51,7 +51,7 @@ pub extern "C" fn biasrun_exit(alloc: Global, at: &mut Slot, object: u32) -> Ans
     ensures told { Answers at.old at.new (Exit object) result }
     ensures full { IsNeverFull at.old result }
 {
-    answered(make_by(alloc, at, ExitCall { object }))
+    answer_by(alloc, at, ExitCall { object })
 }
 
 #[unsafe(no_mangle)]

@@ -19,6 +19,7 @@ mod numbers;
 mod opens;
 mod outcome;
 mod plans;
+mod quickly;
 mod reads;
 mod reasons;
 mod store;

@@ -1,19 +1,37 @@
 //! How a heap begins, and how threads get their passes.
-ghost use Rattle.std.specs.Prelude.{◌≡◌, ◌≤◌, IfOk, vec_len};
-ghost use Rattle.plain_monitor.specs.Limits.{most_threads};
+ghost use Rattle.std.specs.Prelude.{◌≡◌, ◌<◌, ◌≤◌, ℕ, IfOk, vec_len};
+ghost use Rattle.heap_table.specs.Fresh.{IsFresh};
+ghost use Rattle.heap_table.specs.Seen.{first_pass, first_passes};
+ghost use Rattle.plain_monitor.specs.Limits.{most_fuel, most_threads};
 ghost use Rattle.lending.specs.Lending.{AreAt};
-ghost use Rattle.lock_runtime_c.specs.Opening.{IsPlanned};
+ghost use Rattle.lock_runtime_c.specs.Opening.{IsPlanned, page_room};
 ghost use Rattle.lock_runtime_c.specs.Rest.{IsHome, IsInLimits};
+ghost use Rattle.lock_runtime_c.specs.inner.FirstLimits.{first_limit};
 ghost use Rattle.lock_runtime_c.specs.inner.Seats.{SeatOf};
 
 use crate::inner::{Plan, Room, Seat};
 use crate::outcome::{Misuse, Outcome};
 use crate::store::Passes;
 use heap_table::{Heap, HeapShape, Pass};
-use lawful_heap::new_heap;
-use plain_monitor::NoMemory;
+use lawful_heap::{new_heap, new_heap_without_pages};
+use plain_monitor::{List, NoMemory};
 use std::alloc::Global;
 use std::sync::Arc;
+
+// The planned heap of this shape, and its passes. They keep no log where no entries are asked for.
+fn heap_of(alloc: Global, shape: HeapShape, plan: &Plan) -> Result<(Heap, List<Pass>), NoMemory>
+    requires { plan.now.fuel ≤ most_fuel }
+    ensures heap { IfOk result (λ r. r.0.heap ≡ record { shape = shape; start = plan.now.start; biasing = plan.now.biased }) }
+    ensures room { IfOk result (λ r. r.0.room ≡ page_room plan.now.fuel) }
+    ensures passes { IfOk result (λ r. r.1 ≡ first_passes r.0 (first_limit plan.now.fuel) 0 shape.threads) }
+    ensures fresh { IfOk result (λ r. (t : ℕ) → t < shape.threads → IsFresh r.0 t (first_pass r.0 (first_limit plan.now.fuel) t)) }
+{
+    if plan.fuel == 0 {
+        new_heap_without_pages(alloc, shape, plan.start, plan.biased)
+    } else {
+        new_heap(alloc, shape, plan.fuel, plan.start, plan.biased)
+    }
+}
 
 // The planned heap, and its passes, which are all at home.
 fn begin(alloc: Global, plan: &Plan) -> Result<(Heap, Vec<Pass>), NoMemory>
@@ -31,7 +49,7 @@ fn begin(alloc: Global, plan: &Plan) -> Result<(Heap, Vec<Pass>), NoMemory>
         plan.classes.as_slice(),
         objects,
     )?;
-    let (heap, passes) = new_heap(alloc, shape, plan.fuel, plan.start, plan.biased)?;
+    let (heap, passes) = heap_of(alloc, shape, plan)?;
     Ok((heap, passes.into_vec()))
 }
 

@@ -339,15 +339,6 @@ fn room_for(pass: &Pass, task: HeapCall) -> u32
     }
 }
 
-// Whether that many fit, into the page and into what stamps allow.
-#[inline(always)]
-fn fits(pass: &Pass, entries: u32) -> bool
-    ensures { result ≡ (nat_le (length pass.now.known.log + entries) pass.now.limit
-        && nat_le (length pass.now.known.log + entries) log_limit) }
-{
-    pass.room() >= entries && pass.may_grow(entries)
-}
-
 /// Whether the log hasn't the room that the call needs, besides what the thread's holds do.
 #[inline(always)]
 pub fn is_full(pass: &Pass, task: HeapCall) -> bool
@@ -358,6 +349,6 @@ pub fn is_full(pass: &Pass, task: HeapCall) -> bool
         HeapCall::Stop => false,
         HeapCall::Resume => false,
         HeapCall::Check => false,
-        _ => !fits(pass, room_for(pass, task)),
+        _ => !pass.fits(room_for(pass, task)),
     }
 }

@@ -137,6 +137,7 @@ fn decode_biased(word: u64) -> Result<MarkForm, BadMark>
 }
 
 /// The word that spells a form whose fields are in their ranges.
+#[inline(always)]
 pub fn encode(form: &MarkForm) -> u64
     requires { IsMarkInRange form.now }
     ensures { result ≡ mark_of form.now }

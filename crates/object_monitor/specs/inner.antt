@@ -1,4 +1,3 @@
 -- What only the private contracts of this crate cite: its own steps, states and invariants.
-pub mod ExitParts
 pub mod NotifyParts
 pub mod WaitParts

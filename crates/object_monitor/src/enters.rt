@@ -3,6 +3,7 @@ ghost use Rattle.std.specs.Prelude.{◌≡◌, ◌<◌, length, Some};
 ghost use Rattle.core_world.specs.Threads.ThreadView.{local_of};
 ghost use Rattle.core_world.specs.Trees.MonitorSteps.{record_steps, owned_steps, monitor_again_steps, monitor_own_steps};
 ghost use Rattle.core_world.specs.Trees.MonitorSteps.{monitor_enter_at, monitor_enter_steps};
+ghost use Rattle.mark_word.specs.Owner.{read_owner};
 ghost use Rattle.heap_table.specs.Parts.{IsDueOn, HasMadeSteps};
 ghost use Rattle.heap_table.specs.Seen.{IsOf};
 
@@ -148,6 +149,29 @@ fn enter_by_owner(
     }
 }
 
+/// Goes on with an enter by this monitor whose exchange found this owner word, as `monitor_enter` does.
+pub fn monitor_enter_found(
+    heap: &Heap,
+    pass: &mut Pass,
+    call: &CallContext,
+    object: u32,
+    monitor: u32,
+    found: u64,
+) -> Progress<Path>
+    requires heap { IsOf heap.now pass.old }
+    requires object { object < length heap.now.heap.shape.objects }
+    requires due { IsDueOn heap.now pass.old call.now.task
+        (monitor_enter_at (read_owner found) call.now (local_of pass.old.known) object monitor found) }
+    requires room { length pass.old.known.log < pass.old.limit }
+    ensures { HasMadeSteps heap.now (monitor_enter_at (read_owner found) call.now (local_of pass.old.known) object monitor found)
+        pass.old pass.new result }
+{
+    match owner_of_word(found) {
+        Some(form) => enter_by_owner(heap, pass, call, object, monitor, found, form),
+        None => unreachable!(),
+    }
+}
+
 /// Takes a hold of the object by its monitor, which is this one.
 ///
 /// `Done(MonitorFirst)` says that the monitor was free, and the thread owns it now. `Done(MonitorAgain)` says that the
@@ -179,8 +203,5 @@ pub fn monitor_enter(
     let free = encode_owner(&OwnerForm::Free);
     let word = encode_owner(&OwnerForm::ByThread { thread });
     let found = heap.exchange(pass, call, stage, at, free, word);
-    match owner_of_word(found) {
-        Some(form) => enter_by_owner(heap, pass, call, object, monitor, found, form),
-        None => unreachable!(),
-    }
+    monitor_enter_found(heap, pass, call, object, monitor, found)
 }

@@ -3,9 +3,10 @@ ghost use Rattle.std.specs.Prelude.{◌≡◌, ◌<◌, length, Some};
 ghost use Rattle.core_world.specs.Threads.ThreadView.{local_of};
 ghost use Rattle.core_world.specs.Trees.MonitorSteps.{own_steps, release_steps, monitor_exit_steps};
 ghost use Rattle.core_world.specs.Trees.Plans.{top_place};
+ghost use Rattle.mark_word.specs.Owner.{read_owner};
 ghost use Rattle.heap_table.specs.Parts.{IsDueOn, HasMadeSteps};
 ghost use Rattle.heap_table.specs.Seen.{IsOf};
-ghost use Rattle.object_monitor.specs.inner.ExitParts.{lowered_exit, counted_exit};
+ghost use Rattle.heap_table.specs.ExitParts.{lowered_exit, counted_exit, owned_exit};
 
 use core_world::{Stage, WordId};
 use heap_table::{CallContext, Heap, Pass, owner_of_word};
@@ -114,6 +115,33 @@ fn leave_owned(
     }
 }
 
+/// Goes on with an exit by this monitor that found this owner word, as `monitor_exit` does.
+pub fn monitor_exit_found(
+    heap: &Heap,
+    pass: &mut Pass,
+    call: &CallContext,
+    object: u32,
+    monitor: u32,
+    place: u32,
+    owner: u64,
+)
+    requires heap { IsOf heap.now pass.old }
+    requires place { place ≡ top_place object pass.old.known.holds }
+    requires due { IsDueOn heap.now pass.old call.now.task
+        (owned_exit (read_owner owner) call.now (local_of pass.old.known) object monitor) }
+    requires room { length pass.old.known.log < pass.old.limit }
+    ensures { HasMadeSteps heap.now (owned_exit (read_owner owner) call.now (local_of pass.old.known) object monitor)
+        pass.old pass.new result }
+{
+    match owner_of_word(owner) {
+        Some(form) => {
+            own(heap, pass, call, object, monitor, form);
+            leave_owned(heap, pass, call, object, monitor, place);
+        }
+        None => unreachable!(),
+    }
+}
+
 /// Leaves the thread's newest hold of the object, at this place, whose mark names this monitor. The hold's record is no
 /// recursive one of a stack lock.
 ///
@@ -139,11 +167,5 @@ pub fn monitor_exit(
         pass.old pass.new result }
 {
     let owner = heap.load(pass, call, Stage::Settled, WordId::Owner { monitor });
-    match owner_of_word(owner) {
-        Some(form) => {
-            own(heap, pass, call, object, monitor, form);
-            leave_owned(heap, pass, call, object, monitor, place);
-        }
-        None => unreachable!(),
-    }
+    monitor_exit_found(heap, pass, call, object, monitor, place, owner);
 }

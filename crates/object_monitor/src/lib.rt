@@ -19,8 +19,8 @@ mod inflates;
 mod notifies;
 mod waits;
 
-pub use enters::monitor_enter;
-pub use exits::monitor_exit;
+pub use enters::{monitor_enter, monitor_enter_found};
+pub use exits::{monitor_exit, monitor_exit_found};
 pub use inflates::inflate;
 pub use notifies::{monitor_notify, monitor_notify_all};
 pub use waits::{monitor_resume, monitor_wait, publish};

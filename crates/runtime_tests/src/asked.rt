@@ -286,7 +286,7 @@ fn may_begin(heap: &Heap, pass: &Pass, task: HeapCall) -> bool
 fn has_room(pass: &Pass, task: HeapCall) -> bool
     ensures { result ≡ true → length pass.now.known.log + most_logged pass.now.known task ≤ pass.now.limit }
 {
-    pass.room() >= most_logged(pass, task)
+    pass.room() >= u64::from(most_logged(pass, task))
 }
 
 /// Whether a call of this task may begin that makes no operation.

@@ -67,16 +67,18 @@ fn a_revocation_visits_the_last_place(rt: HostRuntime) -> Result<(), Fail> {
 
 #[test]
 fn a_revoked_lock_goes_to_the_next_by_the_monitor(rt: HostRuntime) -> Result<(), Fail> {
-    let mut lab = Lab::begin(rt.alloc(), true)?;
-    revoke(&rt, &mut lab);
-    lab.resumes(&rt, First);
-    lab.leaves(&rt, First, 0);
-    lab.leaves(&rt, First, 0);
-    lab.leaves(&rt, First, 0);
-    lab.stops(&rt, First);
-    lab.resumes(&rt, Second);
-    lab.enters(&rt, Second, 0, 1, Path::MonitorFirst);
-    lab.has_logged(&rt, Second, &[7]);
+    for kept in [true, false] {
+        let mut lab = Lab::begin_with(rt.alloc(), true, kept)?;
+        revoke(&rt, &mut lab);
+        lab.resumes(&rt, First);
+        lab.leaves(&rt, First, 0);
+        lab.leaves(&rt, First, 0);
+        lab.leaves(&rt, First, 0);
+        lab.stops(&rt, First);
+        lab.resumes(&rt, Second);
+        lab.enters(&rt, Second, 0, 1, Path::MonitorFirst);
+        lab.has_logged(&rt, Second, &[7]);
+    }
     Ok(())
 }
 

@@ -1,7 +1,9 @@
 //! A heap of two threads, and whole calls on it. `None` where a call may not begin.
-ghost use Rattle.std.specs.Prelude.{◌≡◌, IfOk};
+ghost use Rattle.std.specs.Prelude.{◌≡◌, ◌<◌, ◌^◌, ℕ, IfOk, if◌then◌else◌};
+ghost use Rattle.plain_monitor.specs.Limits.{entries_for};
 ghost use Rattle.heap_table.specs.Fresh.{IsFresh};
 ghost use Rattle.heap_table.specs.Resting.{Rests};
+ghost use Rattle.heap_table.specs.Seen.{first_pass, first_passes};
 
 use crate::asked::{may_call, may_make};
 use core_world::{
@@ -9,19 +11,42 @@ use core_world::{
     Unguarded,
 };
 use heap_table::{Heap, HeapShape, Pass};
-use lawful_heap::new_heap;
-use plain_monitor::{Ending, NoMemory, Path, Value};
+use lawful_heap::{new_heap, new_heap_without_pages};
+use plain_monitor::{Ending, List, NoMemory, Path, Value};
 use std::alloc::Global;
 
 // The class of each object.
 const CLASSES: [u32; 101] = [0; 101];
 
-// The heap of this shape, and the passes of its two threads.
-fn passes(alloc: Global, shape: HeapShape, biasing: bool) -> Result<(Heap, Pass, Pass), NoMemory>
+// The heap of this shape, whose passes keep their logs or not.
+fn heap_of(
+    alloc: Global,
+    shape: HeapShape,
+    biasing: bool,
+    kept: bool,
+) -> Result<(Heap, List<Pass>), NoMemory>
+    ensures passes { IfOk result (λ r. r.1 ≡ first_passes r.0 (if kept then entries_for 1000 else 2 ^ 42) 0 shape.threads) }
+    ensures fresh { IfOk result (λ r. (t : ℕ) → t < shape.threads
+        → IsFresh r.0 t (first_pass r.0 (if kept then entries_for 1000 else 2 ^ 42) t)) }
+{
+    if kept {
+        new_heap(alloc, shape, 1000, 1, biasing)
+    } else {
+        new_heap_without_pages(alloc, shape, 1, biasing)
+    }
+}
+
+// It, and the passes of its two threads.
+fn passes(
+    alloc: Global,
+    shape: HeapShape,
+    biasing: bool,
+    kept: bool,
+) -> Result<(Heap, Pass, Pass), NoMemory>
     requires { shape.threads ≡ 2 }
     ensures { IfOk result (λ r. IsFresh r.0 0 r.1 × IsFresh r.0 1 r.2) }
 {
-    let (heap, passes) = new_heap(alloc, shape, 1000, 1, biasing)?;
+    let (heap, passes) = heap_of(alloc, shape, biasing, kept)?;
     let mut passes = passes.into_vec();
     let Some(second) = passes.pop() else {
         return Err(NoMemory);
@@ -32,28 +57,28 @@ fn passes(alloc: Global, shape: HeapShape, biasing: bool) -> Result<(Heap, Pass,
     Ok((heap, first, second))
 }
 
-fn fresh(alloc: Global, biasing: bool) -> Result<(Heap, Pass, Pass), NoMemory>
+fn fresh(alloc: Global, biasing: bool, kept: bool) -> Result<(Heap, Pass, Pass), NoMemory>
     ensures { IfOk result (λ r. IsFresh r.0 0 r.1 × IsFresh r.0 1 r.2) }
 {
     let shape = HeapShape::of(alloc, 2, &[1], &CLASSES, 101)?;
-    passes(alloc, shape, biasing)
+    passes(alloc, shape, biasing, kept)
 }
 
 fn fresh_to_make(alloc: Global, biasing: bool) -> Result<(Heap, Pass, Pass), NoMemory>
     ensures { IfOk result (λ r. IsFresh r.0 0 r.1 × IsFresh r.0 1 r.2) }
 {
     let shape = HeapShape::of(alloc, 2, &[1], &[0], 1)?;
-    passes(alloc, shape.with_made(1)?, biasing)
+    passes(alloc, shape.with_made(1)?, biasing, true)
 }
 
-/// A heap of two threads and 101 objects of one class with one slot, with or without biases, and its passes.
-pub fn begin(alloc: Global, biasing: bool) -> Result<(Heap, Pass, Pass), NoMemory>
+/// A heap of two threads and 101 objects of one class with one slot, with or without biases, and its passes, which keep their logs or not.
+pub fn begin(alloc: Global, biasing: bool, kept: bool) -> Result<(Heap, Pass, Pass), NoMemory>
     ensures { IfOk result (λ r. Rests r.0 r.1 × Rests r.0 r.2) }
 {
-    fresh(alloc, biasing)
+    fresh(alloc, biasing, kept)
 }
 
-/// The same with one declared object, where the first thread makes the objects from 1 on, and the second those from 1025 on.
+/// The same with one declared object and with logs, where the first thread makes the objects from 1 on, and the second those from 1025 on.
 pub fn begin_to_make(alloc: Global, biasing: bool) -> Result<(Heap, Pass, Pass), NoMemory>
     ensures { IfOk result (λ r. Rests r.0 r.1 × Rests r.0 r.2) }
 {

@@ -14,6 +14,18 @@ use std::marker::Model;
 use std::mem;
 use std::process::Abort;
 
+// Whether the thread logged entries with these stamps, in order. Of a log that isn't kept their number is told, and the last stamp.
+fn logged(pass: &Pass, stamps: &[u64]) -> bool {
+    if pass.keeps() {
+        return has_stamps(pass.log(), stamps);
+    }
+    let last = match stamps.last() {
+        Some(stamp) => *stamp,
+        None => 0,
+    };
+    pass.log().is_empty() && pass.length() == stamps.len() as u64 && pass.last_stamp() == last
+}
+
 // Whether the entries have these stamps, in order.
 fn has_stamps(log: &[Logged], stamps: &[u64]) -> bool {
     log.len() == stamps.len()
@@ -84,7 +96,12 @@ impl Lab {
 
     /// A heap of two threads and 101 objects of one class with one slot, with or without biases.
     pub fn begin(alloc: Global, biasing: bool) -> Result<Lab, NoMemory> {
-        let (heap, own, other) = calls::begin(alloc, biasing)?;
+        Lab::begin_with(alloc, biasing, true)
+    }
+
+    /// The same, whose passes keep their logs or not.
+    pub fn begin_with(alloc: Global, biasing: bool, kept: bool) -> Result<Lab, NoMemory> {
+        let (heap, own, other) = calls::begin(alloc, biasing, kept)?;
         Lab::of(alloc, heap, own, other)
     }
 
@@ -281,8 +298,8 @@ impl Lab {
         same(rt, self.exit(thread, object), LEFT);
     }
 
-    /// The entries of the thread's log have these stamps, in order.
+    /// The thread logged entries with these stamps, in order. Of a log that isn't kept their number is compared, and the last stamp.
     pub fn has_logged(&self, rt: &impl Abort, thread: Thread, stamps: &[u64]) {
-        holds(rt, has_stamps(self.pass(thread).log(), stamps));
+        holds(rt, logged(self.pass(thread), stamps));
     }
 }

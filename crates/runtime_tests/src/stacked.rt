@@ -10,23 +10,25 @@ use std::test::Fail;
 
 #[test]
 fn a_lone_owner_locks_by_records(rt: HostRuntime) -> Result<(), Fail> {
-    let mut lab = Lab::begin(rt.alloc(), false)?;
-    lab.resumes(&rt, First);
-    lab.resumes(&rt, Second);
-    lab.enters(&rt, First, 0, 1, Path::StackFirst);
-    lab.enters(&rt, First, 0, 1, Path::StackAgain);
-    same(&rt, lab.put(First, 0, 0, Value::Int(5)), Some(Ok(())));
-    same(&rt, lab.get(Second, 0, 0), Some(Err(Unguarded)));
-    same(&rt, lab.get(First, 0, 0), Some(Ok(Value::Int(5))));
-    lab.leaves(&rt, First, 0);
-    lab.leaves(&rt, First, 0);
-    lab.stops(&rt, First);
-    lab.stops(&rt, Second);
-    lab.has_logged(&rt, First, &[1, 2, 3, 4, 5, 6]);
-    lab.has_logged(&rt, Second, &[]);
-    let closed = closed(&rt, lab);
-    same(&rt, mark(&closed, 0), Some(1));
-    same(&rt, stamp(&closed, 0), Some(6));
+    for kept in [true, false] {
+        let mut lab = Lab::begin_with(rt.alloc(), false, kept)?;
+        lab.resumes(&rt, First);
+        lab.resumes(&rt, Second);
+        lab.enters(&rt, First, 0, 1, Path::StackFirst);
+        lab.enters(&rt, First, 0, 1, Path::StackAgain);
+        same(&rt, lab.put(First, 0, 0, Value::Int(5)), Some(Ok(())));
+        same(&rt, lab.get(Second, 0, 0), Some(Err(Unguarded)));
+        same(&rt, lab.get(First, 0, 0), Some(Ok(Value::Int(5))));
+        lab.leaves(&rt, First, 0);
+        lab.leaves(&rt, First, 0);
+        lab.stops(&rt, First);
+        lab.stops(&rt, Second);
+        lab.has_logged(&rt, First, &[1, 2, 3, 4, 5, 6]);
+        lab.has_logged(&rt, Second, &[]);
+        let closed = closed(&rt, lab);
+        same(&rt, mark(&closed, 0), Some(1));
+        same(&rt, stamp(&closed, 0), Some(6));
+    }
     Ok(())
 }
 
@@ -44,15 +46,17 @@ fn contend(rt: &impl Abort, lab: &mut Lab) {
 
 #[test]
 fn a_contended_lock_goes_to_the_next_by_the_monitor(rt: HostRuntime) -> Result<(), Fail> {
-    let mut lab = Lab::begin(rt.alloc(), false)?;
-    contend(&rt, &mut lab);
-    lab.leaves(&rt, First, 0);
-    lab.leaves(&rt, First, 0);
-    lab.leaves(&rt, First, 0);
-    lab.leaves(&rt, First, 0);
-    lab.enters(&rt, Second, 0, 1, Path::MonitorFirst);
-    lab.has_logged(&rt, First, &[1, 2, 3, 4, 5, 6, 7, 8]);
-    lab.has_logged(&rt, Second, &[9]);
+    for kept in [true, false] {
+        let mut lab = Lab::begin_with(rt.alloc(), false, kept)?;
+        contend(&rt, &mut lab);
+        lab.leaves(&rt, First, 0);
+        lab.leaves(&rt, First, 0);
+        lab.leaves(&rt, First, 0);
+        lab.leaves(&rt, First, 0);
+        lab.enters(&rt, Second, 0, 1, Path::MonitorFirst);
+        lab.has_logged(&rt, First, &[1, 2, 3, 4, 5, 6, 7, 8]);
+        lab.has_logged(&rt, Second, &[9]);
+    }
     Ok(())
 }
 
@@ -105,5 +109,20 @@ fn a_thread_has_64_holds_at_most(rt: HostRuntime) -> Result<(), Fail> {
         same(&rt, lab.pass(First).log().len(), 64);
         same(&rt, lab.pass(First).holds(), 64);
     }
+    Ok(())
+}
+
+/// Where no log is kept none is full: a page would have room for 2,066 entries.
+#[test]
+fn a_heap_without_pages_keeps_no_entries(rt: HostRuntime) -> Result<(), Fail> {
+    let mut lab = Lab::begin_with(rt.alloc(), false, false)?;
+    lab.resumes(&rt, First);
+    for _ in 0..3000 {
+        holds(&rt, lab.print(First, Value::Nil));
+    }
+    holds(&rt, lab.pass(First).log().is_empty());
+    same(&rt, lab.pass(First).length(), 3000);
+    same(&rt, lab.pass(First).last_stamp(), 3000);
+    same(&rt, lab.pass(First).room(), 4_398_046_508_104);
     Ok(())
 }

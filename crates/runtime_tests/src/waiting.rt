@@ -11,32 +11,34 @@ use std::test::Fail;
 
 #[test]
 fn a_notified_thread_waits_for_the_monitor(rt: HostRuntime) -> Result<(), Fail> {
-    let mut lab = Lab::begin(rt.alloc(), false)?;
-    lab.resumes(&rt, First);
-    lab.resumes(&rt, Second);
-    lab.enters(&rt, First, 0, 1, Path::StackFirst);
-    let unheard = Progress::Pending(PendingCause::NotNotified { word: 524290 });
-    same(&rt, lab.wait(First, 0, 1), Some(Ok(unheard)));
-    lab.enters(&rt, Second, 0, 1, Path::MonitorFirst);
-    lab.has_logged(&rt, Second, &[3]);
-    same(
-        &rt,
-        lab.notify(Second, 0, 1),
-        Some(Ok(Progress::Done(Some(0)))),
-    );
-    lab.has_logged(&rt, Second, &[3, 4]);
-    let owned = Progress::Pending(PendingCause::Owned { word: 17 });
-    same(&rt, lab.wait(First, 0, 1), Some(Ok(owned)));
-    lab.leaves(&rt, Second, 0);
-    lab.has_logged(&rt, Second, &[3, 4, 5]);
-    same(&rt, lab.wait(First, 0, 1), LEFT);
-    lab.has_logged(&rt, First, &[1, 2, 6]);
-    same(&rt, lab.notify(First, 0, 1), Some(Ok(Progress::Done(None))));
-    same(
-        &rt,
-        lab.notify_all(First, 0, 1),
-        Some(Ok(Progress::Done(0))),
-    );
+    for kept in [true, false] {
+        let mut lab = Lab::begin_with(rt.alloc(), false, kept)?;
+        lab.resumes(&rt, First);
+        lab.resumes(&rt, Second);
+        lab.enters(&rt, First, 0, 1, Path::StackFirst);
+        let unheard = Progress::Pending(PendingCause::NotNotified { word: 524290 });
+        same(&rt, lab.wait(First, 0, 1), Some(Ok(unheard)));
+        lab.enters(&rt, Second, 0, 1, Path::MonitorFirst);
+        lab.has_logged(&rt, Second, &[3]);
+        same(
+            &rt,
+            lab.notify(Second, 0, 1),
+            Some(Ok(Progress::Done(Some(0)))),
+        );
+        lab.has_logged(&rt, Second, &[3, 4]);
+        let owned = Progress::Pending(PendingCause::Owned { word: 17 });
+        same(&rt, lab.wait(First, 0, 1), Some(Ok(owned)));
+        lab.leaves(&rt, Second, 0);
+        lab.has_logged(&rt, Second, &[3, 4, 5]);
+        same(&rt, lab.wait(First, 0, 1), LEFT);
+        lab.has_logged(&rt, First, &[1, 2, 6]);
+        same(&rt, lab.notify(First, 0, 1), Some(Ok(Progress::Done(None))));
+        same(
+            &rt,
+            lab.notify_all(First, 0, 1),
+            Some(Ok(Progress::Done(0))),
+        );
+    }
     Ok(())
 }
 
@@ -78,7 +80,7 @@ fn a_wait_gives_all_holds_back(rt: HostRuntime) -> Result<(), Fail> {
 }
 
 // Prints until the log has room for so many entries. Whether it has.
-fn fill(lab: &mut Lab, thread: Thread, room: u32) -> bool {
+fn fill(lab: &mut Lab, thread: Thread, room: u64) -> bool {
     for _ in 0..lab.pass(thread).room().saturating_sub(room) {
         if !lab.print(thread, Value::Nil) {
             return false;
@@ -129,18 +131,20 @@ fn a_call_begins_where_there_is_room_for_what_it_logs(rt: HostRuntime) -> Result
 
 #[test]
 fn a_notify_revokes_its_own_bias(rt: HostRuntime) -> Result<(), Fail> {
-    let mut lab = Lab::begin(rt.alloc(), true)?;
-    lab.resumes(&rt, First);
-    lab.enters(&rt, First, 0, 1, Path::BiasTaken);
-    same(&rt, lab.notify(First, 0, 1), Some(Ok(Progress::Done(None))));
-    lab.stops(&rt, First);
-    let Some(counts) = lab.pass(First).counts().first() else {
-        panic!(rt; "there is a class")
-    };
-    same(&rt, counts.single, 1);
-    let closed = closed(&rt, lab);
-    same(&rt, mark(&closed, 0), Some(4096));
-    same(&rt, count(&closed, 0), Some(1));
+    for kept in [true, false] {
+        let mut lab = Lab::begin_with(rt.alloc(), true, kept)?;
+        lab.resumes(&rt, First);
+        lab.enters(&rt, First, 0, 1, Path::BiasTaken);
+        same(&rt, lab.notify(First, 0, 1), Some(Ok(Progress::Done(None))));
+        lab.stops(&rt, First);
+        let Some(counts) = lab.pass(First).counts().first() else {
+            panic!(rt; "there is a class")
+        };
+        same(&rt, counts.single, 1);
+        let closed = closed(&rt, lab);
+        same(&rt, mark(&closed, 0), Some(4096));
+        same(&rt, count(&closed, 0), Some(1));
+    }
     Ok(())
 }
 

@@ -131,7 +131,7 @@ fn exclude(first: &[Logged], second: &[Logged]) -> bool {
 #[test]
 fn two_workers_exclude_each_other(rt: HostRuntime) -> Result<(), Fail> {
     for biasing in [false, true] {
-        let (heap, first, second) = begin(rt.alloc(), biasing)?;
+        let (heap, first, second) = begin(rt.alloc(), biasing, true)?;
         let (first, second) = work_both(&rt, &heap, first, second);
         holds(&rt, !first.running() && !second.running());
         same(&rt, first.log().len(), 1800);

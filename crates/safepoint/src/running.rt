@@ -17,6 +17,7 @@ use mark_word::SafeForm;
 /// thread runs on either way; where it is pending, it is to stop.
 ///
 /// In OpenJDK 8: the polling page, and the look of `SafepointSynchronize::block` (`safepoint.cpp`).
+#[inline(always)]
 pub fn poll(heap: &Heap, pass: &mut Pass, call: &CallContext) -> Progress<()>
     requires heap { IsOf heap.now pass.old }
     requires due { IsDueOn heap.now pass.old call.now.task (poll_steps call.now) }

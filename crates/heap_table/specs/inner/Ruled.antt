@@ -1,5 +1,5 @@
 -- The rule of the table.
-use Rattle.std.specs.Prelude.{◌≡◌, ℕ, ◌<◌, false, List, [], ◌∷◌, length, slice_index, None}
+use Rattle.std.specs.Prelude.{◌≡◌, ℕ, ◌<◌, Bool, true, false, List, [], ◌∷◌, length, slice_index, None}
 use mathlib.Core.Option.{some}
 use mathlib.Core.Logic.{◌≢◌}
 use lib.ListN.{get_elem?}
@@ -84,3 +84,8 @@ others (k ∷ ks) = ks
 abbrev pub Told : {S : Type 0} → Heap → StepPlan → Me S (List ThreadView) → ℕ → Me S (List ThreadView) → Type 0
 Told heap p me n after =
     (after ≡ (known_after heap.shape heap.start p n (only me.0) ∷ [], [])) × Stepped heap (only me.0) p n
+
+-- the step was made, where the test says so, and its thread knows what it tells; and else nothing was done
+abbrev pub IsStepIf : Bool → Heap → StepPlan → ThreadView → ThreadView → Type 0
+IsStepIf true heap p k l = (n : ℕ) × Stepped heap k p n × (l ≡ known_after heap.shape heap.start p n k)
+IsStepIf false heap p k l = l ≡ k

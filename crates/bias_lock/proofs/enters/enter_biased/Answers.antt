@@ -6,7 +6,7 @@ use Rattle.mark_word.specs.Mark.{read_mark}
 use Rattle.core_world.specs.Threads.ThreadView.{local_of}
 use Rattle.core_world.specs.Trees.BiasSteps.{bias_enter_at, bias_enter_by, took_steps}
 use Rattle.bias_lock.specs.inner.Parts.{prototype_enter}
-use Rattle.bias_lock.specs.inner.OwnBias.{IsOwnBias}
+use Rattle.heap_table.specs.Own.{IsOwn}
 use Rattle.heap_table.proofs.StepsLeft.{AreLeft, all_left, can_make, step_made, left_as, left_then, never}
 use Rattle.bias_lock.proofs.enters.enter_biased.Goals as goal
 use Rattle.bias_lock.proofs.enters.enter_biased.Goals.{After-load-prototype}
@@ -25,7 +25,7 @@ by_form c f form =
     (λ i. bias_enter_by (form i) c.args.call.now (sym local i) c.args.object c.args.mark c.load-prototype.result)
 
 -- and where the bias is the thread's own
-own : (c : After-load-prototype) (t : ℕ) → IsOwnBias c.args.mark c.load-prototype.result t → t ≡ c.load-prototype.new.pass.known.thread
+own : (c : After-load-prototype) (t : ℕ) → IsOwn c.args.mark c.load-prototype.result t → t ≡ c.load-prototype.new.pass.known.thread
     → AreLeft c.args.heap.now c.args.call.now.task c.args.pass.now
     (prototype_enter c.args.call.now (local_of c.args.pass.now.known) c.args.class c.args.object c.args.mark) c.load-prototype.new.pass
     (took_steps c.args.call.now (local_of c.load-prototype.new.pass.known) c.args.object BiasOwn)
@@ -37,11 +37,11 @@ own c t o same =
 
 pub log_biased_enter-requires-clause-due : goal.log_biased_enter-requires-clause-due
 log_biased_enter-requires-clause-due c =
-    (own (goal.at.log_biased_enter-requires-clause-due c).After-load-prototype _ (c.is_own_bias.ensures c.if-is_own_bias.true) c.thread-own.ensures.same).due
+    (own (goal.at.log_biased_enter-requires-clause-due c).After-load-prototype _ (c.is_own.ensures c.if-is_own.true) c.thread-own.ensures.same).due
 
-pub returns-then-is_own_bias : goal.returns-then-is_own_bias
-returns-then-is_own_bias c =
-    (own (goal.at.returns-then-is_own_bias c).After-load-prototype _ (c.is_own_bias.ensures c.if-is_own_bias.true) c.thread-own.ensures.same).whole _ _
+pub returns-then-is_own : goal.returns-then-is_own
+returns-then-is_own c =
+    (own (goal.at.returns-then-is_own c).After-load-prototype _ (c.is_own.ensures c.if-is_own.true) c.thread-own.ensures.same).whole _ _
     c.log_biased_enter.ensures
 
 pub enter_by_prototype-requires-clause-due : goal.enter_by_prototype-requires-clause-due

@@ -1,4 +1,4 @@
-use Rattle.std.proofs.Common.{◌≡◌, ◌+◌, ℕ, List, [], ◌∷◌, ◌++◌, refl, sym, ap, ◌∙◌, subst, arith, rules, take, length}
+use Rattle.std.proofs.Common.{◌≡◌, ℕ, List, [], ◌∷◌, ◌++◌, refl, sym, ap, ◌∙◌, subst, arith, rules, take, length}
 use Rattle.std.specs.Slots.{slots_items}
 use Rattle.core_world.specs.Threads.ThreadView.{ThreadView}
 use Rattle.core_law.specs.Logic.{Heap}
@@ -6,6 +6,7 @@ use Rattle.atomic_table.specs.Table.{Me}
 use Rattle.heap_table.specs.Layout.{word_count}
 use mathlib.Core.List.{map-append}
 use Rattle.std.proofs.lemmas.Grind.{common_steps}
+use Rattle.heap_table.specs.Kept.{limit_by}
 use Rattle.heap_table.specs.Cells.{cells_shown}
 use Rattle.heap_table.specs.Ruled.{heap_in, only}
 use Rattle.heap_table.specs.Seen.{HeapSeen, PassSeen, LastWorld, knowns, page_of, pages_of}
@@ -55,7 +56,7 @@ loop-pass-preserved c =
     ap page_of (sym view) ∙ page_is m (record {
       table = c.pass.inside.seat.table_id;
       known = only c.pass.inside.seat.me.0;
-      limit = m.given + m.room;
+      limit = limit_by m.keeps m.given m.room;
       room = m.room;
       classes = m.classes;
       first = m.first;

@@ -1,5 +1,6 @@
 use Rattle.std.proofs.Common.{[], ◌∷◌, ◌++◌, ◌∙◌, arith}
 use Rattle.heap_table.proofs.Opens.{fresh, opens, passes_more}
+use Rattle.heap_table.specs.Kept.{limit_by}
 use Rattle.heap_table.specs.Ruled.{heap_in}
 use Rattle.heap_table.proofs.opening_conditions.begin.Goals as goal
 
@@ -28,4 +29,4 @@ pub returns-clause-law : goal.returns-clause-law
 returns-clause-law c = c.requires.law c.threads-threads.ensures.limits
 
 pub returns-clause-fresh : goal.returns-clause-fresh
-returns-clause-fresh c = λ t within. fresh _ c.args.room t (returns-clause-law c) within
+returns-clause-fresh c = λ t within. fresh _ (limit_by c.args.keeps 0 c.args.room) t (returns-clause-law c) within

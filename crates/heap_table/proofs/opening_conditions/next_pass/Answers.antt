@@ -1,9 +1,10 @@
-use Rattle.std.proofs.Common.{◌≡◌, ◌+◌, List, ap, ◌∙◌, arith}
+use Rattle.std.proofs.Common.{◌≡◌, List, ap, ◌∙◌, arith}
 use Rattle.core_world.specs.Threads.ThreadView.{ThreadView}
 use Rattle.atomic_table.specs.Table.{Me}
 use Rattle.heap_table.proofs.Opens.{knowns_next, others_next, own_pass}
 use Rattle.heap_table.proofs.Seats.{splits_as}
 use Rattle.heap_table.specs.declared.shots.Shots.{Shots}
+use Rattle.heap_table.specs.Kept.{limit_by}
 use Rattle.heap_table.specs.Cells.{cells_shown}
 use Rattle.heap_table.specs.Ruled.{only}
 use Rattle.heap_table.proofs.opening_conditions.next_pass.Goals as goal
@@ -36,7 +37,8 @@ returns-clause-pass c =
     let table = own.3 ∙ c.requires.seat.0 in
     let known = ap (λ (m : Me (Unit {0}) (List ThreadView)). only m.0) own.4 ∙ ap only knew in
     let mirror = c.in_ok-mirror.mirror in
-    let limit : mirror.given + mirror.room ≡ c.args.room = omega (arith, fixed.0, fixed.1) in
+    let limit : limit_by mirror.keeps mirror.given mirror.room ≡ limit_by c.args.keeps 0 c.args.room =
+    λ i. limit_by (fixed.5 i) (fixed.1 i) (fixed.0 i) in
     let classes = fixed.2 ∙ c.classes.ensures in
     let threads = ap (λ (z : Shots). z.threads) fixed.4 ∙ fresh.0 ∙ c.threads.ensures.same in
     let objects = ap (λ (z : Shots). z.objects) fixed.4 ∙ fresh.1 ∙ c.objects.ensures in

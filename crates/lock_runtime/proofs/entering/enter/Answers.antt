@@ -1,55 +1,83 @@
-use Rattle.std.proofs.Common.{◌==◌, true, refl, sym, ◌∙◌}
-use Rattle.plain_monitor.specs.Limits.{most_holds}
+use Rattle.std.proofs.Common.{sym, subst}
 use Rattle.core_world.specs.declared.heap_call.HeapCall.TheVariants.{Enter}
-use Rattle.core_world.specs.declared.heap_call.Operation.TheVariants as op
-use Rattle.core_world.specs.Trees.Calls.{steps_of}
-use Rattle.core_world.specs.Trees.Operations.{enter_going, full_steps}
-use Rattle.core_world.specs.Trees.Plans.{call_context, free_place}
-use Rattle.core_calls.proofs.enter_exit.EntersSay.{enter_says}
-use Rattle.core_calls.proofs.Runs.{tells}
+use Rattle.core_world.specs.Trees.Operations.{enter_steps}
+use Rattle.core_calls.specs.CallsSay.{EnterSays}
+use Rattle.core_calls.specs.Paths.{Tells}
 use Rattle.heap_table.specs.Parts.{HasMadeSteps}
-use Rattle.heap_table.specs.Resting.{start_now}
-use Rattle.lock_runtime.proofs.Enters.{refused, first_if_full, first_to_enter}
-use Rattle.lock_runtime.proofs.Goes.{Goes, goes_due, goes_made, goes_rests}
-use Rattle.lock_runtime.proofs.StandsCalls.{enter_leaves}
+use Rattle.heap_table.specs.Resting.{MayOperate, start_now}
+use Rattle.heap_table.specs.Seen.{PassSeen}
+use Rattle.lock_runtime.proofs.Quickly.{enter_rests, is_entered}
 use Rattle.lock_runtime.proofs.entering.enter.Goals as goal
-use Rattle.lock_runtime.proofs.entering.enter.Goals.{After-unfinished-context}
 
-pub returns-then-is_full-clause-run : goal.returns-then-is_full-clause-run
-returns-then-is_full-clause-run c =
-    let a = c.args in refused a.heap.now a.pass.now a.object a.now c.requires.call (sym c.is_full.ensures ∙ c.if-is_full.true)
+-- nothing was made
+pub enter_slowly-requires : goal.enter_slowly-requires
+enter_slowly-requires c = subst (λ (q : PassSeen). MayOperate c.args.heap.now q (Enter c.args.object c.args.now)) (sym c.in-Not.ensures) c.requires
 
-pub returns-then-is_full-clause-says : goal.returns-then-is_full-clause-says
-returns-then-is_full-clause-says c =
-    let a = c.args in
-    tells (enter_says a.heap.now.heap.shape (start_now a.heap.now a.pass.now) a.object a.now) (HasMadeSteps.ran (returns-then-is_full-clause-run c))
-
--- the thread has a place for one more hold, so the call goes on
-goes : (c : After-unfinished-context) → let a = c.args in let h = a.heap.now in let k = start_now h a.pass.now in
-    Goes h a.pass.now (free_place a.pass.now.known.holds == most_holds) (full_steps k a.object)
-    (λ e. enter_going h.heap.shape e k (record { object = a.object; rebias = true; now = a.now })) (call_context (Enter a.object a.now) op.Enter a.object)
-    c.unfinished-context.result
-unfolding steps_of
-goes c = record { call = c.requires.call; steps = refl; goes = sym c.is_full.ensures ∙ c.if-is_full.false; context = c.unfinished-context.ensures }
-
-pub enter_placed-requires-clause-due : goal.enter_placed-requires-clause-due
-enter_placed-requires-clause-due c = goes_due (goes (goal.at.enter_placed-requires-clause-due c).After-unfinished-context)
-
-pub returns : goal.returns
-returns c =
+pub returns-in-Not-clause-run : goal.returns-in-Not-clause-run
+returns-in-Not-clause-run c =
     let a = c.args in
     let h = a.heap.now in
-    let p = a.pass.now in
-    let k = start_now h p in
-    let e = call_context (Enter a.object a.now) op.Enter a.object in
-    let g = goes (goal.at.returns c).After-unfinished-context in
-    let run = goes_made g c.enter_placed.ensures in
-    let leaves = enter_leaves h p c.enter_placed.new.pass run.heap c.requires.call.rests a.object a.now c.requires.call.may run.ran in
+    subst (λ (x : PassSeen). HasMadeSteps h (enter_steps h.heap.shape (start_now h x) a.object a.now) x c.enter_slowly.new.pass c.enter_slowly.result)
+    c.in-Not.ensures c.enter_slowly.ensures.run
+
+pub returns-in-Not-clause-says : goal.returns-in-Not-clause-says
+returns-in-Not-clause-says c =
+    let a = c.args in
+    let h = a.heap.now in
+    subst (λ (x : PassSeen). Tells x.known c.enter_slowly.new.pass.known (λ ms. EnterSays (start_now h x) a.object ms c.enter_slowly.result))
+    c.in-Not.ensures c.enter_slowly.ensures.says
+
+-- the whole was
+pub returns-in-Done : goal.returns-in-Done
+returns-in-Done c =
+    let a = c.args in
+    let all = is_entered a.heap.now a.pass.now a.object a.now c.requires c.in-Done.ensures in
     record {
-      rests = goes_rests g (first_if_full k a.object a.now) (first_to_enter h.heap.shape e k (record { object = a.object; rebias = true; now = a.now }))
-          c.enter_placed.ensures;
-      run = run;
-      says = tells (enter_says h.heap.shape k a.object a.now) run.ran;
-      stands = leaves.0;
-      others = leaves.1;
+      rests = enter_rests a.heap.now a.pass.now a.object a.now c.requires c.in-Done.ensures;
+      run = all.run;
+      says = all.says;
+      stands = all.stands;
+      others = all.others;
     }
+
+pub returns-in-Raced : goal.returns-in-Raced
+returns-in-Raced c =
+    let a = c.args in
+    let all = is_entered a.heap.now a.pass.now a.object a.now c.requires c.in-Raced.ensures in
+    record {
+      rests = enter_rests a.heap.now a.pass.now a.object a.now c.requires c.in-Raced.ensures;
+      run = all.run;
+      says = all.says;
+      stands = all.stands;
+      others = all.others;
+    }
+
+-- or it goes on from the mark,
+pub enter_from_mark_apart-requires : goal.enter_from_mark_apart-requires
+enter_from_mark_apart-requires c = (c.args.pass.now, record { may = c.requires; came = c.in-Unbiased.ensures })
+
+pub returns-in-Unbiased : goal.returns-in-Unbiased
+returns-in-Unbiased c =
+    let on = c.enter_from_mark_apart.ensures in
+    let all = on.whole c.args.pass.now (record { may = c.requires; came = c.in-Unbiased.ensures }) in
+    record { rests = on.rests; run = all.run; says = all.says; stands = all.stands; others = all.others }
+
+-- from the prototype, too,
+pub enter_from_prototype-requires : goal.enter_from_prototype-requires
+enter_from_prototype-requires c = (c.args.pass.now, record { may = c.requires; came = c.in-Biased.ensures })
+
+pub returns-in-Biased : goal.returns-in-Biased
+returns-in-Biased c =
+    let on = c.enter_from_prototype.ensures in
+    let all = on.whole c.args.pass.now (record { may = c.requires; came = c.in-Biased.ensures }) in
+    record { rests = on.rests; run = all.run; says = all.says; stands = all.stands; others = all.others }
+
+-- or from the owner word
+pub enter_from_owner-requires : goal.enter_from_owner-requires
+enter_from_owner-requires c = (c.args.pass.now, record { may = c.requires; came = c.in-Taken.ensures })
+
+pub returns-in-Taken : goal.returns-in-Taken
+returns-in-Taken c =
+    let on = c.enter_from_owner.ensures in
+    let all = on.whole c.args.pass.now (record { may = c.requires; came = c.in-Taken.ensures }) in
+    record { rests = on.rests; run = all.run; says = all.says; stands = all.stands; others = all.others }

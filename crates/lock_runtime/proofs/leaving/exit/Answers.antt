@@ -1,14 +1,85 @@
-use Rattle.std.proofs.Common.{sym, ◌∙◌}
-use Rattle.lock_runtime.proofs.Refused.{differs, unheld, held}
+use Rattle.std.proofs.Common.{sym, subst}
+use Rattle.core_world.specs.declared.heap_call.HeapCall.TheVariants.{Exit}
+use Rattle.core_world.specs.Trees.Operations.{exit_steps}
+use Rattle.core_calls.specs.CallsSay.{ExitSays}
+use Rattle.core_calls.specs.Paths.{Tells}
+use Rattle.heap_table.specs.Parts.{HasMadeSteps}
+use Rattle.heap_table.specs.Resting.{MayOperate, start_now}
+use Rattle.heap_table.specs.Seen.{PassSeen}
+use Rattle.lock_runtime.proofs.Quickly.{exit_rests, is_exited}
 use Rattle.lock_runtime.proofs.leaving.exit.Goals as goal
 
-pub exit_counted-requires-clause-held : goal.exit_counted-requires-clause-held
-exit_counted-requires-clause-held c =
-    held c.args.heap.now c.args.pass.now c.requires.call.rests c.args.object (differs c.held-depth.ensures.held c.if-depth-eq0.false)
+-- nothing was made
+pub exit_slowly-requires : goal.exit_slowly-requires
+exit_slowly-requires c = subst (λ (q : PassSeen). MayOperate c.args.heap.now q (Exit c.args.object)) (sym c.in-Not.ensures) c.requires
 
-pub returns-then-depth-eq0-clause-owner : goal.returns-then-depth-eq0-clause-owner
-returns-then-depth-eq0-clause-owner c =
-    unheld c.args.heap.now c.args.pass.now c.requires.call.rests c.args.object (sym c.held-depth.ensures.held ∙ c.if-depth-eq0.true)
+pub returns-in-Not-clause-run : goal.returns-in-Not-clause-run
+returns-in-Not-clause-run c =
+    let a = c.args in
+    let h = a.heap.now in
+    subst (λ (x : PassSeen). HasMadeSteps h (exit_steps (start_now h x) a.object) x c.exit_slowly.new.pass c.exit_slowly.result)
+    c.in-Not.ensures c.exit_slowly.ensures.run
 
-pub returns-clause-owner : goal.returns-clause-owner
-returns-clause-owner c = held c.args.heap.now c.args.pass.now c.requires.call.rests c.args.object (differs c.held-depth.ensures.held c.if-depth-eq0.false)
+pub returns-in-Not-clause-says : goal.returns-in-Not-clause-says
+returns-in-Not-clause-says c =
+    let a = c.args in
+    let h = a.heap.now in
+    subst (λ (x : PassSeen). Tells x.known c.exit_slowly.new.pass.known (λ ms. ExitSays (start_now h x) a.object ms c.exit_slowly.result))
+    c.in-Not.ensures c.exit_slowly.ensures.says
+
+-- the whole was
+pub returns-in-Left : goal.returns-in-Left
+returns-in-Left c =
+    let a = c.args in
+    let all = is_exited a.heap.now a.pass.now a.object c.requires c.in-Left.ensures in
+    record {
+      rests = exit_rests a.heap.now a.pass.now a.object c.requires c.in-Left.ensures;
+      run = all.run;
+      says = all.says;
+      stands = all.stands;
+      owner = all.owner;
+    }
+
+pub returns-in-Inflating : goal.returns-in-Inflating
+returns-in-Inflating c =
+    let a = c.args in
+    let all = is_exited a.heap.now a.pass.now a.object c.requires c.in-Inflating.ensures in
+    record {
+      rests = exit_rests a.heap.now a.pass.now a.object c.requires c.in-Inflating.ensures;
+      run = all.run;
+      says = all.says;
+      stands = all.stands;
+      owner = all.owner;
+    }
+
+pub returns-in-Raced : goal.returns-in-Raced
+returns-in-Raced c =
+    let a = c.args in
+    let all = is_exited a.heap.now a.pass.now a.object c.requires c.in-Raced.ensures in
+    record {
+      rests = exit_rests a.heap.now a.pass.now a.object c.requires c.in-Raced.ensures;
+      run = all.run;
+      says = all.says;
+      stands = all.stands;
+      owner = all.owner;
+    }
+
+-- or it goes on from the mark,
+pub exit_from_mark_apart-requires : goal.exit_from_mark_apart-requires
+exit_from_mark_apart-requires c = (c.args.pass.now, record { may = c.requires; came = c.in-Unbiased.ensures })
+
+pub returns-in-Unbiased : goal.returns-in-Unbiased
+returns-in-Unbiased c =
+    let on = c.exit_from_mark_apart.ensures in
+    let all = on.whole c.args.pass.now (record { may = c.requires; came = c.in-Unbiased.ensures }) in
+    record { rests = on.rests; run = all.run; says = all.says; stands = all.stands; owner = all.owner }
+
+-- or from the owner word
+pub exit_from_owner-requires : goal.exit_from_owner-requires
+exit_from_owner-requires c = (c.args.pass.now, record { may = c.requires; came = c.in-Owned.ensures })
+
+pub returns-in-Owned : goal.returns-in-Owned
+returns-in-Owned c =
+    let on = c.exit_from_owner.ensures in
+    let all = on.whole c.args.pass.now (record { may = c.requires; came = c.in-Owned.ensures }) in
+    record { rests = on.rests; run = all.run; says = all.says; stands = all.stands; owner = all.owner }

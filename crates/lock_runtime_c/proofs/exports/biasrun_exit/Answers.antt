@@ -6,5 +6,5 @@ use Rattle.lock_runtime_c.proofs.exports.biasrun_exit.Goals as goal
 pub returns-clause-full : goal.returns-clause-full
 returns-clause-full c =
     let before = c.args.at.now in
-    let by = c.make_by.ensures in
-    subst (IsNeverFull before) (sym c.answered.ensures) (never_full before c.make_by.new.at c.args.object c.make_by.result by)
+    let told = c.answer_by.ensures in
+    subst (IsNeverFull before) (sym told.is) (never_full before c.answer_by.new.at c.args.object told.outcome told.by_handle)

@@ -4,7 +4,7 @@ use Rattle.core_world.specs.declared.stage.Stage.TheVariants.{RecursionsRaised}
 use Rattle.core_world.specs.Threads.ThreadView.{local_of}
 use Rattle.core_world.specs.Trees.MonitorSteps.{monitor_again_steps, record_steps}
 use Rattle.heap_table.proofs.StepsLeft.{AreLeft, all_left, can_make, step_made, left_as}
-use Rattle.object_monitor.proofs.RecursionRoom.{recursion_room}
+use Rattle.heap_table.proofs.RecursionRoom.{recursion_room}
 use Rattle.object_monitor.proofs.enters.monitor_again.Goals as goal
 use Rattle.object_monitor.proofs.enters.monitor_again.Goals.{After-store}
 

@@ -1,5 +1,4 @@
-use Rattle.std.proofs.Common.{◌≡◌, Option, refl, sym, ap, ◌∙◌}
-use Rattle.mark_word.specs.declared.owner.OwnerForm.{OwnerForm}
+use Rattle.std.proofs.Common.{◌≡◌, refl, sym, ap, ◌∙◌}
 use Rattle.mark_word.specs.declared.owner.OwnerForm.TheVariants.{ByThread}
 use Rattle.mark_word.specs.Owner.{owner_of, read_owner}
 use Rattle.core_world.specs.declared.word_id.WordId.TheVariants.{Owner}
@@ -7,7 +6,7 @@ use Rattle.core_world.specs.declared.stage.Stage.TheVariants.{MonitorAcquired}
 use Rattle.core_world.specs.Threads.ThreadView.{local_of}
 use Rattle.core_world.specs.Trees.MonitorSteps.{grab_plan, monitor_enter_at, monitor_enter_steps}
 use Rattle.heap_table.specs.StepPlans.{swap_plan}
-use Rattle.heap_table.proofs.StepsLeft.{AreLeft, all_left, can_make, step_made, left_as, never, alike_after}
+use Rattle.heap_table.proofs.StepsLeft.{AreLeft, all_left, can_make, step_made, left_as, alike_after}
 use Rattle.object_monitor.proofs.enters.monitor_enter.Goals as goal
 use Rattle.object_monitor.proofs.enters.monitor_enter.Goals.{After-encode_owner-word, After-exchange-found}
 
@@ -23,22 +22,18 @@ pub exchange-found-requires : goal.exchange-found-requires
 exchange-found-requires c =
     can_make (all_left c.requires.heap c.requires.due) (grabbing (goal.at.exchange-found-requires c).After-encode_owner-word) refl refl tt
 
--- what is left after the exchange, by whose the monitor is
-by_form : (c : After-exchange-found) (f : Option OwnerForm) → read_owner c.exchange-found.result ≡ f
-    → AreLeft c.args.heap.now c.args.call.now.task c.args.pass.now
+-- what is left after the exchange, by what it found
+found_left : (c : After-exchange-found) → AreLeft c.args.heap.now c.args.call.now.task c.args.pass.now
     (monitor_enter_steps c.args.call.now (local_of c.args.pass.now.known) c.args.object c.args.monitor) c.exchange-found.new.pass
-    (monitor_enter_at f c.args.call.now (local_of c.exchange-found.new.pass.known) c.args.object c.args.monitor c.exchange-found.result)
-by_form c f form =
+    (monitor_enter_at (read_owner c.exchange-found.result) c.args.call.now (local_of c.exchange-found.new.pass.known) c.args.object c.args.monitor
+    c.exchange-found.result)
+found_left c =
     let local = (alike_after c.exchange-found.ensures refl refl refl).local in
     left_as (step_made (all_left c.requires.heap c.requires.due) (grabbing c.before.before) refl refl c.exchange-found.ensures)
-    (λ i. monitor_enter_at (form i) c.args.call.now (sym local i) c.args.object c.args.monitor c.exchange-found.result)
+    (λ i. monitor_enter_at (read_owner c.exchange-found.result) c.args.call.now (sym local i) c.args.object c.args.monitor c.exchange-found.result)
 
-pub enter_by_owner-requires-clause-due : goal.enter_by_owner-requires-clause-due
-enter_by_owner-requires-clause-due c =
-    (by_form (goal.at.enter_by_owner-requires-clause-due c).After-exchange-found _ (sym c.owner_of_word.ensures ∙ c.in-Some.is)).due
-
-pub unreachable-requires : goal.unreachable-requires
-unreachable-requires c = never (by_form (goal.at.unreachable-requires c).After-exchange-found _ (sym c.owner_of_word.ensures ∙ c.in-None.is)) refl
+pub monitor_enter_found-requires-clause-due : goal.monitor_enter_found-requires-clause-due
+monitor_enter_found-requires-clause-due c = (found_left (goal.at.monitor_enter_found-requires-clause-due c).After-exchange-found).due
 
 pub returns : goal.returns
-returns c = (by_form (goal.at.returns c).After-exchange-found _ (sym c.owner_of_word.ensures ∙ c.in-Some.is)).whole _ _ c.enter_by_owner.ensures
+returns c = (found_left (goal.at.returns c).After-exchange-found).whole _ _ c.monitor_enter_found.ensures

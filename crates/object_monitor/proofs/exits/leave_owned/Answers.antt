@@ -1,7 +1,7 @@
 use Rattle.std.proofs.Common.{◌==◌, if◌then◌else◌, refl, sym, ap, eq-eqb, ne_eqb}
 use Rattle.core_world.specs.Threads.ThreadView.{local_of}
 use Rattle.core_world.specs.Trees.MonitorSteps.{release_steps}
-use Rattle.object_monitor.specs.inner.ExitParts.{counted_exit, lowered_exit}
+use Rattle.heap_table.specs.ExitParts.{counted_exit, lowered_exit}
 use Rattle.heap_table.proofs.StepsLeft.{AreLeft, all_left, can_make, step_made, left_as, left_then, left_else}
 use Rattle.object_monitor.proofs.exits.leave_owned.Goals as goal
 use Rattle.object_monitor.proofs.exits.leave_owned.Goals.{After-load-recursions}

@@ -1,7 +1,7 @@
 use Rattle.std.proofs.Common.{refl, sym}
 use Rattle.core_world.specs.Threads.ThreadView.{local_of}
 use Rattle.stack_lock.specs.Parts.{leave_at}
-use Rattle.object_monitor.specs.inner.ExitParts.{lowered_exit}
+use Rattle.heap_table.specs.ExitParts.{lowered_exit}
 use Rattle.heap_table.proofs.StepsLeft.{AreLeft, all_left, can_make, step_made, left_as, thread_stays}
 use Rattle.object_monitor.proofs.exits.lower.Goals as goal
 use Rattle.object_monitor.proofs.exits.lower.Goals.{After-store}

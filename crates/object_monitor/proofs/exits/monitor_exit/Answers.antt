@@ -1,53 +1,31 @@
-use Rattle.std.proofs.Common.{◌≡◌, refl, sym, ap, ◌∙◌, Option, Some}
-use Rattle.mark_word.specs.declared.owner.OwnerForm.{OwnerForm}
+use Rattle.std.proofs.Common.{refl, sym, ap, ◌∙◌}
 use Rattle.mark_word.specs.Owner.{read_owner}
 use Rattle.core_world.specs.Threads.ThreadView.{Local, local_of}
-use Rattle.core_world.specs.Trees.MonitorSteps.{own_steps, monitor_exit_steps}
+use Rattle.core_world.specs.Trees.MonitorSteps.{monitor_exit_steps}
 use Rattle.core_world.specs.Trees.Plans.{top_place}
-use Rattle.core_world.specs.Trees.StepTree.{◌>>=◌}
-use Rattle.object_monitor.specs.inner.ExitParts.{counted_exit}
-use Rattle.heap_table.proofs.StepsLeft.{AreLeft, all_left, can_make, step_made, left_as, never, part_of}
-use Rattle.object_monitor.proofs.OwningSteps.{owning_left}
+use Rattle.heap_table.specs.ExitParts.{owned_exit}
+use Rattle.heap_table.proofs.StepsLeft.{AreLeft, all_left, can_make, step_made, left_as}
 use Rattle.object_monitor.proofs.exits.monitor_exit.Goals as goal
-use Rattle.object_monitor.proofs.exits.monitor_exit.Goals.{After-load-owner, After-own}
+use Rattle.object_monitor.proofs.exits.monitor_exit.Goals.{After-load-owner}
 
 pub load-owner-requires : goal.load-owner-requires
 load-owner-requires c = can_make (all_left c.requires.heap c.requires.due) refl refl refl tt
 
--- what is left once the owner word is loaded, by its form,
-by_form : (c : After-load-owner) (f : Option OwnerForm) → read_owner c.load-owner.result ≡ f → AreLeft c.args.heap.now c.args.call.now.task c.args.pass.now
+-- what is left once the owner word is loaded
+found_left : (c : After-load-owner) → AreLeft c.args.heap.now c.args.call.now.task c.args.pass.now
     (monitor_exit_steps c.args.call.now (local_of c.args.pass.now.known) c.args.object c.args.monitor) c.load-owner.new.pass
-    (own_steps f c.args.call.now (local_of c.load-owner.new.pass.known) c.args.object c.args.monitor
-    >>= (λ _. counted_exit c.args.call.now (local_of c.load-owner.new.pass.known) c.args.object c.args.monitor))
-by_form c f form =
+    (owned_exit (read_owner c.load-owner.result) c.args.call.now (local_of c.load-owner.new.pass.known) c.args.object c.args.monitor)
+found_left c =
     let local = ap local_of c.load-owner.ensures.known in
     left_as (step_made (all_left c.requires.heap c.requires.due) refl refl refl c.load-owner.ensures)
-    (λ i. own_steps (form i) c.args.call.now (sym local i) c.args.object c.args.monitor
-    >>= (λ _. counted_exit c.args.call.now (sym local i) c.args.object c.args.monitor))
+    (λ i. owned_exit (read_owner c.load-owner.result) c.args.call.now (sym local i) c.args.object c.args.monitor)
 
--- and once the thread is the owner itself
-owned : (c : After-own) → AreLeft c.args.heap.now c.args.call.now.task c.args.pass.now
-    (monitor_exit_steps c.args.call.now (local_of c.args.pass.now.known) c.args.object c.args.monitor) c.own.new.pass
-    (counted_exit c.args.call.now (local_of c.own.new.pass.known) c.args.object c.args.monitor)
-owned c = left_as (owning_left (Some c.in-Some.form) c.args.call.now (local_of c.load-owner.new.pass.known) c.args.object c.args.monitor
-    (counted_exit c.args.call.now (local_of c.load-owner.new.pass.known) c.args.object c.args.monitor) c.own.ensures.run
-    (by_form c.before.before.before.before _ (sym c.owner_of_word.ensures ∙ c.in-Some.is)))
-    (λ i. counted_exit c.args.call.now (sym c.own.ensures.kept i) c.args.object c.args.monitor)
+pub monitor_exit_found-requires-clause-due : goal.monitor_exit_found-requires-clause-due
+monitor_exit_found-requires-clause-due c = (found_left (goal.at.monitor_exit_found-requires-clause-due c).After-load-owner).due
 
-pub own-requires-clause-due : goal.own-requires-clause-due
-own-requires-clause-due c = part_of (λ _. counted_exit c.args.call.now (local_of c.load-owner.new.pass.known) c.args.object c.args.monitor)
-    (by_form (goal.at.own-requires-clause-due c).After-load-owner _ (sym c.owner_of_word.ensures ∙ c.in-Some.is))
-
-pub leave_owned-requires-clause-due : goal.leave_owned-requires-clause-due
-leave_owned-requires-clause-due c = (owned (goal.at.leave_owned-requires-clause-due c).After-own).due
-
-pub leave_owned-requires-clause-place : goal.leave_owned-requires-clause-place
-leave_owned-requires-clause-place c =
-    let local : local_of c.own.new.pass.known ≡ local_of c.args.pass.now.known = c.own.ensures.kept ∙ ap local_of c.load-owner.ensures.known in
-    c.requires.place ∙ ap (λ (l : Local). top_place c.args.object l.holds) (sym local)
-
-pub unreachable-requires : goal.unreachable-requires
-unreachable-requires c = never (by_form (goal.at.unreachable-requires c).After-load-owner _ (sym c.owner_of_word.ensures ∙ c.in-None.is)) refl
+pub monitor_exit_found-requires-clause-place : goal.monitor_exit_found-requires-clause-place
+monitor_exit_found-requires-clause-place c =
+    c.requires.place ∙ ap (λ (l : Local). top_place c.args.object l.holds) (sym (ap local_of c.load-owner.ensures.known))
 
 pub returns : goal.returns
-returns c = (owned (goal.at.returns c).After-own).whole _ _ c.leave_owned.ensures
+returns c = (found_left (goal.at.returns c).After-load-owner).whole _ _ c.monitor_exit_found.ensures

@@ -1,6 +1,7 @@
-use Rattle.std.proofs.Common.{◌≡◌, ◌+◌, ◌%◌, ◌^◌, ◌<◌, ℕ, List, length, ap, sym, ◌∙◌, subst}
+use Rattle.std.proofs.Common.{◌≡◌, ◌+◌, ◌%◌, ◌^◌, ◌<◌, ℕ, List, length, ap, sym, ◌∙◌, subst, ◌≤◌}
 use Rattle.atomic_table.specs.Table.{Me}
 use Rattle.core_world.specs.Threads.ThreadView.{ThreadView}
+use Rattle.core_world.specs.Clauses.Lengths.{log_limit}
 use Rattle.core_world.specs.Steps.{known_after}
 use Rattle.core_world.specs.There.{HasPlace}
 use Rattle.core_law.specs.Logic.{Heap}
@@ -10,10 +11,10 @@ use Rattle.heap_table.specs.Kept.{LogHasRoom}
 use Rattle.heap_table.specs.Ruled.{only, Stepped}
 use Rattle.heap_table.specs.inner.Ruled.{MayStep}
 use Rattle.heap_table.specs.Seen.{HeapSeen, PassSeen}
-use Rattle.heap_table.proofs.Follow.{few_made, few_installed, room_in_page}
+use Rattle.heap_table.proofs.Follow.{few_given, few_made, few_installed, room_in_page}
 use Rattle.heap_table.proofs.Knows.{same_thread, goes_on, is_there, real_after}
 use Rattle.heap_table.proofs.Places.{placed}
-use Rattle.heap_table.proofs.Stamps.{stamp_fits}
+use Rattle.heap_table.proofs.Stamps.{short, stamp_fits}
 use Rattle.heap_table.proofs.heap.Heap.step.Goals as goal
 
 pub step_in_table-found-requires-clause-may : goal.step_in_table-found-requires-clause-may
@@ -48,7 +49,7 @@ follow-requires-clause-draws c = few_installed _ _ c.pass.invariant.1
 
 pub follow-requires-clause-room : goal.follow-requires-clause-room
 follow-requires-clause-room c =
-    room_in_page _ _ _ _ _ c.pass.invariant.1.log
+    room_in_page _ _ _ _ _ _ c.pass.invariant.1.log
     (subst (λ (p : PassSeen). LogHasRoom c.args.plan.note p.known.log p.limit) (sym c.pass.view_is) c.requires.room)
 
 pub returns : goal.returns
@@ -75,10 +76,14 @@ returns c =
         objects = fixed.5 ∙ ap (λ (p : PassSeen). p.objects) view ∙ c.requires.heap.objects;
         real = real_after h k c.args.plan c.step_in_table-found.result _ c.requires.heap.real stepped known;
       };
-      limit = (λ i. fixed.1 i + fixed.0 i) ∙ ap (λ (p : PassSeen). p.limit) view;
+      limit = fixed.1 ∙ ap (λ (p : PassSeen). p.limit) view;
       draft = subst (λ (p : PassSeen). IsLeft c.args.plan.own p.cut p.cells c.follow.new.self.shots.draft.cut.items
           (cells_shown c.follow.new.self.shots.draft.cells.items)) view c.follow.ensures.draft;
       known = known;
       stepped = stepped;
       comes = goes_on h k c.args.plan c.step_in_table-found.result _ stepped c.requires.heap.within known;
     }
+
+pub follow-requires-clause-few : goal.follow-requires-clause-few
+follow-requires-clause-few c = few_given _ _ c.pass.invariant.1
+    (subst (λ (p : PassSeen). length p.known.log ≤ log_limit) (sym c.pass.view_is) (short c.args.self.now c.args.pass.now c.requires.heap))

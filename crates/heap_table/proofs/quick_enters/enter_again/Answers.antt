@@ -1,0 +1,90 @@
+-- The recursions are found and raised, and then the record gets its word.
+use Rattle.std.proofs.Common.{◌≡◌, ◌+◌, refl, sym, ap, ◌∙◌, arith}
+use Rattle.plain_monitor.specs.declared.entry.Path.TheVariants.{MonitorAgain}
+use Rattle.core_world.specs.declared.act.Act.TheVariants.{Load, Store}
+use Rattle.core_world.specs.declared.stage.Stage.TheVariants.{RecursionsRaised, Settled}
+use Rattle.core_world.specs.declared.word_id.WordId.TheVariants.{Recursions}
+use Rattle.core_world.specs.Steps.{known_after}
+use Rattle.core_world.specs.Threads.ThreadView.{Local, local_of}
+use Rattle.core_world.specs.Trees.MonitorSteps.{raise_count_plan, record_steps}
+use Rattle.core_world.specs.Trees.Operations.{answer}
+use Rattle.core_world.specs.Trees.Plans.{load}
+use Rattle.core_world.specs.Trees.StepTree.{step, ◌>>=◌}
+use Rattle.heap_table.specs.Ruled.{heap_in, only}
+use Rattle.heap_table.specs.inner.Amid.{Leads, again_enter, lagging, recorded_end}
+use Rattle.heap_table.proofs.HoldEnds.{recorded_ended, not_entering}
+use Rattle.heap_table.proofs.Late.{amid_by, did_step, keeps_start, late_as, may_step, made_step, follow_quiet}
+use Rattle.heap_table.proofs.RecursionRoom.{recursion_room}
+use Rattle.heap_table.proofs.StepsLeft.{part_of}
+use Rattle.heap_table.proofs.quick_enters.enter_again.Goals as goal
+use Rattle.heap_table.proofs.quick_enters.enter_again.Goals.{After-quiet-first, After-step_in_table-recursions, After-quiet-second, After-step_in_table}
+
+pub step_in_table-recursions-requires-clause-may : goal.step_in_table-recursions-requires-clause-may
+step_in_table-recursions-requires-clause-may c = may_step c.requires.amid.late c.requires.amid.its c.quiet-first.ensures refl
+
+-- THE RECURSIONS rise.
+pub overflow_add-word : goal.overflow_add-word
+overflow_add-word c =
+    let a = c.requires.amid in
+    let k = only c.args.seat.now.me.0 in
+    let e = c.args.call.now in
+    let n = c.step_in_table-recursions.result in
+    let h = a.heap in
+    let p = record a.begun { known = k } in
+    let did = did_step a.late a.its c.quiet-first.ensures refl refl c.step_in_table-recursions.ensures.stepped in
+    let room = recursion_room h p (record p { known = known_after h.heap.shape h.heap.start (load e (Recursions c.args.monitor)) n k }) e c.args.object
+    c.args.monitor n a.late.left.heap (part_of answer a.late.left) did in
+    omega (arith, room)
+
+abbrev recursions_of : After-quiet-second → After-step_in_table-recursions
+recursions_of c = c.before
+
+raising : (c : After-quiet-second) → let e = c.args.call.now in let k = only c.args.seat.now.me.0 in
+    Leads (heap_in c.args.setting.now) e.task k (again_enter e (local_of k) c.args.object c.args.monitor) (lagging e c.args.mirror.now)
+    (only c.step_in_table-recursions.new.seat.me.0)
+    (step (raise_count_plan e c.args.object c.args.monitor c.step_in_table-recursions.result)
+    (λ _. record_steps e (RecursionsRaised c.args.object) (local_of k) c.args.object MonitorAgain >>= answer))
+    (lagging e c.args.mirror.now)
+raising c = λ h o d its late.
+    made_step late its c.quiet-first.ensures refl refl c.step_in_table-recursions.ensures.stepped c.step_in_table-recursions.ensures.seat.1
+    (follow_quiet h.heap.shape h.heap.start c.args.call.now Settled (Recursions c.args.monitor) Load c.step_in_table-recursions.result _ _ refl refl
+    (λ l. refl) (λ l. refl) (λ l. refl) late.mirrors)
+
+pub step_in_table-requires-clause-may : goal.step_in_table-requires-clause-may
+step_in_table-requires-clause-may c =
+    let z = (goal.at.step_in_table-requires-clause-may c).After-quiet-second in
+    let a = c.requires.amid in
+    may_step (raising z a.heap a.begun a.due a.its a.late) a.its c.quiet-second.ensures refl
+
+-- The record gets its word.
+abbrev second_of : After-step_in_table → After-quiet-second
+second_of c = c.before.before
+
+keeps : (c : After-step_in_table) → local_of (only c.step_in_table.new.seat.me.0) ≡ local_of (only c.args.seat.now.me.0)
+keeps c =
+    let b = heap_in c.args.setting.now in
+    (keeps_start b c.step_in_table.result c.quiet-second.ensures c.step_in_table.ensures.seat.1 (record { local = refl; kept = refl })).local
+    ∙ (keeps_start b c.step_in_table-recursions.result c.quiet-first.ensures c.step_in_table-recursions.ensures.seat.1
+    (record { local = refl; kept = refl })).local
+
+raised : (c : After-step_in_table) → let e = c.args.call.now in let k = only c.args.seat.now.me.0 in let j = only c.step_in_table.new.seat.me.0 in
+    Leads (heap_in c.args.setting.now) e.task k (again_enter e (local_of k) c.args.object c.args.monitor) (lagging e c.args.mirror.now)
+    j (recorded_end e (RecursionsRaised c.args.object) (local_of j) c.args.object 3 MonitorAgain) (lagging e c.args.mirror.now)
+raised c = λ h o d its late.
+    let e = c.args.call.now in
+    let k = only c.args.seat.now.me.0 in
+    let here = raising (second_of c) h o d its late in
+    late_as (made_step here its c.quiet-second.ensures refl refl c.step_in_table.ensures.stepped c.step_in_table.ensures.seat.1
+    (follow_quiet h.heap.shape h.heap.start e (RecursionsRaised c.args.object) (Recursions c.args.monitor) (Store (c.step_in_table-recursions.result + 1))
+    c.step_in_table.result _ _ refl refl (λ l. refl) (λ l. refl) (λ l. refl) here.mirrors))
+    (recorded_ended e (local_of k) c.args.object MonitorAgain (not_entering _ _ late.mirrors c.requires.may.waits) (RecursionsRaised c.args.object) 3
+    ∙ ap (λ (l : Local). recorded_end e (RecursionsRaised c.args.object) l c.args.object 3 MonitorAgain) (sym (keeps c)))
+
+pub take_recorded-requires-clause-amid : goal.take_recorded-requires-clause-amid
+take_recorded-requires-clause-amid c =
+    let z = (goal.at.take_recorded-requires-clause-amid c).After-step_in_table in
+    amid_by c.requires.amid (raised z)
+
+pub returns-clause-leads : goal.returns-clause-leads
+returns-clause-leads c = λ h o d its late.
+    let z = (goal.at.returns-clause-leads c).After-step_in_table in c.take_recorded.ensures.leads h o d its (raised z h o d its late)

@@ -1,0 +1,69 @@
+-- The form of the mark says which way the hold is left.
+use Rattle.std.proofs.Common.{refl, sym, ap, ◌∙◌, ◌≡◌, Option, Some, ℕ}
+use Rattle.mark_word.specs.declared.mark.MarkForm.{MarkForm}
+use Rattle.mark_word.specs.declared.mark.MarkForm.TheVariants.{Inflated, Inflating, Locked}
+use Rattle.core_world.specs.declared.answer.StackOut.{StackOut}
+use Rattle.core_world.specs.Threads.ThreadView.{Local, local_of}
+use Rattle.core_world.specs.Trees.LockSteps.{stack_exit_at}
+use Rattle.core_world.specs.Trees.MonitorSteps.{monitor_exit_steps}
+use Rattle.core_world.specs.Trees.Operations.{answer, exit_at}
+use Rattle.core_world.specs.Trees.Plans.{CallContext, done_with}
+use Rattle.core_world.specs.Trees.StepTree.{unreachable, ◌>>=◌}
+use Rattle.heap_table.specs.Ruled.{heap_in, only}
+use Rattle.heap_table.specs.inner.Amid.{ExitTree, Leads, lagging, marked_exit, monitor_exit}
+use Rattle.heap_table.proofs.Late.{amid_by, late_as}
+use Rattle.heap_table.proofs.Loops.{binds}
+use Rattle.heap_table.proofs.StepsLeft.{never}
+use Rattle.heap_table.proofs.quick_exits.leave_marked.Goals as goal
+use Rattle.heap_table.proofs.quick_exits.leave_marked.Goals.{After-mark_of_word}
+
+-- what is left, by this form
+abbrev formed : CallContext → Local → ℕ → ℕ → ℕ → Option MarkForm → ExitTree
+formed e k o header mark form = stack_exit_at form e k o header mark >>= (λ (out : StackOut). exit_at out e k o >>= answer)
+
+by_form : (c : After-mark_of_word) (f : Option MarkForm) → c.mark_of_word.result ≡ f → let e = c.args.call.now in let k = only c.args.seat.now.me.0 in
+    Leads (heap_in c.args.setting.now) e.task k (marked_exit e (local_of k) c.args.object c.args.header c.args.mark) (lagging e c.args.mirror.now)
+    k (formed e (local_of k) c.args.object c.args.header c.args.mark f) (lagging e c.args.mirror.now)
+by_form c f is = λ h o d its late.
+    late_as late (ap (formed c.args.call.now (local_of (only c.args.seat.now.me.0)) c.args.object c.args.header c.args.mark) (sym c.mark_of_word.ensures ∙ is))
+
+pub leave_record-requires-clause-amid : goal.leave_record-requires-clause-amid
+leave_record-requires-clause-amid c = amid_by c.requires.amid
+    (by_form (goal.at.leave_record-requires-clause-amid c).After-mark_of_word _ (c.in-Some.is ∙ ap Some c.in-Locked.is))
+
+pub returns-in-Locked-clause-leads : goal.returns-in-Locked-clause-leads
+returns-in-Locked-clause-leads c = λ h o d its late. c.leave_record.ensures.leads h o d its
+    (by_form (goal.at.returns-in-Locked-clause-leads c).After-mark_of_word _ (c.in-Some.is ∙ ap Some c.in-Locked.is) h o d its late)
+
+by_monitor : (c : After-mark_of_word) (m : ℕ) → c.mark_of_word.result ≡ Some (Inflated m) → let e = c.args.call.now in let k = only c.args.seat.now.me.0 in
+    Leads (heap_in c.args.setting.now) e.task k (marked_exit e (local_of k) c.args.object c.args.header c.args.mark) (lagging e c.args.mirror.now)
+    k (monitor_exit e (local_of k) c.args.object m) (lagging e c.args.mirror.now)
+by_monitor c m is = λ h o d its late.
+    late_as (by_form c (Some (Inflated m)) is h o d its late)
+    (binds (monitor_exit_steps c.args.call.now (local_of (only c.args.seat.now.me.0)) c.args.object m) (λ _. done_with tt) answer)
+
+pub leave_monitor-requires-clause-amid : goal.leave_monitor-requires-clause-amid
+leave_monitor-requires-clause-amid c = amid_by c.requires.amid
+    (by_monitor (goal.at.leave_monitor-requires-clause-amid c).After-mark_of_word _ (c.in-Some.is ∙ ap Some c.in-Inflated.is))
+
+pub returns-in-Inflated-clause-leads : goal.returns-in-Inflated-clause-leads
+returns-in-Inflated-clause-leads c = λ h o d its late. c.leave_monitor.ensures.leads h o d its
+    (by_monitor (goal.at.returns-in-Inflated-clause-leads c).After-mark_of_word c.in-Inflated.monitor
+    (c.in-Some.is ∙ ap Some c.in-Inflated.is) h o d its late)
+
+-- No other mark is found.
+unlike : (f : MarkForm) (e : CallContext) (k : Local) (o header mark : ℕ) → (f ≡ Inflating → ⊥) → ((t p : ℕ) → f ≡ Locked t p → ⊥)
+    → ((m : ℕ) → f ≡ Inflated m → ⊥) → formed e k o header mark (Some f) ≡ unreachable
+unlike Inflating e k o header mark inflating locked inflated = absurd (inflating refl)
+unlike (Locked t p) e k o header mark inflating locked inflated = absurd (locked t p refl)
+unlike (Inflated m) e k o header mark inflating locked inflated = absurd (inflated m refl)
+unlike _ e k o header mark inflating locked inflated = refl
+
+pub unreachable-requires : goal.unreachable-requires
+unreachable-requires c =
+    let a = amid_by c.requires.amid (by_form (goal.at.unreachable-requires c).After-mark_of_word _ c.in-Some.is) in
+    never a.late.left (unlike c.in-Some.form _ _ _ _ _ c.in_default.not-Inflating c.in_default.not-Locked c.in_default.not-Inflated)
+
+pub unreachable-requires-in-None : goal.unreachable-requires-in-None
+unreachable-requires-in-None c =
+    let a = amid_by c.requires.amid (by_form (goal.at.unreachable-requires-in-None c).After-mark_of_word _ c.in-None.is) in never a.late.left refl

@@ -1,0 +1,119 @@
+-- The owner word is loaded, and where it is the thread's own, the recursions are: they say which way the hold is left.
+use Rattle.std.proofs.Common.{refl, sym, ap, ◌∙◌, ◌≡◌, arith, Bool, false, true, if◌then◌else◌, subst, eq-eqb, ne_eqb, ◌==◌, ℕ, Option, List}
+use Rattle.atomic_table.specs.Table.{Me}
+use Rattle.mark_word.specs.declared.owner.OwnerForm.{OwnerForm}
+use Rattle.mark_word.specs.declared.owner.OwnerForm.TheVariants.{ByThread}
+use Rattle.mark_word.specs.Owner.{read_owner}
+use Rattle.mark_word.proofs.ReadingOwners.{read_owner-owner_of}
+use Rattle.core_world.specs.declared.act.Act.TheVariants.{Load}
+use Rattle.core_world.specs.declared.plan.StepPlan.{StepPlan}
+use Rattle.core_world.specs.declared.stage.Stage.TheVariants.{Settled}
+use Rattle.core_world.specs.declared.word_id.WordId.TheVariants.{Owner, Recursions}
+use Rattle.core_world.specs.Steps.{known_after}
+use Rattle.core_world.specs.Threads.ThreadView.{Local, ThreadView, local_of}
+use Rattle.core_world.specs.Trees.MonitorSteps.{release_steps}
+use Rattle.core_world.specs.Trees.Plans.{CallContext, load}
+use Rattle.core_world.specs.Trees.StepTree.{step, ◌>>=◌}
+use Rattle.heap_table.specs.ExitParts.{lowered_exit, owned_exit}
+use Rattle.heap_table.specs.Kept.{Mirrors}
+use Rattle.heap_table.specs.Ruled.{heap_in, only}
+use Rattle.heap_table.specs.inner.Amid.{ExitTree, Leads, exit_over, lagging, monitor_exit, owner_left}
+use Rattle.heap_table.proofs.Late.{amid_by, follow_quiet, late_as, made_step, may_step, shows_alike}
+use Rattle.heap_table.proofs.quick_exits.leave_monitor.Goals as goal
+use Rattle.heap_table.proofs.quick_exits.leave_monitor.Goals.{After-quiet-first, After-step_in_table-owner, After-quiet-second}
+use Rattle.heap_table.proofs.quick_exits.leave_monitor.Goals.{After-step_in_table-recursions}
+
+-- what is left, where the test says whether there are no recursions
+abbrev counted : CallContext → Local → ℕ → ℕ → ℕ → Bool → ExitTree
+counted e k o m n none = (if none then release_steps e k o m else lowered_exit e k o m n) >>= (λ _. exit_over)
+
+first_plan : (c : After-quiet-first) → c.quiet-first.result ≡ load c.args.call.now (Owner c.args.monitor)
+first_plan c = c.quiet-first.ensures
+
+pub step_in_table-owner-requires-clause-may : goal.step_in_table-owner-requires-clause-may
+step_in_table-owner-requires-clause-may c =
+    let a = c.requires.amid in may_step a.late a.its (first_plan (goal.at.step_in_table-owner-requires-clause-may c).After-quiet-first) refl
+
+-- THE OWNER WORD is loaded.
+found : (c : After-step_in_table-owner) → let e = c.args.call.now in let k = only c.args.seat.now.me.0 in
+    Leads (heap_in c.args.setting.now) e.task k (monitor_exit e (local_of k) c.args.object c.args.monitor) (lagging e c.args.mirror.now)
+    (only c.step_in_table-owner.new.seat.me.0) (owner_left e (local_of k) c.args.object c.args.monitor c.step_in_table-owner.result)
+    (lagging e c.args.mirror.now)
+found c = λ h o d its late.
+    made_step late its (first_plan c.before.before) refl refl c.step_in_table-owner.ensures.stepped c.step_in_table-owner.ensures.seat.1
+    (follow_quiet h.heap.shape h.heap.start c.args.call.now Settled (Owner c.args.monitor) Load c.step_in_table-owner.result _ _ refl refl
+    (λ l. refl) (λ l. refl) (λ l. refl) late.mirrors)
+
+-- It isn't the thread's own.
+pub returns-then-owner-encode_owner-clause-leads : goal.returns-then-owner-encode_owner-clause-leads
+returns-then-owner-encode_owner-clause-leads c = λ h o d its late.
+    let here = found (goal.at.returns-then-owner-encode_owner-clause-leads c).After-step_in_table-owner h o d its late in
+    let shown = subst (λ (u : CallContext). Mirrors (lagging u c.args.mirror.now) (only c.step_in_table-owner.new.seat.me.0)) (sym c.call.view_is)
+    here.mirrors in
+    record { left = here.left; mirrors = shows_alike _ _ _ _ _ _ shown }
+
+-- It is: THE RECURSIONS are loaded.
+abbrev owner_of_second : After-quiet-second → After-step_in_table-owner
+owner_of_second c = c.before.before.before.before.before
+
+owned : (c : After-quiet-second) → let e = c.args.call.now in let k = only c.args.seat.now.me.0 in
+    Leads (heap_in c.args.setting.now) e.task k (monitor_exit e (local_of k) c.args.object c.args.monitor) (lagging e c.args.mirror.now)
+    (only c.step_in_table-owner.new.seat.me.0) (step (load e (Recursions c.args.monitor))
+    (λ n. counted e (local_of k) c.args.object c.args.monitor n (n == 0))) (lagging e c.args.mirror.now)
+owned c = λ h o d its late.
+    let k = local_of (only c.args.seat.now.me.0) in
+    let own = read_owner-owner_of (ByThread c.args.mirror.now.thread) (omega (arith, c.args.mirror.now.low)) in
+    late_as (found (owner_of_second c) h o d its late)
+    (ap (λ (f : Option OwnerForm). owned_exit f c.args.call.now k c.args.object c.args.monitor >>= (λ _. exit_over))
+    (ap read_owner (c.if-owner-encode_owner.false ∙ c.encode_owner.ensures) ∙ own))
+
+second_plan : (c : After-quiet-second) → c.quiet-second.result ≡ load c.args.call.now (Recursions c.args.monitor)
+second_plan c = c.quiet-second.ensures
+
+pub step_in_table-recursions-requires-clause-may : goal.step_in_table-recursions-requires-clause-may
+step_in_table-recursions-requires-clause-may c =
+    let z = (goal.at.step_in_table-recursions-requires-clause-may c).After-quiet-second in
+    let a = amid_by c.requires.amid (owned z) in may_step a.late a.its (second_plan z) refl
+
+-- What the call took at its beginning is still so.
+stays : (c : After-step_in_table-recursions) → local_of (only c.step_in_table-recursions.new.seat.me.0) ≡ local_of (only c.args.seat.now.me.0)
+stays c =
+    let s = c.args.setting.now in
+    let z = c.before.before in
+    ap (λ (x : Me (Unit {0}) (List ThreadView)). local_of (only x.0)) c.step_in_table-recursions.ensures.seat.1
+    ∙ ap (λ (p : StepPlan). local_of (known_after s.shape s.start p c.step_in_table-recursions.result (only c.step_in_table-owner.new.seat.me.0)))
+    (second_plan z)
+    ∙ ap (λ (x : Me (Unit {0}) (List ThreadView)). local_of (only x.0)) c.step_in_table-owner.ensures.seat.1
+    ∙ ap (λ (p : StepPlan). local_of (known_after s.shape s.start p c.step_in_table-owner.result (only c.args.seat.now.me.0)))
+    (first_plan (owner_of_second z).before.before)
+
+by_number : (b : Bool) (c : After-step_in_table-recursions) → let e = c.args.call.now in let k = only c.args.seat.now.me.0 in
+    let j = only c.step_in_table-recursions.new.seat.me.0 in let n = c.step_in_table-recursions.result in (n == 0) ≡ b →
+    Leads (heap_in c.args.setting.now) e.task k (monitor_exit e (local_of k) c.args.object c.args.monitor) (lagging e c.args.mirror.now)
+    j (counted e (local_of j) c.args.object c.args.monitor n b) (lagging e c.args.mirror.now)
+by_number b c is = λ h o d its late.
+    let e = c.args.call.now in
+    let z = c.before.before in
+    let here = owned z h o d its late in
+    let n = c.step_in_table-recursions.result in
+    late_as (made_step here its (second_plan z) refl refl c.step_in_table-recursions.ensures.stepped c.step_in_table-recursions.ensures.seat.1
+    (follow_quiet h.heap.shape h.heap.start e Settled (Recursions c.args.monitor) Load n _ _ refl refl (λ l. refl) (λ l. refl) (λ l. refl) here.mirrors))
+    (λ i. counted e (sym (stays c) i) c.args.object c.args.monitor n (is i))
+
+-- There are none,
+pub release-requires-clause-amid : goal.release-requires-clause-amid
+release-requires-clause-amid c = amid_by c.requires.amid
+    (by_number true (goal.at.release-requires-clause-amid c).After-step_in_table-recursions (eq-eqb _ _ c.if-recursions-eq0.true))
+
+pub returns-then-recursions-eq0-clause-leads : goal.returns-then-recursions-eq0-clause-leads
+returns-then-recursions-eq0-clause-leads c = λ h o d its late. c.release.ensures.leads h o d its
+    (by_number true (goal.at.returns-then-recursions-eq0-clause-leads c).After-step_in_table-recursions (eq-eqb _ _ c.if-recursions-eq0.true) h o d its late)
+
+-- or there are some.
+pub lower-requires-clause-amid : goal.lower-requires-clause-amid
+lower-requires-clause-amid c = amid_by c.requires.amid
+    (by_number false (goal.at.lower-requires-clause-amid c).After-step_in_table-recursions (ne_eqb _ _ c.if-recursions-eq0.false))
+
+pub returns-else-recursions-eq0-clause-leads : goal.returns-else-recursions-eq0-clause-leads
+returns-else-recursions-eq0-clause-leads c = λ h o d its late. c.lower.ensures.leads h o d its
+    (by_number false (goal.at.returns-else-recursions-eq0-clause-leads c).After-step_in_table-recursions (ne_eqb _ _ c.if-recursions-eq0.false) h o d its late)

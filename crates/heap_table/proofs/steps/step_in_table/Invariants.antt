@@ -1,5 +1,0 @@
-use Rattle.heap_table.specs.Ruled.{heap_in}
-use Rattle.heap_table.proofs.steps.step_in_table.Given as goal
-
-abbrev pub ghosts-step_as : goal.ghosts-step_as
-ghosts-step_as a = record { heap = heap_in a.setting.now; plan = a.plan }
