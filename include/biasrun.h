@@ -53,7 +53,7 @@ enum biasrun_kind {
     BIASRUN_MISUSE = 3,
     /* The page of the thread's log has no room for the call beside what the thread's holds need for their exits, and the thread for its end.
        Nothing has changed; biasrun_take_page makes room. After calls of this library alone no exit, no finish, and no wait that has let go is
-       answered so. */
+       answered so. Where the heap keeps no log, no call is before the log has some 2^41 entries. */
     BIASRUN_FULL = 4,
     /* There is no memory: of biasrun_begin, add_class, add_object, open, pass, take_page and close alone. Nothing has changed, but that
        biasrun_take_page has let the page before go. */
@@ -211,7 +211,8 @@ typedef struct biasrun_counts {
 /* A HEAP. It is planned class by class and object by object, and then opened. */
 
 /* A plan in `out`, without classes and objects. Threads are 1 to 16. A page of each thread's log gets room for `entries`, at most 400,000, and for
-   66 to 67 more. Hashes are drawn from generators that start from `hash_start`. With `biased` objects are biased to threads. */
+   66 to 67 more. With 0 entries the heap keeps no log, and has the locks alone: see THE LOG. Hashes are drawn from generators that start from
+   `hash_start`. With `biased` objects are biased to threads. */
 biasrun_answer biasrun_begin(biasrun_handle *out, uint32_t threads, uint32_t entries, uint32_t hash_start, bool biased);
 /* One more class, whose objects have so many slots. Done: `word` is its number, from 0. */
 biasrun_answer biasrun_add_class(biasrun_handle *plan, uint32_t slots);
@@ -269,9 +270,12 @@ biasrun_answer biasrun_leave(biasrun_handle *pass);
 
 /* THE LOG of the pass's own thread. It is written page by page, and a page is handed out when the thread asks for it: before it is full, or when a
    call is answered BIASRUN_FULL. The pages of a thread, one after the other, and at last what biasrun_close leaves, are its log. Stamps order the
-   entries of all threads; where two have the same, that of the lower thread comes first. */
+   entries of all threads; where two have the same, that of the lower thread comes first.
 
-/* Done: `word` is how many entries the log has, with those that were handed out. */
+   A heap that was begun with 0 entries keeps none. They are stamped and counted as elsewhere, but every page is empty, and so is what
+   biasrun_close leaves of the logs; dumps and counts it leaves as elsewhere. */
+
+/* Done: `word` is how many entries the log has, with those that were handed out, or not kept. */
 biasrun_answer biasrun_log_length(biasrun_handle *pass);
 /* Hands out the entries since the last page, and makes room for as many again. Done: `word` is how many they are. They can be read until the pass
    is given back or hands out another page. A log has at most 2^41 entries: from there on no page makes room. */
@@ -281,7 +285,7 @@ biasrun_answer biasrun_page_entry(biasrun_handle *pass, uint64_t number, biasrun
 
 /* A CLOSED HEAP. */
 
-/* Done: `word` is how many entries of this thread's log no page had. */
+/* Done: `word` is how many entries of this thread's log no page had, of those that were kept. */
 biasrun_answer biasrun_rest_length(biasrun_handle *closed, uint32_t thread);
 /* Done: `out` is the entry of this number among them, from 0. Else `out` is as it was. */
 biasrun_answer biasrun_rest_entry(biasrun_handle *closed, uint32_t thread, uint64_t number, biasrun_entry *out);

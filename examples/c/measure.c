@@ -4,13 +4,14 @@
  *
  * A pair logs two entries. Where the log has one page that is never handed out, each pair writes to memory that nobody touched before, and the
  * system's page faults are a good part of what it takes; where a page of 1,000 entries is handed out whenever it is full, its memory is used again.
- * The mutex is measured twice, too: the C library leaves the atomic acts out of it in a process that never started a thread.
+ * A heap that was begun with 0 entries keeps no log. The mutex is measured twice, too: the C library leaves the atomic acts out of it in a process
+ * that never started a thread.
  */
 #include <pthread.h>
 
 #include "common.h"
 
-enum { PAIRS = 40000, ROUNDS = 15, SHARED = 60000, WHOLE = 400000, PAGE = 1000 };
+enum { PAIRS = 40000, ROUNDS = 15, SHARED = 60000, WHOLE = 400000, PAGE = 1000, NO_LOG = 0 };
 
 static double nanoseconds(void) {
     struct timespec t;
@@ -71,7 +72,7 @@ struct way {
 
 /* What is measured of a way. */
 struct found {
-    double fresh, used, nested;
+    double fresh, used, nested, unlogged;
 };
 
 /* The object's lock is a bias, a lock record, or a monitor, which it is once the second thread has tried to enter while the first was inside. */
@@ -90,12 +91,12 @@ static void prepare(const struct way *way, biasrun_handle *passes) {
     }
 }
 
-/* One round of a way, with a log of so many entries to a page. */
+/* One round of a way, with a log of so many entries to a page, or none. */
 static void by(const struct way *way, uint32_t page, struct found *best, double *poll) {
     biasrun_handle heap = BIASRUN_EMPTY, passes[2] = {BIASRUN_EMPTY, BIASRUN_EMPTY};
     begin(&heap, 2, page, way->first == BIASRUN_BIAS_OWN, passes);
     prepare(way, passes);
-    keep_least(page == PAGE ? &best->used : &best->fresh, pairs(&passes[0], way->first));
+    keep_least(page == PAGE ? &best->used : page == NO_LOG ? &best->unlogged : &best->fresh, pairs(&passes[0], way->first));
     if (page == PAGE) {
         enter(&passes[0], way->first);
         keep_least(&best->nested, pairs(&passes[0], way->again));
@@ -155,10 +156,11 @@ static void *shared_mutex(void *argument) {
     return argument;
 }
 
-static double contended(int threads, bool with_mutex) {
+/* What an increment takes that so many threads contend for: with a log, without one, or by a mutex. */
+static double contended(int threads, uint32_t page, bool with_mutex) {
     biasrun_handle heap = BIASRUN_EMPTY, passes[4] = {BIASRUN_EMPTY, BIASRUN_EMPTY, BIASRUN_EMPTY, BIASRUN_EMPTY};
     pthread_t started[4];
-    begin(&heap, threads, WHOLE, false, passes);
+    begin(&heap, threads, page, false, passes);
     sum = 0;
     each = SHARED / threads;
     double from = nanoseconds();
@@ -180,7 +182,7 @@ int main(void) {
                                       {"lock record", BIASRUN_STACK_FIRST, BIASRUN_STACK_AGAIN},
                                       {"monitor", BIASRUN_MONITOR_FIRST, BIASRUN_MONITOR_AGAIN}};
     struct found found[3] = {{0}};
-    double poll = 0, before = 0, after = 0, many[3][2] = {{0}};
+    double poll = 0, before = 0, after = 0, many[3][3] = {{0}};
     for (int r = 0; r < ROUNDS; r++)
         keep_least(&before, by_mutex());
     start_a_thread();
@@ -188,19 +190,22 @@ int main(void) {
         for (int k = 0; k < 3; k++) {
             by(&ways[k], WHOLE, &found[k], &poll);
             by(&ways[k], PAGE, &found[k], &poll);
+            by(&ways[k], NO_LOG, &found[k], &poll);
         }
         keep_least(&after, by_mutex());
     }
     for (int r = 0; r < 5; r++)
         for (int k = 0; k < 3; k++)
-            for (int m = 0; m < 2; m++)
-                keep_least(&many[k][m], contended(1 << k, m));
+            for (int m = 0; m < 3; m++)
+                keep_least(&many[k][m], contended(1 << k, m == 1 ? NO_LOG : WHOLE, m == 2));
     for (int k = 0; k < 3; k++)
-        printf("enter and exit by %-12s %7.1f ns, %5.1f mutexes; pages used again %7.1f ns, %5.1f; nested %7.1f ns, %5.1f\n", ways[k].name, found[k].fresh,
-               found[k].fresh / after, found[k].used, found[k].used / after, found[k].nested, found[k].nested / after);
+        printf("enter and exit by %-12s %7.1f ns, %5.1f mutexes; pages used again %7.1f ns, %5.1f; nested %7.1f ns, %5.1f; without a log %7.1f ns, %5.1f\n",
+               ways[k].name, found[k].fresh, found[k].fresh / after, found[k].used, found[k].used / after, found[k].nested, found[k].nested / after,
+               found[k].unlogged, found[k].unlogged / after);
     printf("a poll                         %7.1f ns, %5.1f mutexes\n", poll, poll / after);
     printf("pthread_mutex lock and unlock  %7.1f ns; before the process started a thread %7.1f ns\n", after, before);
     for (int k = 0; k < 3; k++)
-        printf("%d threads on one object: %7.1f ns an increment, and by a pthread_mutex %7.1f ns\n", 1 << k, many[k][0], many[k][1]);
+        printf("%d threads on one object: %7.1f ns an increment, without a log %7.1f ns, and by a pthread_mutex %7.1f ns\n", 1 << k, many[k][0], many[k][1],
+               many[k][2]);
     return 0;
 }

@@ -363,6 +363,38 @@ static void heap_goes_first(void) {
     DONE(biasrun_leave(&a));
 }
 
+/* A heap that keeps no log: no page is ever full, and none has an entry. What is counted, and a dump, are as elsewhere. */
+static void no_log(void) {
+    biasrun_handle heap = BIASRUN_EMPTY, a = BIASRUN_EMPTY;
+    biasrun_entry e;
+    DONE(biasrun_begin(&heap, 1, 0, 1, false));
+    DONE(biasrun_add_class(&heap, 0));
+    DONE(biasrun_add_object(&heap, 0));
+    DONE(biasrun_open(&heap));
+    DONE(biasrun_pass(&heap, 0, &a));
+    DONE(biasrun_resume(&a));
+    for (int k = 0; k < 1000; k++) {
+        want("enter", biasrun_enter(&a, 0, 1), BIASRUN_DONE, BIASRUN_STACK_FIRST);
+        DONE(biasrun_exit(&a, 0));
+    }
+    ANSWERS(biasrun_log_length(&a), 0, 2000);
+    ANSWERS(biasrun_take_page(&a), 0, 0);
+    MISUSE(biasrun_page_entry(&a, 0, &e), BIASRUN_NO_ENTRY);
+    want("enter", biasrun_enter(&a, 0, 1), BIASRUN_DONE, BIASRUN_STACK_FIRST);
+    ANSWERS(biasrun_dump(&a), 0, 1);
+    DONE(biasrun_exit(&a, 0));
+    DONE(biasrun_finish(&a));
+    ANSWERS(biasrun_log_length(&a), 0, 2004);
+    DONE(biasrun_stop(&a));
+    DONE(biasrun_leave(&a));
+    DONE(biasrun_close(&heap));
+    ANSWERS(biasrun_rest_length(&heap, 0), 0, 0);
+    MISUSE(biasrun_rest_entry(&heap, 0, 0, &e), BIASRUN_NO_ENTRY);
+    ANSWERS(biasrun_dump_cut(&heap, 0, 0, 0), 0, 2001);
+    ANSWERS(biasrun_dump_cell(&heap, 0, 0, 0), 1, 0);
+    DONE(biasrun_free(&heap));
+}
+
 int main(void) {
     biasrun_handle heap = BIASRUN_EMPTY, a = BIASRUN_EMPTY, b = BIASRUN_EMPTY;
     plans(&heap);
@@ -377,6 +409,7 @@ int main(void) {
     closed(&heap);
     deep();
     heap_goes_first();
+    no_log();
     printf("%d answers were others\n", bad);
     return bad != 0;
 }
