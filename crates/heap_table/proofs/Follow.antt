@@ -6,6 +6,7 @@ use Rattle.plain_monitor.specs.declared.entry.Entry.TheVariants as entry
 use Rattle.plain_monitor.specs.declared.entry.Logged.{Logged}
 use Rattle.plain_monitor.specs.History.{last_stamp, last_above}
 use Rattle.plain_monitor.specs.ValueWords.{read_value}
+use Rattle.mark_word.specs.Safe.{read_safe}
 use Rattle.core_world.specs.Trees.Operations.{value_found}
 use Rattle.core_world.specs.declared.act.Act.{Act as ActOf}
 use Rattle.core_world.specs.declared.act.Act.TheVariants as act
@@ -34,10 +35,9 @@ use Rattle.heap_table.specs.Tallies.{counts_shown}
 use Rattle.heap_table.specs.declared.afters.Stand.{Stand}
 use Rattle.heap_table.specs.declared.mirror.Mirror.{Mirror}
 use Rattle.core_world.specs.Trees.Plans.{CallContext, load}
-use Rattle.heap_table.proofs.Idling.{looked_idle}
 use Rattle.core_world.specs.Clauses.Lengths.{log_limit}
 use Rattle.heap_table.specs.Kept.{Mirrors, LogHasRoom, IsPageFrom, limit_by}
-use Rattle.heap_table.specs.inner.Kept.{entry_after, with_any_entry, stand_after, made_after}
+use Rattle.heap_table.specs.inner.Kept.{looked, entry_after, with_any_entry, stand_after, made_after}
 use Rattle.std.proofs.lemmas.List.{drop-append-le}
 use Rattle.plain_history.specs.Known.{news, class_made}
 use Rattle.plain_monitor.specs.Made.{creates}
@@ -280,9 +280,9 @@ follow_hit s start p n k m l hit f thread log stand kept saved holds wait publis
     } in
     subst (λ (b : Bool). Mirrors l (cond b (known_hit s start p n k) (known_miss s start p n k))) (sym hit) here
 
--- a load of the safepoint word by which nobody asks, by a thread that doesn't either: what the pass keeps stays as it is
-pub follow_idle : (s : Shape) (start : ℕ) (e : CallContext) (n : ℕ) (k : ThreadView) (m : Mirror) → n < 2 ^ 32 → m.stand.requesting ≡ false
-    → m.unfinished ≡ e.unfinished → m.checking ≡ e.check → Mirrors m k → Mirrors m (known_after s start (load e id.Safepoint) n k)
-follow_idle s start e n k m low asks unfinished checking f =
-    follow_hit s start (load e id.Safepoint) n k m m refl f refl (λ all p same. (p, same)) (sym (looked_idle n m.stand low asks)) refl refl
+-- A load of the safepoint word that leaves unfinished what is unfinished changes of what the pass keeps only what the thread knows of that word.
+pub follow_look : (s : Shape) (start : ℕ) (e : CallContext) (n : ℕ) (k : ThreadView) (m : Mirror) (stand : Stand) → stand ≡ looked (read_safe n) m.stand
+    → m.unfinished ≡ e.unfinished → m.checking ≡ e.check → Mirrors m k → Mirrors (record m { stand = stand }) (known_after s start (load e id.Safepoint) n k)
+follow_look s start e n k m stand is unfinished checking f =
+    follow_hit s start (load e id.Safepoint) n k m (record m { stand = stand }) refl f refl (λ all p same. (p, same)) is refl refl
     (λ k e. sym e) (λ k t e. sym e) (λ k e. sym e) unfinished checking (refl, refl) (λ n k e. e) refl (λ first e. e) refl refl tt

@@ -1,5 +1,5 @@
 -- Steps of a quick call: the seat knows what they make of its thread's knowledge, and the mirror is written only after the last of them.
-use Rattle.std.proofs.Common.{◌≡◌, ℕ, ◌+◌, ◌*◌, ◌%◌, ◌^◌, ◌<◌, ◌≤◌, Bool, true, false, if◌then◌else◌, cond, Option, List, [], ◌∷◌, refl, sym, ap, ◌∙◌, subst}
+use Rattle.std.proofs.Common.{◌≡◌, ℕ, ◌+◌, ◌*◌, ◌%◌, ◌^◌, ◌<◌, ◌≤◌, Bool, true, false, if◌then◌else◌, cond, Option, None, List, [], ◌∷◌, refl, sym, ap, ◌∙◌, subst}
 use Rattle.std.specs.Prelude.{slice_set, vec_capacity, vec_len}
 use Rattle.plain_monitor.specs.Limits.{most_threads}
 use Rattle.atomic_table.specs.Table.{Me}
@@ -26,19 +26,18 @@ use Rattle.core_world.specs.Words.Acts.{hits, word_after}
 use Rattle.core_world.specs.Words.Shape.{Shape}
 use Rattle.core_world.proofs.CallRests.{next_due}
 use Rattle.core_law.specs.Logic.{Heap}
-use Rattle.heap_table.specs.inner.Amid.{IsAmid, IsStartOf, KeepsExit, Leads}
 use Rattle.heap_table.specs.declared.quick.QuickExit.{QuickExit}
-use Rattle.heap_table.specs.declared.quick.QuickExit.TheVariants.{Owned, Unbiased}
+use Rattle.heap_table.specs.declared.quick.QuickExit.TheVariants.{Owned}
 use Rattle.heap_table.specs.Drafts.{IsLeft}
 use Rattle.heap_table.specs.Kept.{Mirrors}
 use Rattle.heap_table.specs.LogEnds.{end_by}
 use Rattle.heap_table.specs.Parts.{IsDueOn, HasMadeSteps}
-use Rattle.heap_table.specs.Quick.{IsAmidst, IsBegun}
+use Rattle.heap_table.specs.Quick.{IsBegun}
 use Rattle.heap_table.specs.Ruled.{only, Stepped}
 use Rattle.heap_table.specs.Seen.{HeapSeen, PassSeen, IsOf}
 use Rattle.heap_table.specs.Stepping.{HasStepped}
 use Rattle.heap_table.specs.declared.mirror.Mirror.{Mirror}
-use Rattle.heap_table.specs.inner.Amid.{IsStartOf, Late, lagging}
+use Rattle.heap_table.specs.inner.Amid.{IsAmid, IsIdle, IsStartOf, KeepsExit, Late, Leads}
 use Rattle.heap_table.specs.inner.Kept.{stand_after}
 use Rattle.heap_table.specs.inner.Parts.{is_shot}
 use Rattle.heap_table.specs.inner.Ruled.{IsStepIf, MayStep}
@@ -202,9 +201,9 @@ shows_alike m k room within few low f = record {
   generator = f.generator;
 }
 
--- a mirror of a thread that knows of the call as unfinished
-pub shows_lagging : (e : CallContext) (k : ThreadView) (m : Mirror) → IsAmidst e k → Mirrors m k → Mirrors (lagging e m) k
-shows_lagging e k m amid f = record {
+-- What the mirror says already need not be written.
+pub shows_idle : (e : CallContext) (k : ThreadView) (m : Mirror) → IsIdle e m → Mirrors (record m { unfinished = None; checking = e.check }) k → Mirrors m k
+shows_idle e k m idle f = record {
   thread = f.thread;
   log = f.log;
   last = f.last;
@@ -217,8 +216,8 @@ shows_lagging e k m amid f = record {
   holds = f.holds;
   wait = f.wait;
   published = f.published;
-  unfinished = amid.unfinished;
-  checking = amid.checking;
+  unfinished = f.unfinished ∙ sym idle.left;
+  checking = f.checking ∙ sym idle.check;
   counts = f.counts;
   draws = f.draws;
   made = f.made;
@@ -302,5 +301,4 @@ exit_keeps o (Owned m owner place) i k j since is = (
   is.0 ∙ ap (λ (x : Local). top_place o x.holds) since.local,
   record { local = is.1.local ∙ since.local; kept = is.1.kept ∙ since.kept },
 )
-exit_keeps o (Unbiased depth place) i k j since is = is
 exit_keeps o _ i k j since is = tt

@@ -1,11 +1,11 @@
 -- Marks of a heap by their low three bits, and own biases by one sum.
-use Rattle.std.proofs.Common.{◌≡◌, ◌≢◌, ℕ, ◌+◌, ◌*◌, ◌/◌, ◌%◌, ◌^◌, ◌<◌, ◌==◌, ◌&&◌, true, nat_lt, Option, Some, None, refl, ap, ◌∙◌, subst, arith}
+use Rattle.std.proofs.Common.{◌≡◌, ◌≢◌, ℕ, ◌+◌, ◌-◌, ◌*◌, ◌/◌, ◌%◌, ◌^◌, ◌<◌, ◌==◌, ◌&&◌, true, nat_lt, Option, Some, None, refl, ap, ◌∙◌, subst, arith}
 use Rattle.std.proofs.lemmas.Bool.{cond_both}
 use Rattle.std.proofs.lemmas.Bool.Decides.{nat_tests}
-use Rattle.mark_word.specs.Mark.{read_mark}
+use Rattle.mark_word.specs.Mark.{IsMarkInRange, mark_of, read_mark}
 use Rattle.mark_word.specs.Record.{is_record_word}
 use Rattle.mark_word.specs.declared.mark.MarkForm.{MarkForm}
-use Rattle.mark_word.specs.declared.mark.MarkForm.TheVariants.{Anonymous, Neutral}
+use Rattle.mark_word.specs.declared.mark.MarkForm.TheVariants.{Anonymous, Biased, Inflated, Inflating, Locked, Marked, Neutral}
 use Rattle.mark_word.proofs.ReadingMarks.{read_mark-spells}
 use Rattle.core_world.specs.Clauses.WordForms.{IsMark}
 use Rattle.core_world.specs.Words.Forms.{is_biased, is_biased_form}
@@ -45,6 +45,150 @@ pub found_mark : (h : Heap) (k : ThreadView) (said plan : StepPlan) (o n : ℕ) 
 found_mark h k said plan o n same at found none =
     let formed = subst (λ (m : WordId). IsFormed h.shape m n) (ap (λ (p : StepPlan). p.at) same ∙ at) (stepped_formed h k said n found) in
     subst (IsMark h.shape) none formed
+
+-- WHAT FEW OF ITS BITS TELL of a mark that spells a form
+module _ (w : ℕ) (says : read_mark w ≢ None) where
+  -- what holds of each form with this word holds of the one that it spells
+  by_form : (F : Option MarkForm → Type 0) → ((f : MarkForm) → IsMarkInRange f → w ≡ mark_of f → F (Some f)) → F (read_mark w)
+  by_form F each = at (read_mark w) refl
+    where
+      at : (f : Option MarkForm) → read_mark w ≡ f → F f
+      at None none = absurd (says none)
+      at (Some f) form = let spells = read_mark-spells w f form in each f spells.0 spells.1
+
+  -- It names a monitor,
+  abbrev IsInflated : Option MarkForm → Type 0
+  IsInflated f = (0 < w / 8) × (w / 8 < 2 ^ 21) × (Some (Inflated (w / 8 - 1)) ≡ f)
+
+  pub inflated_low : w % 4 ≡ 2 → IsInflated (read_mark w)
+  inflated_low low = by_form IsInflated each
+    where
+      each : (f : MarkForm) → IsMarkInRange f → w ≡ mark_of f → IsInflated (Some f)
+      each Inflating few is = absurd (omega (arith, is, low))
+      each (Neutral hash age) few is = absurd (omega (arith, is, low))
+      each (Anonymous epoch age) few is = absurd (omega (arith, is, low))
+      each (Biased thread epoch age) few is = absurd (omega (arith, is, low))
+      each (Locked thread place) few is = absurd (omega (arith, is, low))
+      each (Inflated monitor) few is = (omega (arith, is), omega (arith, is, few), ap (λ n. Some (Inflated n)) (omega (arith, is)))
+      each Marked few is = absurd (omega (arith, is, low))
+
+  -- is being inflated,
+  abbrev IsInflating : Option MarkForm → Type 0
+  IsInflating f = Some Inflating ≡ f
+
+  pub inflating_low : w ≡ 0 → IsInflating (read_mark w)
+  inflating_low none = by_form IsInflating each
+    where
+      each : (f : MarkForm) → IsMarkInRange f → w ≡ mark_of f → IsInflating (Some f)
+      each Inflating few is = refl
+      each (Neutral hash age) few is = absurd (omega (arith, is, none))
+      each (Anonymous epoch age) few is = absurd (omega (arith, is, none))
+      each (Biased thread epoch age) few is = absurd (omega (arith, is, none))
+      each (Locked thread place) few is = absurd (omega (arith, is, none))
+      each (Inflated monitor) few is = absurd (omega (arith, is, none))
+      each Marked few is = absurd (omega (arith, is, none))
+
+  -- names a lock record,
+  abbrev IsLocked : Option MarkForm → Type 0
+  IsLocked f = (0 < w / 4096) × (w / 4096 < 33) × (Some (Locked (w / 4096 - 1) (w / 8 % 512)) ≡ f)
+
+  pub locked_low : w % 4 ≡ 0 → w ≢ 0 → IsLocked (read_mark w)
+  locked_low low some = by_form IsLocked each
+    where
+      each : (f : MarkForm) → IsMarkInRange f → w ≡ mark_of f → IsLocked (Some f)
+      each Inflating few is = absurd (some is)
+      each (Neutral hash age) few is = absurd (omega (arith, is, low))
+      each (Anonymous epoch age) few is = absurd (omega (arith, is, low))
+      each (Biased thread epoch age) few is = absurd (omega (arith, is, low))
+      each (Locked thread place) few is =
+          let low_place = few.1 in
+          let low_thread = few.0 in
+          let of : w / 4096 - 1 ≡ thread = omega (arith, is, low_place) in
+          let at : w / 8 % 512 ≡ place = omega (arith, is, low_place) in
+          (omega (arith, is), omega (arith, is, low_thread, low_place), λ i. Some (Locked (of i) (at i)))
+      each (Inflated monitor) few is = absurd (omega (arith, is, low))
+      each Marked few is = absurd (omega (arith, is, low))
+
+  -- is neutral,
+  abbrev IsNeutral : Option MarkForm → Type 0
+  IsNeutral f = (w / 256 < 2 ^ 31) × (Some (Neutral (w / 256) (w / 8 % 32)) ≡ f)
+
+  pub neutral_low : w % 8 ≡ 1 → IsNeutral (read_mark w)
+  neutral_low low = by_form IsNeutral each
+    where
+      each : (f : MarkForm) → IsMarkInRange f → w ≡ mark_of f → IsNeutral (Some f)
+      each Inflating few is = absurd (omega (arith, is, low))
+      each (Neutral hash age) few is =
+          let low_hash = few.0 in
+          let young = few.1 in
+          let hashed : w / 256 ≡ hash = omega (arith, is, young) in
+          let aged : w / 8 % 32 ≡ age = omega (arith, is, young) in
+          (omega (arith, is, low_hash, young), λ i. Some (Neutral (hashed i) (aged i)))
+      each (Anonymous epoch age) few is = absurd (omega (arith, is, low))
+      each (Biased thread epoch age) few is = absurd (omega (arith, is, low))
+      each (Locked thread place) few is = absurd (omega (arith, is, low))
+      each (Inflated monitor) few is = absurd (omega (arith, is, low))
+      each Marked few is = absurd (omega (arith, is, low))
+
+  -- is the one for the garbage collector,
+  abbrev IsMarked : Option MarkForm → Type 0
+  IsMarked f = Some Marked ≡ f
+
+  pub marked_low : w % 8 ≡ 3 → IsMarked (read_mark w)
+  marked_low low = by_form IsMarked each
+    where
+      each : (f : MarkForm) → IsMarkInRange f → w ≡ mark_of f → IsMarked (Some f)
+      each Inflating few is = absurd (omega (arith, is, low))
+      each (Neutral hash age) few is = absurd (omega (arith, is, low))
+      each (Anonymous epoch age) few is = absurd (omega (arith, is, low))
+      each (Biased thread epoch age) few is = absurd (omega (arith, is, low))
+      each (Locked thread place) few is = absurd (omega (arith, is, low))
+      each (Inflated monitor) few is = absurd (omega (arith, is, low))
+      each Marked few is = refl
+
+  -- has a bias to none,
+  abbrev IsAnonymous : Option MarkForm → Type 0
+  IsAnonymous f = Some (Anonymous (w / 256 % 4) (w / 8 % 32)) ≡ f
+
+  pub anonymous_low : 4 < w % 8 → w / 1024 ≡ 0 → IsAnonymous (read_mark w)
+  anonymous_low low none = by_form IsAnonymous each
+    where
+      each : (f : MarkForm) → IsMarkInRange f → w ≡ mark_of f → IsAnonymous (Some f)
+      each Inflating few is = absurd (omega (arith, is, low, none))
+      each (Neutral hash age) few is = absurd (omega (arith, is, low, none))
+      each (Anonymous epoch age) few is =
+          let low_epoch = few.0 in
+          let young = few.1 in
+          let counted : w / 256 % 4 ≡ epoch = omega (arith, is, low_epoch, young) in
+          let aged : w / 8 % 32 ≡ age = omega (arith, is, young) in
+          λ i. Some (Anonymous (counted i) (aged i))
+      each (Biased thread epoch age) few is = absurd (omega (arith, is, none))
+      each (Locked thread place) few is = absurd (omega (arith, is, low, none))
+      each (Inflated monitor) few is = absurd (omega (arith, is, low, none))
+      each Marked few is = absurd (omega (arith, is, low, none))
+
+  -- or has one to a thread.
+  abbrev IsBiasedTo : Option MarkForm → Type 0
+  IsBiasedTo f = (0 < w / 1024) × (w / 1024 < 33) × (Some (Biased (w / 1024 - 1) (w / 256 % 4) (w / 8 % 32)) ≡ f)
+
+  pub biased_to_low : 4 < w % 8 → w / 1024 ≢ 0 → IsBiasedTo (read_mark w)
+  biased_to_low low some = by_form IsBiasedTo each
+    where
+      each : (f : MarkForm) → IsMarkInRange f → w ≡ mark_of f → IsBiasedTo (Some f)
+      each Inflating few is = absurd (omega (arith, is, low))
+      each (Neutral hash age) few is = absurd (omega (arith, is, low))
+      each (Anonymous epoch age) few is = let low_epoch = few.0 in let young = few.1 in absurd (some (omega (arith, is, low_epoch, young)))
+      each (Biased thread epoch age) few is =
+          let low_thread = few.0 in
+          let low_epoch = few.1 in
+          let young = few.2 in
+          let of : w / 1024 - 1 ≡ thread = omega (arith, is, low_epoch, young) in
+          let counted : w / 256 % 4 ≡ epoch = omega (arith, is, low_epoch, young) in
+          let aged : w / 8 % 32 ≡ age = omega (arith, is, young) in
+          (omega (arith, is), omega (arith, is, low_thread, low_epoch, young), λ i. Some (Biased (of i) (counted i) (aged i)))
+      each (Locked thread place) few is = absurd (omega (arith, is, low))
+      each (Inflated monitor) few is = absurd (omega (arith, is, low))
+      each Marked few is = absurd (omega (arith, is, low))
 
 biased_low : (m : ℕ) → is_biased m ≡ true → m % 8 ≡ 5
 biased_low m biased = let bits = bias_by_bits m ∙ biased in grind (arith, nat_tests, bits)

@@ -1,6 +1,6 @@
 -- Hold words that stand as they were taken, one on the other.
 use Rattle.std.proofs.Common.{◌≡◌, ◌≢◌, ℕ, zero, suc, ◌+◌, ◌-◌, ◌/◌, ◌%◌, ◌^◌, ◌<◌, ◌≤◌, ◌==◌, nat_lt, ne_eqb, eq-eqb}
-use Rattle.std.proofs.Common.{List, [], ◌∷◌, length, get_or, take, Bool, true, false, refl, sym, ap, ◌∙◌, subst, arith}
+use Rattle.std.proofs.Common.{not, List, [], ◌∷◌, length, get_or, take, Bool, true, false, refl, sym, ap, ◌∙◌, subst, arith}
 use Rattle.std.proofs.Common.{get_or-set_other, get_or-set_same}
 use Rattle.std.specs.Prelude.{slice_set}
 use Rattle.std.proofs.lemmas.Bool.Decides.{nat_tests}
@@ -61,13 +61,25 @@ module _ (n : ℕ) (hs : List ℕ) (stacked : IsStacked n hs) (fits : n ≤ 64) 
   pub none_empty : (k : ℕ) → k < n → get_or hs k 0 ≢ 0
   none_empty k l same = let s = (stacked k l).1 in omega (arith, s, same)
 
-  -- so the lowest empty place is the one past them
+  -- so there are as many as places in use,
+  filled : (i : ℕ) → i ≤ n → count_where (λ p h. not (h == 0)) 0 (take i hs) ≡ i
+  filled zero l = refl
+  filled (suc i) l =
+      let before = filled i (omega (arith, l)) in
+      let more = number_more (λ p h. not (h == 0)) 0 i hs (omega (arith, l, within)) in
+      let one : one_if (not (get_or hs i 0 == 0)) ≡ 1 = ap (λ b. one_if (not b)) (ne_eqb _ _ (none_empty i (omega (arith, l)))) in
+      omega (arith, before, more, one)
+
+  pub number_stacked : IsEmptyFrom n hs → count_where (λ p h. not (h == 0)) 0 hs ≡ n
+  number_stacked empty = sym (number_used (λ h. not (h == 0)) 0 n hs refl empty) ∙ filled n (omega arith)
+
+  -- and the lowest empty place is the one past them
   pub free_past : IsEmptyFrom n hs → free_place hs ≡ n
   free_past empty = position_or_len_is (λ h. h == 0) hs n 0 within (λ k l. ne_eqb _ _ (none_empty k l)) (λ l. eq-eqb _ _ (empty n (omega arith)))
 
   -- the newest hold tells how many its object has
   pub newest_tells : IsEmptyFrom n hs → (o : ℕ) → 0 < n → get_or hs (n - 1) 0 / 128 ≡ o + 1
-      → (hold_count o hs ≡ get_or hs (n - 1) 0 % 128) × (get_or hs (n - 1) 0 ≡ hold_word o (hold_count o hs))
+      → (hold_count o hs ≡ get_or hs (n - 1) 0 % 128) × (get_or hs (n - 1) 0 ≡ hold_word o (hold_count o hs)) × (0 < hold_count o hs)
   newest_tells empty o some same =
       let last = n - 1 in
       let word = get_or hs last 0 in
@@ -81,7 +93,7 @@ module _ (n : ℕ) (hs : List ℕ) (stacked : IsStacked n hs) (fits : n ≤ 64) 
       let next : suc last ≡ n = omega (arith, some) in
       let all = ap (λ i. hold_count o (take i hs)) next in
       let used = number_used (λ h. names o h) 0 n hs (none_named o) empty in
-      (omega (arith, is, few, l, fits, deep, all, used), omega (arith, is, deep, all, used))
+      (omega (arith, is, few, l, fits, deep, all, used), omega (arith, is, deep, all, used), omega (arith, deep, all, used))
 
   -- and it is the only one with its word
   pub newest_place : (o : ℕ) → 0 < n → get_or hs (n - 1) 0 ≡ hold_word o (hold_count o hs) → top_place o hs ≡ n - 1

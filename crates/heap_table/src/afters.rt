@@ -126,16 +126,24 @@ fn looked_next(form: Option<SafeForm>, stand: Stand) -> Stand
     }
 }
 
+// Follows what the thread knows after a load that found this word: a function of its own, so that the hot way stays small.
+#[inline(never)]
+fn look_closely(word: u64, stand: &mut Stand)
+    ensures { stand.new ≡ looked (read_safe word) stand.old }
+{
+    *stand = looked_next(safe_of_word(word), *stand);
+}
+
 /// Follows what the thread knows after a load that found this word. One with running bits alone tells nothing new to a thread that asks for no safepoint: then nothing is written.
 #[inline(always)]
 #[tactic(auto, using(crate::proofs::Idling::looked_idle))]
-fn looked_at(word: u64, stand: &mut Stand)
+pub fn looked_at(word: u64, stand: &mut Stand)
     ensures { stand.new ≡ looked (read_safe word) stand.old }
 {
     if has_running_bits_alone(word) && !stand.requesting {
         return;
     }
-    *stand = looked_next(safe_of_word(word), *stand);
+    look_closely(word, stand);
 }
 
 #[inline(always)]

@@ -1,10 +1,11 @@
 //! A thread's hold words, as it last stored them.
-ghost use Rattle.std.specs.Prelude.{ℕ, not, true, ◌≡◌, ◌≢◌, ◌+◌, ◌-◌, ◌<◌, ◌≤◌, ◌==◌, length, slice_index, slice_set, replicate, take};
+ghost use Rattle.std.specs.Prelude.{ℕ, IfSome, not, false, true, ◌≡◌, ◌≢◌, ◌+◌, ◌-◌, ◌<◌, ◌≤◌, ◌==◌, length, slice_index, slice_set, replicate, take};
 ghost use Rattle.plain_monitor.specs.Limits.{most_holds};
 ghost use Rattle.core_world.specs.Locks.{count_where, hold_count};
 ghost use Rattle.core_world.specs.Threads.Stages.{one_if};
 ghost use Rattle.core_world.specs.Words.Forms.{names};
 ghost use Rattle.heap_table.specs.Held.{ComesAfter, IsEmptyFrom, IsStacked};
+ghost use Rattle.heap_table.specs.inner.NewestHold.{IsLastOf, IsNewestOf};
 
 use plain_monitor::limits::HOLDS;
 
@@ -17,19 +18,16 @@ pub const PLACES: usize = HOLDS as usize;
 /// The most holds on one object.
 const DEEPEST: u64 = 64;
 
-/// The hold words, one past the last place that is not empty, so that a question looks at the places in use alone, and how many
-/// are not empty.
+/// The hold words, and one past the last place that is not empty, so that a question looks at the places in use alone.
 #[derive(Drop)]
 pub struct Holds {
     pub words: [u64; PLACES],
     pub used: u32,
-    pub count: u32,
     /// Whether the words in use stand as they were taken, one on the other: then the last of them is the newest hold of its object.
     pub stacked: bool,
     pub ghost within: { used ≤ most_holds },
     pub ghost rest: { IsEmptyFrom used words },
     pub ghost tight: { 0 < used → slice_index words (used - 1) ≢ 0 },
-    pub ghost counted: { count ≡ count_where (λ p h. not (h == 0)) 0 words },
     pub ghost stacks: { stacked ≡ true → IsStacked used words },
 }
 
@@ -148,7 +146,6 @@ impl Holds {
         Holds {
             words: [0; PLACES],
             used: 0,
-            count: 0,
             stacked: true,
         }
     }
@@ -173,9 +170,7 @@ impl Holds {
         ensures { self.new.words ≡ slice_set self.old.words place word }
     {
         let known = self.stacked_before(place);
-        let old = self.words[place as usize];
         self.words[place as usize] = word;
-        self.count = self.count + one_if(word != 0) - one_if(old != 0);
         self.used = used_after_store(&self.words, self.used, place, word);
         self.stacked = self.used <= known || are_stacked(&self.words, known, self.used);
     }
@@ -190,7 +185,6 @@ impl Holds {
     {
         self.words[self.used as usize] = word;
         self.used += 1;
-        self.count += 1;
     }
 
     // `clear` for any place, as a function of its own, so that the hot way stays small.
@@ -202,16 +196,32 @@ impl Holds {
         self.store(place, 0);
     }
 
-    /// Clears the place. Mostly it is the last in use, and those before it are not empty.
+    // Whether the place is known to be the last in use, and the words to stand as they were taken: `last` says that it is known already.
     #[inline(always)]
-    pub fn clear(&mut self, place: u32)
-        requires { place < most_holds }
+    fn is_last(&self, place: u32, last: bool) -> bool
+        requires place { place < most_holds }
+        requires last { last ≡ true → IsLastOf self.now.stacked self.now.used place }
+        ensures { result ≡ true → IsLastOf self.now.stacked self.now.used place }
+    {
+        if last {
+            return true;
+        }
+        if !self.stacked {
+            return false;
+        }
+        place + 1 == self.used
+    }
+
+    /// Clears the place. Mostly it is the last in use, and those before it are not empty; `last` says that this is known.
+    #[inline(always)]
+    pub fn clear(&mut self, place: u32, last: bool)
+        requires place { place < most_holds }
+        requires last { last ≡ true → IsLastOf self.old.stacked self.old.used place }
         ensures { self.new.words ≡ slice_set self.old.words place 0 }
     {
-        if self.stacked && place + 1 == self.used {
+        if self.is_last(place, last) {
             self.words[place as usize] = 0;
             self.used = place;
-            self.count -= 1;
         } else {
             self.clear_below(place);
         }
@@ -259,7 +269,10 @@ impl Holds {
         ensures free { result ≡ true → free_place self.now.words ≡ self.now.used }
         ensures few { result ≡ true → self.now.used < most_holds }
     {
-        self.stacked && self.used < HOLDS
+        if !self.stacked {
+            return false;
+        }
+        self.used < HOLDS
     }
 
     // `next_word` by a search, as a function of its own, so that the hot way stays small.
@@ -270,70 +283,73 @@ impl Holds {
         (object as u64 + 1) * OBJECT + 1 + self.held(object) as u64
     }
 
-    /// The hold word of one more hold of the object. Where the newest hold is of it, that is the next word.
+    /// The hold word of one more hold of the object. Where there is no hold, or the newest is of it, that is told at once, and else only by a
+    /// search.
     #[inline(always)]
-    pub fn next_word(&self, object: u32) -> u64
-        ensures { result ≡ hold_word object (hold_count object self.now.words + 1) }
+    pub fn next_word(&self, object: u32, search: bool) -> Option<u64>
+        ensures { IfSome result (λ w. w ≡ hold_word object (hold_count object self.now.words + 1)) }
     {
         let number = object as u64 + 1;
         if self.used == 0 {
-            return number * OBJECT + 1;
+            return Some(number * OBJECT + 1);
         }
         let newest = self.words[self.used as usize - 1];
         if self.stacked && newest / OBJECT == number {
-            return newest + 1;
+            return Some(newest + 1);
         }
-        self.next_word_searched(object)
+        if search {
+            return Some(self.next_word_searched(object));
+        }
+        None
     }
 
-    // `depth` by a search.
+    // `newest` by a search.
     #[inline(never)]
-    fn depth_searched(&self, object: u32) -> u32
-        ensures depth { result ≡ hold_count object self.now.words }
-        ensures few { result ≤ most_holds }
+    fn newest_searched(&self, object: u32) -> Option<(u32, u32)>
+        ensures { IfSome result (λ n. IsNewestOf self.now.words object n.0 n.1) }
     {
-        self.held(object)
+        let depth = self.held(object);
+        if depth == 0 {
+            return None;
+        }
+        let place = self.place_of((object as u64 + 1) * OBJECT + depth as u64);
+        Some((depth, place))
     }
 
-    /// How many of the words name the object. Where the newest hold is of it, that one tells.
+    /// How many holds of the object there are, where there is one, and the place of the newest. Where the newest hold of all is of it, that one
+    /// tells, and else only a search.
     #[inline(always)]
-    pub fn depth(&self, object: u32) -> u32
+    pub fn newest(&self, object: u32, search: bool) -> Option<(u32, u32)>
         requires { object < 2 ^ 15 }
-        ensures depth { result ≡ hold_count object self.now.words }
-        ensures few { result ≤ most_holds }
+        ensures newest { IfSome result (λ n. IsNewestOf self.now.words object n.0 n.1) }
+        ensures last { search ≡ false → IfSome result (λ n. IsLastOf self.now.stacked self.now.used n.1) }
     {
-        if self.used == 0 {
-            return 0;
-        }
-        let newest = self.words[self.used as usize - 1];
-        if self.stacked && newest / OBJECT == object as u64 + 1 {
-            return (newest % OBJECT) as u32;
-        }
-        self.depth_searched(object)
-    }
-
-    // `place_of` as a function of its own.
-    #[inline(never)]
-    fn place_searched(&self, word: u64) -> u32
-        ensures { result ≡ position_or_len (λ h. h == word) self.now.words }
-    {
-        self.place_of(word)
-    }
-
-    /// The place of the newest hold of the object, of which there are so many. Mostly it is the last in use.
-    #[inline(always)]
-    pub fn top(&self, object: u32, depth: u32) -> u32
-        requires depth { depth ≡ hold_count object self.now.words }
-        ensures { result ≡ top_place object self.now.words }
-    {
-        let word = (object as u64 + 1) * OBJECT + depth as u64;
-        if self.stacked && self.used > 0 {
-            let last = self.used - 1;
-            if self.words[last as usize] == word {
-                return last;
+        if self.used > 0 {
+            if self.stacked {
+                let last = self.used - 1;
+                let newest = self.words[last as usize];
+                if newest / OBJECT == object as u64 + 1 {
+                    return Some(((newest % OBJECT) as u32, last));
+                }
             }
         }
-        self.place_searched(word)
+        if search {
+            return self.newest_searched(object);
+        }
+        None
+    }
+
+    // `count` by a search.
+    #[inline(never)]
+    fn count_searched(&self) -> u32
+        ensures holds { result ≡ all_holds self.now.words }
+        ensures few { result ≤ most_holds }
+    {
+        let mut filled = 0;
+        for i in 0..self.used as usize {
+            filled += one_if(self.words[i] != 0);
+        }
+        filled
     }
 
     /// How many of the words are not empty.
@@ -342,6 +358,9 @@ impl Holds {
         ensures holds { result ≡ all_holds self.now.words }
         ensures few { result ≤ most_holds }
     {
-        self.count
+        if self.stacked {
+            return self.used;
+        }
+        self.count_searched()
     }
 }

@@ -9,14 +9,13 @@ ghost use Rattle.heap_table.specs.LogEnds.{end_by};
 ghost use Rattle.heap_table.specs.Tallies.{counts_shown};
 
 use crate::afters::{
-    Stand, halted_next, keep_next, note_entry, published_next, saved_next, stand_next, store_hold,
-    unfinished_next, wait_next,
+    Stand, halted_next, keep_next, looked_at, note_entry, published_next, saved_next, stand_next,
+    store_hold, unfinished_next, wait_next,
 };
 use crate::counts::{ClassCounts, NO_COUNTS, count_next};
 use crate::draws::{Drawing, draw_next};
 use crate::holds::Holds;
 use crate::made::made_next;
-use crate::reads::has_running_bits_alone;
 use crate::shots::Shots;
 use core_world::{LocalEffect, LogEffect, StepPlan, Unfinished, apply};
 use plain_monitor::{Entry, Logged};
@@ -209,16 +208,7 @@ impl Mirror {
     pub fn follow_in_passing(&mut self, step: &StepPlan, found: u64)
         requires look { IsSafepointLoad step.now }
         requires same { (step.now.after ≡ self.old.unfinished) × (step.now.check ≡ self.old.checking) }
-        requires at { IsPlaced step.now.at }
-        requires room { self.old.keeps ≡ true → LogHasRoom step.now.note self.old.log.items self.old.room }
-        requires few { self.old.given + 1 < 2 ^ 42 }
-        requires shots { HasPlace step.now.own (length self.old.shots.taken.items) }
-        requires draws { self.old.drawing.installed ≤ self.old.given + length self.old.log.items }
-        requires made { self.old.made ≤ self.old.given + length self.old.log.items }
-        requires stamp { hits step.now.act found ≡ true → StampFits step.now.note found self.old.last }
-        ensures follows { (s : Shape) (start : ℕ) (k : ThreadView) → Mirrors self.old k
-            → IsDrafted step.now.own s k self.old.shots.draft.cut.items (cells_shown self.old.shots.draft.cells.items)
-            → Mirrors self.new (known_after s start step.now found k) }
+        ensures follows { (s : Shape) (start : ℕ) (k : ThreadView) → Mirrors self.old k → Mirrors self.new (known_after s start step.now found k) }
         ensures fixed { (self.new.room ≡ self.old.room)
             × (limit_by self.new.keeps self.new.given self.new.room ≡ limit_by self.old.keeps self.old.given self.old.room)
             × (self.new.classes ≡ self.old.classes) × (self.new.first ≡ self.old.first) × (self.new.shots.threads ≡ self.old.shots.threads)
@@ -227,10 +217,7 @@ impl Mirror {
             (cells_shown self.old.shots.draft.cells.items)
             self.new.shots.draft.cut.items (cells_shown self.new.shots.draft.cells.items) }
     {
-        if has_running_bits_alone(found) && !self.stand.requesting {
-            return;
-        }
-        self.follow(step, found);
+        looked_at(found, &mut self.stand);
     }
 
     /// Makes of the knowledge what the step makes of it that found this word.
@@ -303,7 +290,7 @@ impl Mirror {
             → Mirrors (lagging (record e { unfinished = None }) self.new)
             (known_after s start (with_stage stage (logging_plan entry e at act)) found k) }
         ensures frame { IsSameFrame self.old self.new }
-        ensures holds { self.new.holds.words ≡ self.old.holds.words }
+        ensures same { (self.new.holds ≡ self.old.holds) × (self.new.unfinished ≡ self.old.unfinished) × (self.new.checking ≡ self.old.checking) }
     {
         note_entry(
             self.keeps,

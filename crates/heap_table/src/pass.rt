@@ -8,7 +8,7 @@ ghost use Rattle.plain_history.specs.Known.{news};
 ghost use Rattle.core_world.specs.Clauses.Lengths.{log_limit};
 ghost use Rattle.core_world.specs.Locks.{hold_count};
 ghost use Rattle.heap_table.specs.Kept.{all_holds};
-ghost use Rattle.heap_table.specs.Quick.{IsCalm};
+ghost use Rattle.heap_table.specs.Quick.{IsFree};
 ghost use Rattle.heap_table.specs.Seen.{PassSeen, IsOf, page_of};
 ghost use Rattle.heap_table.specs.Tallies.{counts_shown};
 
@@ -64,15 +64,24 @@ impl Pass {
         self.mirror.thread
     }
 
-    /// Whether the thread asks for nothing and waits for nothing.
+    /// Whether the thread runs, and is in the middle of nothing: it asks for nothing, waits for nothing, and nothing is unfinished.
     #[inline(always)]
-    pub fn is_calm(&self) -> bool
-        ensures { result ≡ true → IsCalm self.now.known }
+    pub fn is_free(&self) -> bool
+        ensures { result ≡ true → IsFree self.now.known }
     {
         if self.mirror.stand.requesting {
             return false;
         }
-        self.mirror.wait == 0
+        if self.mirror.wait != 0 {
+            return false;
+        }
+        if self.mirror.checking {
+            return false;
+        }
+        if self.mirror.unfinished.is_some() {
+            return false;
+        }
+        self.mirror.stand.running
     }
 
     /// The entries of the thread's log that were not handed out, in its own order: all of them before the first page.

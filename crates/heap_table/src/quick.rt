@@ -1,22 +1,18 @@
 //! Enters and exits of the common ways, each as one function: the same steps as elsewhere, and what the thread knows written once, after the last
 //! of them. Where something is in the way, the answer says how far the steps came.
-ghost use Rattle.std.specs.Prelude.{◌≡◌, ◌<◌, [], ◌∷◌, length};
+ghost use Rattle.std.specs.Prelude.{◌≡◌};
 ghost use Rattle.core_world.specs.declared.heap_call.HeapCall.TheVariants.{Enter, Exit};
-ghost use Rattle.core_world.specs.Locks.{hold_count};
-ghost use Rattle.core_world.specs.Trees.Plans.{top_place};
-ghost use Rattle.heap_table.specs.Parts.{IsDueOn};
-ghost use Rattle.heap_table.specs.Quick.{HasEntered, HasEnteredMarked, HasLeft, HasLeftUnbiased, IsAmidst, entering, leaving, marked_left, unbiased_left};
-ghost use Rattle.heap_table.specs.Resting.{MayOperate, start_now};
-ghost use Rattle.heap_table.specs.Seen.{IsOf};
+ghost use Rattle.heap_table.specs.Quick.{EntersFree, HasEntered, HasLeft, IsFree, LeavesFree, entering, leaving};
+ghost use Rattle.heap_table.specs.Resting.{MayOperate};
 
 use crate::call_context::CallContext;
 use crate::heap::Heap;
 use crate::pass::Pass;
 use crate::plans::quiet;
-use crate::quick_enters::{enter_biased, enter_unbiased};
+use crate::quick_enters::enter_marked;
 use crate::quick_exits::{leave_hold, leave_unbiased, raise_at};
 use crate::reads::has_bias_bits;
-use crate::steps::{step_at, step_in_table};
+use crate::steps::step_at;
 use core_world::{Act, HeapCall, Operation, Stage, Unfinished, WordId};
 use plain_monitor::Path;
 
@@ -29,7 +25,7 @@ pub enum QuickEnter {
     Done { path: Path },
     /// The exchange of this mark found this other one, for which the enter is pending.
     Raced { expected: u64, found: u64 },
-    /// It has loaded the mark, which has no bias pattern.
+    /// It has loaded this mark, which has no bias pattern, and names a lock record of another thread, or is being inflated.
     Unbiased { mark: u64 },
     /// It has loaded the mark, which has the bias pattern, and the prototype of the class.
     Biased { mark: u64, prototype: u64 },
@@ -44,11 +40,6 @@ pub enum QuickExit {
     Not,
     /// It is done: the thread has one hold less.
     Left,
-    /// It has loaded the mark, which has no bias pattern. The newest hold has this depth, and is at this place.
-    Unbiased {
-        depth: u32,
-        place: u32,
-    },
     /// The mark is being inflated, for which the exit is pending.
     Inflating,
     /// The exchange of this mark found this other one, for which the exit is pending.
@@ -95,72 +86,30 @@ fn leaving(object: u32) -> CallContext
 }
 
 impl Heap {
-    /// Enters a declared object where the thread asks for nothing and waits for nothing, and its hold words have no gap: by a bias that it has, by a
-    /// lock record, or by a monitor that is free or its own.
     #[inline(always)]
-    pub fn quick_enter(&self, pass: &mut Pass, object: u32, now: u64) -> QuickEnter
-        requires { MayOperate self.now pass.old (Enter object now) }
-        ensures { HasEntered self.now pass.old pass.new object now result }
+    fn enter_quickly(&self, pass: &mut Pass, object: u32, now: u64, search: bool) -> QuickEnter
+        requires may { MayOperate self.now pass.old (Enter object now) }
+        requires free { IsFree pass.old.known }
+        ensures entered { HasEntered self.now pass.old pass.new object now result }
+        ensures free { EntersFree pass.new.known result }
     {
-        if !pass.is_calm() {
-            return QuickEnter::Not;
-        }
         if !pass.mirror.holds.is_packed() {
             return QuickEnter::Not;
         }
         if object >= self.setting.shape.declared() {
             return QuickEnter::Not;
         }
+        let Some(word) = pass.mirror.holds.next_word(object, search) else {
+            return QuickEnter::Not;
+        };
         let call = entering(object, now);
+        let words = &self.words;
+        let setting = &self.setting;
+        // The object's words have one place here for all their steps: after an act the shape would be read again.
+        let at = setting.shape.mark_at(object);
         let first = quiet(&call, Stage::Settled, WordId::Mark { object }, Act::Load);
-        let words = &self.words;
-        let setting = &self.setting;
-        let mark = step_in_table(words, setting, &mut pass.seat, first);
-        if has_bias_bits(mark) {
-            enter_biased(
-                words,
-                setting,
-                &mut pass.seat,
-                &mut pass.mirror,
-                &call,
-                object,
-                now,
-                mark,
-            )
-        } else {
-            pass.mirror.unfinished = call.unfinished;
-            pass.mirror.checking = call.check;
-            QuickEnter::Unbiased { mark }
-        }
-    }
-
-    /// Goes on with an enter whose mark was found, which has no bias pattern: by a lock record, or by a monitor that is free or its own. It makes no
-    /// step where the thread asks for something or waits, or its hold words have a gap.
-    #[inline(always)]
-    pub fn quick_enter_marked(
-        &self,
-        pass: &mut Pass,
-        object: u32,
-        now: u64,
-        mark: u64,
-    ) -> QuickEnter
-        requires heap { IsOf self.now pass.old }
-        requires due { IsDueOn self.now pass.old (Enter object now)
-            (marked_left self.now.heap.shape (start_now self.now pass.old) object now mark) }
-        requires amidst { IsAmidst (entering object now) pass.old.known }
-        requires room { length pass.old.known.log < pass.old.limit }
-        ensures { HasEnteredMarked self.now pass.old pass.new object now mark result }
-    {
-        if !pass.is_calm() {
-            return QuickEnter::Not;
-        }
-        if !pass.mirror.holds.is_packed() {
-            return QuickEnter::Not;
-        }
-        let words = &self.words;
-        let setting = &self.setting;
-        let call = entering(object, now);
-        enter_unbiased(
+        let mark = step_at(words, setting, &mut pass.seat, at, first);
+        enter_marked(
             words,
             setting,
             &mut pass.seat,
@@ -169,30 +118,53 @@ impl Heap {
             object,
             now,
             mark,
+            word,
+            at,
         )
     }
 
-    /// Leaves the newest hold of a declared object.
+    /// Enters a declared object where the thread is in the middle of nothing, and its hold words have no gap: by a bias that it has, by a lock
+    /// record, or by a monitor that is free or its own.
     #[inline(always)]
-    pub fn quick_exit(&self, pass: &mut Pass, object: u32) -> QuickExit
-        requires { MayOperate self.now pass.old (Exit object) }
-        ensures { HasLeft self.now pass.old pass.new object result }
+    pub fn quick_enter(&self, pass: &mut Pass, object: u32, now: u64) -> QuickEnter
+        requires may { MayOperate self.now pass.old (Enter object now) }
+        requires free { IsFree pass.old.known }
+        ensures entered { HasEntered self.now pass.old pass.new object now result }
+        ensures free { EntersFree pass.new.known result }
+    {
+        self.enter_quickly(pass, object, now, true)
+    }
+
+    /// The same where the thread holds nothing, or its newest hold is of the object, so that nothing has to be looked for.
+    #[inline(always)]
+    pub fn enter_at_once(&self, pass: &mut Pass, object: u32, now: u64) -> QuickEnter
+        requires may { MayOperate self.now pass.old (Enter object now) }
+        requires free { IsFree pass.old.known }
+        ensures entered { HasEntered self.now pass.old pass.new object now result }
+        ensures free { EntersFree pass.new.known result }
+    {
+        self.enter_quickly(pass, object, now, false)
+    }
+
+    #[inline(always)]
+    fn exit_quickly(&self, pass: &mut Pass, object: u32, search: bool) -> QuickExit
+        requires may { MayOperate self.now pass.old (Exit object) }
+        requires free { IsFree pass.old.known }
+        ensures left { HasLeft self.now pass.old pass.new object result }
+        ensures free { LeavesFree pass.new.known result }
     {
         if object >= self.setting.shape.declared() {
             return QuickExit::Not;
         }
-        let depth = pass.mirror.holds.depth(object);
-        if depth == 0 {
+        let Some((depth, place)) = pass.mirror.holds.newest(object, search) else {
             return QuickExit::Not;
-        }
-        let place = pass.mirror.holds.top(object, depth);
+        };
         let call = leaving(object);
         let next = pass.mirror.last + 1;
         let words = &self.words;
         let setting = &self.setting;
-        // The object's words have one place here for all their steps: after an act the shape would be read again.
-        let mark_at = setting.shape.mark_at(object);
-        let stamp_at = setting.shape.stamp_at(object);
+        // As in an enter.
+        let at = setting.shape.mark_at(object);
         raise_at(
             words,
             setting,
@@ -200,11 +172,11 @@ impl Heap {
             &call,
             object,
             depth,
-            stamp_at,
+            at + 1,
             next,
         );
         let first = quiet(&call, Stage::Settled, WordId::Mark { object }, Act::Load);
-        let mark = step_at(words, setting, &mut pass.seat, mark_at, first);
+        let mark = step_at(words, setting, &mut pass.seat, at, first);
         if has_bias_bits(mark) {
             leave_hold(
                 words,
@@ -214,47 +186,44 @@ impl Heap {
                 &call,
                 object,
                 place,
+                !search,
             );
             QuickExit::Left
         } else {
-            pass.mirror.unfinished = call.unfinished;
-            pass.mirror.checking = call.check;
-            QuickExit::Unbiased { depth, place }
+            leave_unbiased(
+                words,
+                setting,
+                &mut pass.seat,
+                &mut pass.mirror,
+                &call,
+                object,
+                depth,
+                at,
+                place,
+                !search,
+            )
         }
     }
 
-    /// Goes on with an exit whose mark was found, which has no bias pattern, of the newest hold, which is at this place, and is the one of this depth.
+    /// Leaves the newest hold of a declared object, where the thread is in the middle of nothing.
     #[inline(always)]
-    pub fn quick_exit_unbiased(
-        &self,
-        pass: &mut Pass,
-        object: u32,
-        depth: u32,
-        place: u32,
-    ) -> QuickExit
-        requires heap { IsOf self.now pass.old }
-        requires object { object < length self.now.heap.shape.objects }
-        requires due { IsDueOn self.now pass.old (Exit object) (unbiased_left (start_now self.now pass.old) object) }
-        requires amidst { IsAmidst (leaving object) pass.old.known }
-        requires depth { depth ≡ hold_count object pass.old.known.holds }
-        requires place { place ≡ top_place object pass.old.known.holds }
-        requires room { length pass.old.known.log < pass.old.limit }
-        ensures { HasLeftUnbiased self.now pass.old pass.new object result }
+    pub fn quick_exit(&self, pass: &mut Pass, object: u32) -> QuickExit
+        requires may { MayOperate self.now pass.old (Exit object) }
+        requires free { IsFree pass.old.known }
+        ensures left { HasLeft self.now pass.old pass.new object result }
+        ensures free { LeavesFree pass.new.known result }
     {
-        let words = &self.words;
-        let setting = &self.setting;
-        let stamp_at = setting.shape.stamp_at(object);
-        let call = leaving(object);
-        leave_unbiased(
-            words,
-            setting,
-            &mut pass.seat,
-            &mut pass.mirror,
-            &call,
-            object,
-            depth,
-            stamp_at,
-            place,
-        )
+        self.exit_quickly(pass, object, true)
+    }
+
+    /// The same where that is the newest of all holds, so that nothing has to be looked for.
+    #[inline(always)]
+    pub fn exit_at_once(&self, pass: &mut Pass, object: u32) -> QuickExit
+        requires may { MayOperate self.now pass.old (Exit object) }
+        requires free { IsFree pass.old.known }
+        ensures left { HasLeft self.now pass.old pass.new object result }
+        ensures free { LeavesFree pass.new.known result }
+    {
+        self.exit_quickly(pass, object, false)
     }
 }

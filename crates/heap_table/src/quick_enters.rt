@@ -1,24 +1,25 @@
 //! The ways of a quick enter, once its mark was found. The seat is ahead of the mirror up to the last step of each.
-ghost use Rattle.std.specs.Prelude.{◌≡◌, ◌<◌, true, None, [], ◌∷◌, IfSome};
+ghost use Rattle.std.specs.Prelude.{◌≡◌, ◌≢◌, ◌<◌, true, None, [], ◌∷◌, IfSome};
+ghost use Rattle.mark_word.specs.Mark.{read_mark};
 ghost use Rattle.plain_monitor.specs.declared.entry.Path.TheVariants.{MonitorAgain, MonitorFirst};
 ghost use Rattle.core_world.specs.Threads.ThreadView.{local_of};
 ghost use Rattle.core_world.specs.Words.Forms.{is_biased};
 ghost use Rattle.heap_table.specs.Layout.{word_count};
 ghost use Rattle.heap_table.specs.Quick.{entered};
 ghost use Rattle.heap_table.specs.Ruled.{heap_in, only};
-ghost use Rattle.heap_table.specs.inner.Amid.{IsAmid, IsAmidSince, IsSameFrame, IsStartOf, KeepsStart, Leads, LeadsSince, MayHold};
+ghost use Rattle.heap_table.specs.inner.Amid.{EntersIdle, IsAmid, IsAmidSince, IsIdle, IsSameFrame, IsStartOf, KeepsStart, Leads, LeadsSince, MayHold};
 ghost use Rattle.heap_table.specs.inner.Amid.{again_enter, biased_left, enter_left, first_enter, lagging, monitor_enter, owner_entered};
-ghost use Rattle.heap_table.specs.inner.Amid.{record_left, taken, unbiased_enter};
+ghost use Rattle.heap_table.specs.inner.Amid.{mark_left, record_left, taken, unbiased_enter};
 
 use crate::call_context::CallContext;
 use crate::holding::{take_hold, take_recorded};
 use crate::mirror::Mirror;
 use crate::plans::quiet;
 use crate::quick::QuickEnter;
-use crate::reads::{is_own_by_sum, mark_of_word};
+use crate::reads::{form_of, has_bias_bits, is_own_by_sum};
 use crate::rule::{Place, Words};
 use crate::setting::Setting;
-use crate::steps::step_in_table;
+use crate::steps::{step_at, step_in_table};
 use core_world::{Act, Stage, WordId};
 use mark_word::{MarkForm, OwnerForm, encode, encode_owner};
 use plain_monitor::Path;
@@ -34,23 +35,26 @@ pub fn enter_by_record(
     call: &CallContext,
     object: u32,
     mark: u64,
+    word: u64,
+    at: usize,
 ) -> Option<u64>
     requires setting { (words.now.shared.key ≡ setting.now)
         × (words.now.shared.table_id.words ≡ word_count setting.now.shape) }
     requires seat { (seat.old.table_id ≡ words.now.shared.table_id) × (seat.old.me ≡ (only seat.old.me.0 ∷ [], [])) }
-    requires may { MayHold mirror.old }
+    requires may { MayHold setting.now.shape call.now mirror.old object word at }
     requires amid { IsAmid (heap_in setting.now) call.now.task (only seat.old.me.0)
         (first_enter call.now (local_of (only seat.old.me.0)) object mark) (lagging call.now mirror.old) }
     ensures seat { (seat.new.table_id ≡ seat.old.table_id) × (seat.new.me ≡ (only seat.new.me.0 ∷ [], [])) }
     ensures frame { IsSameFrame mirror.old mirror.new }
+    ensures idle { result ≡ None → IsIdle call.now mirror.new }
     ensures leads { Leads (heap_in setting.now) call.now.task
         (only seat.old.me.0) (first_enter call.now (local_of (only seat.old.me.0)) object mark) (lagging call.now mirror.old)
         (only seat.new.me.0) (record_left mark result) mirror.new }
 {
     let thread = mirror.thread;
     let place = mirror.holds.used;
-    let at = WordId::Displaced { thread, place };
-    let first = quiet(call, Stage::Settled, at, Act::Store { word: mark });
+    let record = WordId::Displaced { thread, place };
+    let first = quiet(call, Stage::Settled, record, Act::Store { word: mark });
     step_in_table(words, setting, seat, first);
     let act = Act::CompareExchange {
         expected: mark,
@@ -58,13 +62,23 @@ pub fn enter_by_record(
     };
     let stage = Stage::RecordLocked { object, place };
     let second = quiet(call, stage, WordId::Mark { object }, act);
-    let found = step_in_table(words, setting, seat, second);
+    let found = step_at(words, setting, seat, at, second);
     if found != mark {
         mirror.unfinished = call.unfinished;
         mirror.checking = call.check;
         return Some(found);
     }
-    take_hold(words, setting, seat, mirror, call, object, Path::StackFirst);
+    take_hold(
+        words,
+        setting,
+        seat,
+        mirror,
+        call,
+        object,
+        word,
+        at,
+        Path::StackFirst,
+    );
     None
 }
 
@@ -79,15 +93,18 @@ pub fn enter_by_monitor(
     call: &CallContext,
     object: u32,
     monitor: u32,
+    word: u64,
+    at: usize,
 ) -> Option<u64>
     requires setting { (words.now.shared.key ≡ setting.now)
         × (words.now.shared.table_id.words ≡ word_count setting.now.shape) }
     requires seat { (seat.old.table_id ≡ words.now.shared.table_id) × (seat.old.me ≡ (only seat.old.me.0 ∷ [], [])) }
-    requires may { MayHold mirror.old }
+    requires may { MayHold setting.now.shape call.now mirror.old object word at }
     requires amid { IsAmid (heap_in setting.now) call.now.task (only seat.old.me.0)
         (monitor_enter call.now (local_of (only seat.old.me.0)) object monitor) (lagging call.now mirror.old) }
     ensures seat { (seat.new.table_id ≡ seat.old.table_id) × (seat.new.me ≡ (only seat.new.me.0 ∷ [], [])) }
     ensures frame { IsSameFrame mirror.old mirror.new }
+    ensures idle { result ≡ None → IsIdle call.now mirror.new }
     ensures taken { result ≡ None → Leads (heap_in setting.now) call.now.task
         (only seat.old.me.0) (monitor_enter call.now (local_of (only seat.old.me.0)) object monitor) (lagging call.now mirror.old)
         (only seat.new.me.0) (taken MonitorFirst) mirror.new }
@@ -116,6 +133,8 @@ pub fn enter_by_monitor(
         stage,
         object,
         3,
+        word,
+        at,
         Path::MonitorFirst,
     );
     None
@@ -131,15 +150,18 @@ pub fn enter_again(
     call: &CallContext,
     object: u32,
     monitor: u32,
+    word: u64,
+    at: usize,
 )
     requires setting { (words.now.shared.key ≡ setting.now)
         × (words.now.shared.table_id.words ≡ word_count setting.now.shape) }
     requires seat { (seat.old.table_id ≡ words.now.shared.table_id) × (seat.old.me ≡ (only seat.old.me.0 ∷ [], [])) }
-    requires may { MayHold mirror.old }
+    requires may { MayHold setting.now.shape call.now mirror.old object word at }
     requires amid { IsAmid (heap_in setting.now) call.now.task (only seat.old.me.0)
         (again_enter call.now (local_of (only seat.old.me.0)) object monitor) (lagging call.now mirror.old) }
     ensures seat { (seat.new.table_id ≡ seat.old.table_id) × (seat.new.me ≡ (only seat.new.me.0 ∷ [], [])) }
     ensures frame { IsSameFrame mirror.old mirror.new }
+    ensures idle { IsIdle call.now mirror.new }
     ensures leads { Leads (heap_in setting.now) call.now.task
         (only seat.old.me.0) (again_enter call.now (local_of (only seat.old.me.0)) object monitor) (lagging call.now mirror.old)
         (only seat.new.me.0) (taken MonitorAgain) mirror.new }
@@ -148,8 +170,8 @@ pub fn enter_again(
     let first = quiet(call, Stage::Settled, count, Act::Load);
     let recursions = step_in_table(words, setting, seat, first);
     let stage = Stage::RecursionsRaised { object };
-    let word = recursions + 1;
-    let second = quiet(call, stage, count, Act::Store { word });
+    let raised = recursions + 1;
+    let second = quiet(call, stage, count, Act::Store { word: raised });
     step_in_table(words, setting, seat, second);
     take_recorded(
         words,
@@ -160,6 +182,8 @@ pub fn enter_again(
         stage,
         object,
         3,
+        word,
+        at,
         Path::MonitorAgain,
     );
 }
@@ -175,28 +199,35 @@ pub fn enter_inflated(
     object: u32,
     now: u64,
     monitor: u32,
+    word: u64,
+    at: usize,
 ) -> QuickEnter
     requires setting { (words.now.shared.key ≡ setting.now)
         × (words.now.shared.table_id.words ≡ word_count setting.now.shape) }
     requires seat { (seat.old.table_id ≡ words.now.shared.table_id) × (seat.old.me ≡ (only seat.old.me.0 ∷ [], [])) }
-    requires may { MayHold mirror.old }
+    requires may { MayHold setting.now.shape call.now mirror.old object word at }
     requires amid { IsAmidSince (heap_in setting.now) call.now.task (only seat.old.me.0)
         (λ start. monitor_enter call.now start.local object monitor) (lagging call.now mirror.old) }
     ensures seat { (seat.new.table_id ≡ seat.old.table_id) × (seat.new.me ≡ (only seat.new.me.0 ∷ [], [])) }
     ensures frame { IsSameFrame mirror.old mirror.new }
+    ensures idle { EntersIdle result call.now mirror.new }
     ensures start { KeepsStart result (only seat.old.me.0) (only seat.new.me.0) }
     ensures leads { LeadsSince (heap_in setting.now) call.now.task
         (only seat.old.me.0) (λ start. monitor_enter call.now start.local object monitor) (lagging call.now mirror.old)
         (only seat.new.me.0) (λ start. enter_left setting.now.shape call.now start (entered object now) result) mirror.new }
 {
-    match enter_by_monitor(words, setting, seat, mirror, call, object, monitor) {
+    match enter_by_monitor(
+        words, setting, seat, mirror, call, object, monitor, word, at,
+    ) {
         None => QuickEnter::Done {
             path: Path::MonitorFirst,
         },
         Some(found) => {
             let thread = mirror.thread;
             if found == encode_owner(&OwnerForm::ByThread { thread }) {
-                enter_again(words, setting, seat, mirror, call, object, monitor);
+                enter_again(
+                    words, setting, seat, mirror, call, object, monitor, word, at,
+                );
                 return QuickEnter::Done {
                     path: Path::MonitorAgain,
                 };
@@ -219,23 +250,27 @@ pub fn enter_unbiased(
     object: u32,
     now: u64,
     mark: u64,
+    word: u64,
+    at: usize,
 ) -> QuickEnter
     requires setting { (words.now.shared.key ≡ setting.now)
         × (words.now.shared.table_id.words ≡ word_count setting.now.shape) }
     requires seat { (seat.old.table_id ≡ words.now.shared.table_id) × (seat.old.me ≡ (only seat.old.me.0 ∷ [], [])) }
-    requires may { MayHold mirror.old }
+    requires may { MayHold setting.now.shape call.now mirror.old object word at }
+    requires found { read_mark mark ≢ None }
     requires amid { IsAmidSince (heap_in setting.now) call.now.task (only seat.old.me.0)
         (λ start. unbiased_enter setting.now.shape call.now start object mark) (lagging call.now mirror.old) }
     ensures seat { (seat.new.table_id ≡ seat.old.table_id) × (seat.new.me ≡ (only seat.new.me.0 ∷ [], [])) }
     ensures frame { IsSameFrame mirror.old mirror.new }
+    ensures idle { EntersIdle result call.now mirror.new }
     ensures start { KeepsStart result (only seat.old.me.0) (only seat.new.me.0) }
     ensures leads { LeadsSince (heap_in setting.now) call.now.task
         (only seat.old.me.0) (λ start. unbiased_enter setting.now.shape call.now start object mark) (lagging call.now mirror.old)
         (only seat.new.me.0) (λ start. enter_left setting.now.shape call.now start (entered object now) result) mirror.new }
 {
-    match mark_of_word(mark) {
-        Some(MarkForm::Neutral { .. }) => {
-            match enter_by_record(words, setting, seat, mirror, call, object, mark) {
+    match form_of(mark) {
+        MarkForm::Neutral { .. } => {
+            match enter_by_record(words, setting, seat, mirror, call, object, mark, word, at) {
                 Some(found) => QuickEnter::Raced {
                     expected: mark,
                     found,
@@ -245,7 +280,7 @@ pub fn enter_unbiased(
                 },
             }
         }
-        Some(MarkForm::Locked { thread, .. }) => {
+        MarkForm::Locked { thread, .. } => {
             if thread == mirror.thread {
                 let path = Path::StackAgain;
                 take_recorded(
@@ -257,6 +292,8 @@ pub fn enter_unbiased(
                     Stage::Settled,
                     object,
                     0,
+                    word,
+                    at,
                     path,
                 );
                 return QuickEnter::Done { path };
@@ -265,8 +302,10 @@ pub fn enter_unbiased(
             mirror.checking = call.check;
             QuickEnter::Unbiased { mark }
         }
-        Some(MarkForm::Inflated { monitor }) => {
-            enter_inflated(words, setting, seat, mirror, call, object, now, monitor)
+        MarkForm::Inflated { monitor } => {
+            enter_inflated(
+                words, setting, seat, mirror, call, object, now, monitor, word, at,
+            )
         }
         _ => {
             mirror.unfinished = call.unfinished;
@@ -287,17 +326,20 @@ pub fn enter_biased(
     object: u32,
     now: u64,
     mark: u64,
+    word: u64,
+    at: usize,
 ) -> QuickEnter
     requires setting { (words.now.shared.key ≡ setting.now)
         × (words.now.shared.table_id.words ≡ word_count setting.now.shape) }
     requires seat { (seat.old.table_id ≡ words.now.shared.table_id) × (seat.old.me ≡ (only seat.old.me.0 ∷ [], [])) }
-    requires may { MayHold mirror.old }
+    requires may { MayHold setting.now.shape call.now mirror.old object word at }
     requires declared { object < setting.now.shape.declared }
     requires biased { is_biased mark ≡ true }
     requires amid { IsAmidSince (heap_in setting.now) call.now.task (only seat.old.me.0)
         (λ start. biased_left setting.now.shape call.now start (entered object now) mark) (lagging call.now mirror.old) }
     ensures seat { (seat.new.table_id ≡ seat.old.table_id) × (seat.new.me ≡ (only seat.new.me.0 ∷ [], [])) }
     ensures frame { IsSameFrame mirror.old mirror.new }
+    ensures idle { EntersIdle result call.now mirror.new }
     ensures start { KeepsStart result (only seat.old.me.0) (only seat.new.me.0) }
     ensures leads { LeadsSince (heap_in setting.now) call.now.task
         (only seat.old.me.0) (λ start. biased_left setting.now.shape call.now start (entered object now) mark) (lagging call.now mirror.old)
@@ -311,8 +353,59 @@ pub fn enter_biased(
         mirror.checking = call.check;
         return QuickEnter::Biased { mark, prototype };
     }
-    take_hold(words, setting, seat, mirror, call, object, Path::BiasOwn);
+    take_hold(
+        words,
+        setting,
+        seat,
+        mirror,
+        call,
+        object,
+        word,
+        at,
+        Path::BiasOwn,
+    );
     QuickEnter::Done {
         path: Path::BiasOwn,
+    }
+}
+
+/// By the mark that was found.
+#[inline(always)]
+pub fn enter_marked(
+    words: &Words,
+    setting: &Setting,
+    seat: &mut Place,
+    mirror: &mut Mirror,
+    call: &CallContext,
+    object: u32,
+    now: u64,
+    mark: u64,
+    word: u64,
+    at: usize,
+) -> QuickEnter
+    requires setting { (words.now.shared.key ≡ setting.now)
+        × (words.now.shared.table_id.words ≡ word_count setting.now.shape) }
+    requires seat { (seat.old.table_id ≡ words.now.shared.table_id) × (seat.old.me ≡ (only seat.old.me.0 ∷ [], [])) }
+    requires may { MayHold setting.now.shape call.now mirror.old object word at }
+    requires declared { object < setting.now.shape.declared }
+    requires found { read_mark mark ≢ None }
+    requires amid { IsAmidSince (heap_in setting.now) call.now.task (only seat.old.me.0)
+        (λ start. mark_left (is_biased mark) setting.now.shape call.now start (entered object now) mark) (lagging call.now mirror.old) }
+    ensures seat { (seat.new.table_id ≡ seat.old.table_id) × (seat.new.me ≡ (only seat.new.me.0 ∷ [], [])) }
+    ensures frame { IsSameFrame mirror.old mirror.new }
+    ensures idle { EntersIdle result call.now mirror.new }
+    ensures start { KeepsStart result (only seat.old.me.0) (only seat.new.me.0) }
+    ensures leads { LeadsSince (heap_in setting.now) call.now.task
+        (only seat.old.me.0) (λ start. mark_left (is_biased mark) setting.now.shape call.now start (entered object now) mark) (lagging call.now mirror.old)
+        (only seat.new.me.0) (λ start. enter_left setting.now.shape call.now start (entered object now) result) mirror.new }
+{
+    if has_bias_bits(mark) {
+        enter_biased(
+            words, setting, seat, mirror, call, object, now, mark, word, at,
+        )
+    } else {
+        enter_unbiased(
+            words, setting, seat, mirror, call, object, now, mark, word, at,
+        )
     }
 }

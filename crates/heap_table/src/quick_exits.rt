@@ -1,12 +1,13 @@
 //! The ways of a quick exit, once its mark was found. The seat is ahead of the mirror up to the last step of each.
-ghost use Rattle.std.specs.Prelude.{◌≡◌, ◌+◌, ◌^◌, ◌<◌, ◌==◌, None, [], ◌∷◌};
+ghost use Rattle.std.specs.Prelude.{◌≡◌, ◌≢◌, ◌+◌, ◌^◌, ◌<◌, ◌==◌, None, [], ◌∷◌};
+ghost use Rattle.mark_word.specs.Mark.{read_mark};
+ghost use Rattle.core_world.specs.declared.word_id.WordId.TheVariants.{Mark};
 ghost use Rattle.core_world.specs.Locks.{hold_count};
 ghost use Rattle.core_world.specs.Threads.ThreadView.{local_of};
 ghost use Rattle.core_world.specs.Trees.LockSteps.{raise_stamp_plan};
-ghost use Rattle.core_world.specs.Trees.Plans.{top_place};
 ghost use Rattle.heap_table.specs.Layout.{place_of, word_count};
 ghost use Rattle.heap_table.specs.Ruled.{heap_in, only};
-ghost use Rattle.heap_table.specs.inner.Amid.{IsAmid, IsSameFrame, KeepsExit, Leads, MayLeave, lagging};
+ghost use Rattle.heap_table.specs.inner.Amid.{IsAmid, IsIdle, IsSameFrame, KeepsExit, Leads, LeavesIdle, MayClear, MayLeave, lagging};
 ghost use Rattle.heap_table.specs.inner.Amid.{clear_end, exit_left, exit_over, leave_end, marked_exit, monitor_exit};
 ghost use Rattle.heap_table.specs.inner.Amid.{record_exit, recursions_exit, release_exit, unbiased_exit};
 ghost use Rattle.heap_table.specs.inner.Ruled.{IsStepIf, MayStep};
@@ -15,7 +16,7 @@ use crate::call_context::CallContext;
 use crate::mirror::Mirror;
 use crate::plans::{logging, quiet};
 use crate::quick::QuickExit;
-use crate::reads::mark_of_word;
+use crate::reads::form_of;
 use crate::rule::{Place, Words};
 use crate::setting::Setting;
 use crate::steps::{step_at, step_in_table};
@@ -77,15 +78,17 @@ pub fn leave_hold(
     call: &CallContext,
     object: u32,
     place: u32,
+    last: bool,
 )
     requires setting { (words.now.shared.key ≡ setting.now)
         × (words.now.shared.table_id.words ≡ word_count setting.now.shape) }
     requires seat { (seat.old.table_id ≡ words.now.shared.table_id) × (seat.old.me ≡ (only seat.old.me.0 ∷ [], [])) }
-    requires may { MayLeave mirror.old object place }
+    requires may { MayLeave call.now mirror.old object place last }
     requires amid { IsAmid (heap_in setting.now) call.now.task (only seat.old.me.0)
         (leave_end call.now (local_of (only seat.old.me.0)) object) (lagging call.now mirror.old) }
     ensures seat { (seat.new.table_id ≡ seat.old.table_id) × (seat.new.me ≡ (only seat.new.me.0 ∷ [], [])) }
     ensures frame { IsSameFrame mirror.old mirror.new }
+    ensures idle { IsIdle call.now mirror.new }
     ensures leads { Leads (heap_in setting.now) call.now.task
         (only seat.old.me.0) (leave_end call.now (local_of (only seat.old.me.0)) object) (lagging call.now mirror.old)
         (only seat.new.me.0) (exit_over) mirror.new }
@@ -96,12 +99,10 @@ pub fn leave_hold(
     };
     let entry = Entry::Exit { object };
     let act = Act::Store { word: 0 };
-    let last = logging(call, Stage::Settled, at, act, entry);
-    let found = step_in_table(words, setting, seat, last);
+    let clearing = logging(call, Stage::Settled, at, act, entry);
+    let found = step_in_table(words, setting, seat, clearing);
     mirror.note(entry, found);
-    mirror.holds.clear(place);
-    mirror.unfinished = None;
-    mirror.checking = call.check;
+    mirror.holds.clear(place, last);
 }
 
 /// Clears the hold word at this place, of which Exit was logged.
@@ -114,15 +115,18 @@ pub fn clear_hold(
     call: &CallContext,
     object: u32,
     place: u32,
+    last: bool,
 )
     requires setting { (words.now.shared.key ≡ setting.now)
         × (words.now.shared.table_id.words ≡ word_count setting.now.shape) }
     requires seat { (seat.old.table_id ≡ words.now.shared.table_id) × (seat.old.me ≡ (only seat.old.me.0 ∷ [], [])) }
-    requires place { place ≡ top_place object mirror.old.holds.words }
+    requires over { call.now.unfinished ≡ None }
+    requires may { MayClear call.now mirror.old object place last }
     requires amid { IsAmid (heap_in setting.now) call.now.task (only seat.old.me.0)
         (clear_end call.now (local_of (only seat.old.me.0)) object) (lagging call.now mirror.old) }
     ensures seat { (seat.new.table_id ≡ seat.old.table_id) × (seat.new.me ≡ (only seat.new.me.0 ∷ [], [])) }
     ensures frame { IsSameFrame mirror.old mirror.new }
+    ensures idle { IsIdle call.now mirror.new }
     ensures leads { Leads (heap_in setting.now) call.now.task
         (only seat.old.me.0) (clear_end call.now (local_of (only seat.old.me.0)) object) (lagging call.now mirror.old)
         (only seat.new.me.0) (exit_over) mirror.new }
@@ -131,11 +135,9 @@ pub fn clear_hold(
         thread: mirror.thread,
         place,
     };
-    let last = quiet(call, Stage::Settled, at, Act::Store { word: 0 });
-    step_in_table(words, setting, seat, last);
-    mirror.holds.clear(place);
-    mirror.unfinished = call.unfinished;
-    mirror.checking = call.check;
+    let clearing = quiet(call, Stage::Settled, at, Act::Store { word: 0 });
+    step_in_table(words, setting, seat, clearing);
+    mirror.holds.clear(place, last);
 }
 
 /// By the lock record that the mark names: the mark is exchanged for the header, which logs Exit.
@@ -149,16 +151,20 @@ pub fn leave_record(
     object: u32,
     header: u64,
     mark: u64,
+    at: usize,
     place: u32,
+    last: bool,
 ) -> QuickExit
     requires setting { (words.now.shared.key ≡ setting.now)
         × (words.now.shared.table_id.words ≡ word_count setting.now.shape) }
     requires seat { (seat.old.table_id ≡ words.now.shared.table_id) × (seat.old.me ≡ (only seat.old.me.0 ∷ [], [])) }
-    requires may { MayLeave mirror.old object place }
+    requires at { at ≡ place_of setting.now.shape (Mark object) }
+    requires may { MayLeave call.now mirror.old object place last }
     requires amid { IsAmid (heap_in setting.now) call.now.task (only seat.old.me.0)
         (record_exit call.now (local_of (only seat.old.me.0)) object header mark) (lagging call.now mirror.old) }
     ensures seat { (seat.new.table_id ≡ seat.old.table_id) × (seat.new.me ≡ (only seat.new.me.0 ∷ [], [])) }
     ensures frame { IsSameFrame mirror.old mirror.new }
+    ensures idle { LeavesIdle result call.now mirror.new }
     ensures start { KeepsExit object result (only seat.old.me.0) (only seat.new.me.0) }
     ensures leads { Leads (heap_in setting.now) call.now.task
         (only seat.old.me.0) (record_exit call.now (local_of (only seat.old.me.0)) object header mark) (lagging call.now mirror.old)
@@ -171,7 +177,7 @@ pub fn leave_record(
     };
     let stage = Stage::Exits { object, place };
     let first = logging(call, stage, WordId::Mark { object }, act, entry);
-    let found = step_in_table(words, setting, seat, first);
+    let found = step_at(words, setting, seat, at, first);
     if found != mark {
         mirror.unfinished = call.unfinished;
         mirror.checking = call.check;
@@ -181,12 +187,21 @@ pub fn leave_record(
         };
     }
     mirror.note(entry, found);
-    clear_hold(words, setting, seat, mirror, &over(call), object, place);
+    clear_hold(
+        words,
+        setting,
+        seat,
+        mirror,
+        &over(call),
+        object,
+        place,
+        last,
+    );
     QuickExit::Left
 }
 
 /// The monitor, which the thread owns, has this number of recursions above 0: they are lowered.
-#[inline(never)]
+#[inline(always)]
 pub fn lower(
     words: &Words,
     setting: &Setting,
@@ -197,16 +212,18 @@ pub fn lower(
     monitor: u32,
     recursions: u64,
     place: u32,
+    last: bool,
 )
     requires setting { (words.now.shared.key ≡ setting.now)
         × (words.now.shared.table_id.words ≡ word_count setting.now.shape) }
     requires seat { (seat.old.table_id ≡ words.now.shared.table_id) × (seat.old.me ≡ (only seat.old.me.0 ∷ [], [])) }
-    requires may { MayLeave mirror.old object place }
+    requires may { MayLeave call.now mirror.old object place last }
     requires some { 0 < recursions }
     requires amid { IsAmid (heap_in setting.now) call.now.task (only seat.old.me.0)
         (recursions_exit call.now (local_of (only seat.old.me.0)) object monitor recursions) (lagging call.now mirror.old) }
     ensures seat { (seat.new.table_id ≡ seat.old.table_id) × (seat.new.me ≡ (only seat.new.me.0 ∷ [], [])) }
     ensures frame { IsSameFrame mirror.old mirror.new }
+    ensures idle { IsIdle call.now mirror.new }
     ensures leads { Leads (heap_in setting.now) call.now.task
         (only seat.old.me.0) (recursions_exit call.now (local_of (only seat.old.me.0)) object monitor recursions) (lagging call.now mirror.old)
         (only seat.new.me.0) (exit_over) mirror.new }
@@ -220,7 +237,7 @@ pub fn lower(
         Act::Store { word },
     );
     step_in_table(words, setting, seat, first);
-    leave_hold(words, setting, seat, mirror, call, object, place);
+    leave_hold(words, setting, seat, mirror, call, object, place, last);
 }
 
 /// The monitor, which the thread owns, has no recursions: its owner word is cleared, which logs Exit.
@@ -234,15 +251,17 @@ pub fn release(
     object: u32,
     monitor: u32,
     place: u32,
+    last: bool,
 )
     requires setting { (words.now.shared.key ≡ setting.now)
         × (words.now.shared.table_id.words ≡ word_count setting.now.shape) }
     requires seat { (seat.old.table_id ≡ words.now.shared.table_id) × (seat.old.me ≡ (only seat.old.me.0 ∷ [], [])) }
-    requires may { MayLeave mirror.old object place }
+    requires may { MayLeave call.now mirror.old object place last }
     requires amid { IsAmid (heap_in setting.now) call.now.task (only seat.old.me.0)
         (release_exit call.now (local_of (only seat.old.me.0)) object monitor) (lagging call.now mirror.old) }
     ensures seat { (seat.new.table_id ≡ seat.old.table_id) × (seat.new.me ≡ (only seat.new.me.0 ∷ [], [])) }
     ensures frame { IsSameFrame mirror.old mirror.new }
+    ensures idle { IsIdle call.now mirror.new }
     ensures leads { Leads (heap_in setting.now) call.now.task
         (only seat.old.me.0) (release_exit call.now (local_of (only seat.old.me.0)) object monitor) (lagging call.now mirror.old)
         (only seat.new.me.0) (exit_over) mirror.new }
@@ -258,7 +277,16 @@ pub fn release(
     );
     let freed = step_in_table(words, setting, seat, first);
     mirror.note(entry, freed);
-    clear_hold(words, setting, seat, mirror, &over(call), object, place);
+    clear_hold(
+        words,
+        setting,
+        seat,
+        mirror,
+        &over(call),
+        object,
+        place,
+        last,
+    );
 }
 
 /// By this monitor, which the mark names.
@@ -272,15 +300,17 @@ pub fn leave_monitor(
     object: u32,
     monitor: u32,
     place: u32,
+    last: bool,
 ) -> QuickExit
     requires setting { (words.now.shared.key ≡ setting.now)
         × (words.now.shared.table_id.words ≡ word_count setting.now.shape) }
     requires seat { (seat.old.table_id ≡ words.now.shared.table_id) × (seat.old.me ≡ (only seat.old.me.0 ∷ [], [])) }
-    requires may { MayLeave mirror.old object place }
+    requires may { MayLeave call.now mirror.old object place last }
     requires amid { IsAmid (heap_in setting.now) call.now.task (only seat.old.me.0)
         (monitor_exit call.now (local_of (only seat.old.me.0)) object monitor) (lagging call.now mirror.old) }
     ensures seat { (seat.new.table_id ≡ seat.old.table_id) × (seat.new.me ≡ (only seat.new.me.0 ∷ [], [])) }
     ensures frame { IsSameFrame mirror.old mirror.new }
+    ensures idle { LeavesIdle result call.now mirror.new }
     ensures start { KeepsExit object result (only seat.old.me.0) (only seat.new.me.0) }
     ensures leads { Leads (heap_in setting.now) call.now.task
         (only seat.old.me.0) (monitor_exit call.now (local_of (only seat.old.me.0)) object monitor) (lagging call.now mirror.old)
@@ -306,10 +336,12 @@ pub fn leave_monitor(
     );
     let recursions = step_in_table(words, setting, seat, second);
     if recursions == 0 {
-        release(words, setting, seat, mirror, call, object, monitor, place);
+        release(
+            words, setting, seat, mirror, call, object, monitor, place, last,
+        );
     } else {
         lower(
-            words, setting, seat, mirror, call, object, monitor, recursions, place,
+            words, setting, seat, mirror, call, object, monitor, recursions, place, last,
         );
     }
     QuickExit::Left
@@ -326,43 +358,47 @@ pub fn leave_marked(
     object: u32,
     header: u64,
     mark: u64,
+    at: usize,
     place: u32,
+    last: bool,
 ) -> QuickExit
     requires setting { (words.now.shared.key ≡ setting.now)
         × (words.now.shared.table_id.words ≡ word_count setting.now.shape) }
     requires seat { (seat.old.table_id ≡ words.now.shared.table_id) × (seat.old.me ≡ (only seat.old.me.0 ∷ [], [])) }
-    requires may { MayLeave mirror.old object place }
+    requires at { at ≡ place_of setting.now.shape (Mark object) }
+    requires may { MayLeave call.now mirror.old object place last }
+    requires found { read_mark mark ≢ None }
     requires amid { IsAmid (heap_in setting.now) call.now.task (only seat.old.me.0)
         (marked_exit call.now (local_of (only seat.old.me.0)) object header mark) (lagging call.now mirror.old) }
     ensures seat { (seat.new.table_id ≡ seat.old.table_id) × (seat.new.me ≡ (only seat.new.me.0 ∷ [], [])) }
     ensures frame { IsSameFrame mirror.old mirror.new }
+    ensures idle { LeavesIdle result call.now mirror.new }
     ensures start { KeepsExit object result (only seat.old.me.0) (only seat.new.me.0) }
     ensures leads { Leads (heap_in setting.now) call.now.task
         (only seat.old.me.0) (marked_exit call.now (local_of (only seat.old.me.0)) object header mark) (lagging call.now mirror.old)
         (only seat.new.me.0) (exit_left call.now (local_of (only seat.old.me.0)) object result) mirror.new }
 {
-    match mark_of_word(mark) {
-        Some(form) => match form {
-            MarkForm::Locked { .. } => {
-                leave_record(
-                    words, setting, seat, mirror, call, object, header, mark, place,
-                )
-            }
-            MarkForm::Inflated { monitor } => {
-                leave_monitor(words, setting, seat, mirror, call, object, monitor, place)
-            }
-            MarkForm::Inflating => {
-                mirror.unfinished = call.unfinished;
-                mirror.checking = call.check;
-                QuickExit::Inflating
-            }
-            _ => unreachable!(),
-        },
-        None => unreachable!(),
+    match form_of(mark) {
+        MarkForm::Locked { .. } => {
+            leave_record(
+                words, setting, seat, mirror, call, object, header, mark, at, place, last,
+            )
+        }
+        MarkForm::Inflated { monitor } => {
+            leave_monitor(
+                words, setting, seat, mirror, call, object, monitor, place, last,
+            )
+        }
+        MarkForm::Inflating => {
+            mirror.unfinished = call.unfinished;
+            mirror.checking = call.check;
+            QuickExit::Inflating
+        }
+        _ => unreachable!(),
     }
 }
 
-/// By a mark without the bias pattern. The object's stamp has this place.
+/// By a mark without the bias pattern. The object's words begin at this place.
 #[inline(always)]
 pub fn leave_unbiased(
     words: &Words,
@@ -372,40 +408,43 @@ pub fn leave_unbiased(
     call: &CallContext,
     object: u32,
     depth: u32,
-    stamp_at: usize,
+    at: usize,
     place: u32,
+    last: bool,
 ) -> QuickExit
     requires setting { (words.now.shared.key ≡ setting.now)
         × (words.now.shared.table_id.words ≡ word_count setting.now.shape) }
     requires seat { (seat.old.table_id ≡ words.now.shared.table_id) × (seat.old.me ≡ (only seat.old.me.0 ∷ [], [])) }
-    requires may { MayLeave mirror.old object place }
+    requires may { MayLeave call.now mirror.old object place last }
     requires depth { depth ≡ hold_count object mirror.old.holds.words }
-    requires stamp { stamp_at ≡ place_of setting.now.shape (WordId.Stamp object) }
+    requires at { at ≡ place_of setting.now.shape (Mark object) }
+    requires low { at + 1 < 2 ^ 64 }
     requires next { mirror.old.last + 1 < 2 ^ 64 }
     requires amid { IsAmid (heap_in setting.now) call.now.task (only seat.old.me.0)
         (unbiased_exit call.now (local_of (only seat.old.me.0)) object) (lagging call.now mirror.old) }
     ensures seat { (seat.new.table_id ≡ seat.old.table_id) × (seat.new.me ≡ (only seat.new.me.0 ∷ [], [])) }
     ensures frame { IsSameFrame mirror.old mirror.new }
+    ensures idle { LeavesIdle result call.now mirror.new }
     ensures start { KeepsExit object result (only seat.old.me.0) (only seat.new.me.0) }
     ensures leads { Leads (heap_in setting.now) call.now.task
         (only seat.old.me.0) (unbiased_exit call.now (local_of (only seat.old.me.0)) object) (lagging call.now mirror.old)
         (only seat.new.me.0) (exit_left call.now (local_of (only seat.old.me.0)) object result) mirror.new }
 {
     let next = mirror.last + 1;
-    raise_at(words, setting, seat, call, object, depth, stamp_at, next);
-    let at = WordId::Displaced {
+    raise_at(words, setting, seat, call, object, depth, at + 1, next);
+    let record = WordId::Displaced {
         thread: mirror.thread,
         place,
     };
-    let first = quiet(call, Stage::Settled, at, Act::Load);
+    let first = quiet(call, Stage::Settled, record, Act::Load);
     let header = step_in_table(words, setting, seat, first);
     if header == 0 {
-        leave_hold(words, setting, seat, mirror, call, object, place);
+        leave_hold(words, setting, seat, mirror, call, object, place, last);
         return QuickExit::Left;
     }
     let second = quiet(call, Stage::Settled, WordId::Mark { object }, Act::Load);
-    let mark = step_in_table(words, setting, seat, second);
+    let mark = step_at(words, setting, seat, at, second);
     leave_marked(
-        words, setting, seat, mirror, call, object, header, mark, place,
+        words, setting, seat, mirror, call, object, header, mark, at, place, last,
     )
 }

@@ -1,5 +1,5 @@
 //! What words say, as the definitions read them.
-ghost use Rattle.std.specs.Prelude.{◌≡◌, ◌≢◌, ℕ, ◌+◌, ◌*◌, ◌<◌, ◌≤◌, ◌^◌, nat_lt, true, None};
+ghost use Rattle.std.specs.Prelude.{◌≡◌, ◌≢◌, ℕ, ◌+◌, ◌*◌, ◌<◌, ◌≤◌, ◌^◌, nat_lt, true, None, Some};
 ghost use Rattle.heap_table.specs.Own.{IsOwn};
 ghost use Rattle.heap_table.specs.inner.Prototypes.{IsPrototypeForm};
 ghost use Rattle.mark_word.specs.Hold.{read_hold};
@@ -48,6 +48,47 @@ pub(crate) fn has_bias_bits(mark: u64) -> bool
     ensures { result ≡ is_biased mark }
 {
     mark % 8 == 0b101
+}
+
+/// What a mark says that says something: then few of its bits tell.
+#[inline(always)]
+pub(crate) fn form_of(word: u64) -> MarkForm
+    requires { read_mark word ≢ None }
+    ensures { Some result ≡ read_mark word }
+{
+    if word % 4 == 2 {
+        return MarkForm::Inflated {
+            monitor: (word / 8 - 1) as u32,
+        };
+    }
+    if word % 4 == 0 {
+        if word == 0 {
+            return MarkForm::Inflating;
+        }
+        return MarkForm::Locked {
+            thread: (word / 4096 - 1) as u32,
+            place: (word / 8 % 512) as u32,
+        };
+    }
+    let age = (word / 8 % 32) as u8;
+    if word % 8 == 1 {
+        return MarkForm::Neutral {
+            hash: (word / 256) as u32,
+            age,
+        };
+    }
+    if word % 8 == 3 {
+        return MarkForm::Marked;
+    }
+    let epoch = (word / 256 % 4) as u8;
+    if word / 1024 == 0 {
+        return MarkForm::Anonymous { epoch, age };
+    }
+    MarkForm::Biased {
+        thread: (word / 1024 - 1) as u32,
+        epoch,
+        age,
+    }
 }
 
 /// Whether this mark, which has the bias pattern, is a bias to the thread that is valid by the prototype. Where it isn't said, it may be one

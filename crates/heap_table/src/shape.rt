@@ -125,7 +125,8 @@ impl HeapShape {
     #[inline(always)]
     pub fn mark_at(&self, object: u32) -> usize
         requires { object < many self.now }
-        ensures { result ≡ place_of self.now (WordId.Mark object) }
+        ensures place { result ≡ place_of self.now (WordId.Mark object) }
+        ensures low { result < 1000000 }
     {
         self.group_at(object)
     }

@@ -12,7 +12,6 @@ use Rattle.core_world.specs.declared.answer.BiasTry.{BiasTry}
 use Rattle.core_world.specs.declared.answer.BiasTry.TheVariants.{Valid}
 use Rattle.core_world.specs.declared.answer.Progress.{Progress}
 use Rattle.core_world.specs.declared.answer.IllegalMonitorState.{IllegalMonitorState}
-use Rattle.core_world.specs.declared.answer.StackOut.{StackOut}
 use Rattle.core_world.specs.declared.answer.TooDeep.{TooDeep}
 use Rattle.core_world.specs.declared.heap_call.HeapCall.{HeapCall}
 use Rattle.core_world.specs.declared.heap_call.HeapCall.TheVariants.{Enter, Exit}
@@ -22,9 +21,8 @@ use Rattle.core_world.specs.Locks.{hold_count}
 use Rattle.core_world.specs.Threads.Stages.{Revocation}
 use Rattle.core_world.specs.Trees.BiasSteps.{bias_enter_at, bias_enter_by, bias_valid_steps, rebias_steps, took_steps}
 use Rattle.core_world.specs.Trees.Calls.{steps_of}
-use Rattle.core_world.specs.Trees.LockSteps.{stack_exit_steps}
 use Rattle.core_world.specs.Trees.MonitorSteps.{monitor_enter_at}
-use Rattle.core_world.specs.Trees.Operations.{answer, exit_at, exit_going, exit_steps, enter_going, enter_steps, enter_tried, full_steps}
+use Rattle.core_world.specs.Trees.Operations.{answer, exit_going, exit_steps, enter_going, enter_steps, enter_tried, full_steps}
 use Rattle.core_world.specs.Trees.Plans.{CallContext, done_with, free_place}
 use Rattle.core_world.specs.Trees.StepTree.{StepTree, done, ◌>>=◌}
 use Rattle.core_world.specs.Words.Shape.{Shape}
@@ -32,7 +30,7 @@ use Rattle.core_calls.proofs.enter_exit.EntersSay.{enter_says, exit_says}
 use Rattle.core_calls.proofs.Runs.{tells}
 use Rattle.heap_table.specs.ExitParts.{owned_exit}
 use Rattle.heap_table.specs.Parts.{IsDueOn, HasMadeSteps}
-use Rattle.heap_table.specs.Quick.{IsBegun, entering, entered, leaving, marked_enter, owner_enter, owner_exit, prototype_enter, unbiased_exit}
+use Rattle.heap_table.specs.Quick.{IsBegun, entering, entered, leaving, marked_enter, owner_enter, owner_exit, prototype_enter}
 use Rattle.heap_table.specs.Resting.{MayOperate, Rests, start_now}
 use Rattle.heap_table.specs.Seen.{HeapSeen, PassSeen}
 use Rattle.heap_table.proofs.Resting.{IsCallOf, rests_after}
@@ -89,40 +87,6 @@ module _ {A E : Type 0} {h : HeapSeen} {t : HeapCall} {p q : PassSeen} {whole : 
   left_made {r = r} {a = a} made = begun.left.whole r (Ok a)
       (then_ends (answer {A = Progress A} {E = E}) refl (subst (λ x. HasMadeSteps h x q r a) (sym same) made))
 
--- Where what is left of a call was begun by itself, and came further, the call came so far, too.
-module _ {A E : Type 0} {h : HeapSeen} {t : HeapCall} {p q : PassSeen} {whole : StepTree (Result (Progress A) E)} {d : Start → StepTree (Progress A)}
-    (alike : (k l : Start) → k.local ≡ l.local → k.kept ≡ l.kept → d k ≡ d l)
-    (begun : IsBegun h t p whole q (d (start_now h p) >>= answer)) where
-  since : d (start_now h p) ≡ d (start_now h q)
-  since = alike (start_now h p) (start_now h q) (sym begun.local) (sym begun.kept)
-
-  -- all that is left, as the call knows it now
-  abbrev rest : (Start → StepTree (Progress A)) → Start → StepTree (Result (Progress A) E)
-  rest x k = x k >>= answer {A = Progress A} {E = E}
-
-  pub rest_left : IsDueOn h q t (rest d (start_now h q))
-  rest_left = subst (λ (x : StepTree (Progress A)). IsDueOn h q t (x >>= answer {A = Progress A} {E = E})) since begun.left.due
-
-  pub further_made : {r : PassSeen} {a : Result (Progress A) E} → HasMadeSteps h (rest d (start_now h q)) q r a → HasMadeSteps h whole p r a
-  further_made {r = r} {a = a} made =
-      begun.left.whole r a (subst (λ (x : StepTree (Progress A)). HasMadeSteps h (x >>= answer {A = Progress A} {E = E}) q r a) (sym since) made)
-
-  pub further_begun : {r : PassSeen} {x : Start → StepTree (Progress A)} → ((k l : Start) → k.local ≡ l.local → k.kept ≡ l.kept → x k ≡ x l)
-      → IsBegun h t q (rest d (start_now h q)) r (rest x (start_now h q)) → IsBegun h t p whole r (rest x (start_now h p))
-  further_begun {r = r} {x = x} x_alike further =
-      let same : x (start_now h q) ≡ x (start_now h p) = x_alike (start_now h q) (start_now h p) begun.local begun.kept in
-      let left = subst (λ (y : StepTree (Progress A)). AreLeft h t q (rest d (start_now h q)) r (y >>= answer {A = Progress A} {E = E})) same further.left in
-      record {
-        left = record {
-          heap = left.heap;
-          due = left.due;
-          whole = λ z a run. further_made (left.whole z a run);
-        };
-        limit = further.limit ∙ begun.limit;
-        local = further.local ∙ begun.local;
-        kept = further.kept ∙ begun.kept;
-      }
-
 module _ (h : HeapSeen) (p : PassSeen) (o now : ℕ) (may : MayOperate h p (Enter o now)) where
   abbrev whole : StepTree (Result (Progress Path) TooDeep)
   whole = enter_steps h.heap.shape (start_now h p) o now
@@ -161,9 +125,6 @@ owner_alike o now m found k l local kept = ap (λ (x : Local). monitor_enter_at 
 -- THE EXIT goes by the thread's own words alone.
 pub exit_alike : (o m owner : ℕ) (k l : Start) → k.local ≡ l.local → k.kept ≡ l.kept → owner_exit k o m owner ≡ owner_exit l o m owner
 exit_alike o m owner k l local kept = λ i. owned_exit (read_owner owner) (leaving o) (local i) o m >>= (λ _. done_with (tt {0}))
-
-pub unbiased_alike_of : (o : ℕ) (k l : Start) → k.local ≡ l.local → k.kept ≡ l.kept → unbiased_exit k o ≡ unbiased_exit l o
-unbiased_alike_of o k l local kept = λ i. stack_exit_steps (leaving o) (local i) o >>= (λ (out : StackOut). exit_at out (leaving o) (local i) o)
 
 module _ (h : HeapSeen) (p : PassSeen) (o : ℕ) (may : MayOperate h p (Exit o)) where
   abbrev whole_exit : StepTree (Result (Progress (Unit {0})) IllegalMonitorState)

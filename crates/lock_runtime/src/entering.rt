@@ -228,9 +228,10 @@ fn enter_slowly(
     Ok(enter_placed(heap, pass, &context, &bias))
 }
 
-// The mark was found, which has no bias pattern, and the quick way goes no further.
+/// Goes on with an enter of which `quick_enter` has loaded this mark, which has no bias pattern. From the pass on which it
+/// began, this is what `enter` does and answers.
 #[inline(never)]
-fn enter_from_mark_slowly(
+pub fn enter_from_mark(
     heap: &Heap,
     pass: &mut Pass,
     object: u32,
@@ -319,55 +320,6 @@ pub fn enter_from_prototype(
     enter_by_prototype(heap, pass, object, now, mark, prototype)
 }
 
-/// Goes on with an enter of which `quick_enter` has loaded this mark, which has no bias pattern: by the quick way as far as that comes. From the pass
-/// on which it began, this is what `enter` does and answers.
-#[inline(always)]
-pub fn enter_from_mark(
-    heap: &Heap,
-    pass: &mut Pass,
-    object: u32,
-    now: u64,
-    mark: u64,
-) -> Progress<Path>
-    requires { IsAmidEnter heap.now pass.old object now (enters.Unbiased mark) }
-    ensures rests { Rests heap.now pass.new }
-    ensures whole { EndsEnter heap.now pass.old pass.new object now (enters.Unbiased mark) result }
-{
-    match heap.quick_enter_marked(pass, object, now, mark) {
-        QuickEnter::Not => enter_from_mark_slowly(heap, pass, object, now, mark),
-        QuickEnter::Done { path } => Progress::Done(path),
-        QuickEnter::Raced { expected, found } => {
-            Progress::Pending(PendingCause::Raced { expected, found })
-        }
-        QuickEnter::Unbiased { mark: found } => {
-            enter_from_mark_slowly(heap, pass, object, now, found)
-        }
-        QuickEnter::Biased {
-            mark: found,
-            prototype,
-        } => enter_from_prototype(heap, pass, object, now, found, prototype),
-        QuickEnter::Taken { monitor, found } => {
-            enter_from_owner(heap, pass, object, now, monitor, found)
-        }
-    }
-}
-
-// The same, out of line.
-#[inline(never)]
-fn enter_from_mark_apart(
-    heap: &Heap,
-    pass: &mut Pass,
-    object: u32,
-    now: u64,
-    mark: u64,
-) -> Progress<Path>
-    requires { IsAmidEnter heap.now pass.old object now (enters.Unbiased mark) }
-    ensures rests { Rests heap.now pass.new }
-    ensures whole { EndsEnter heap.now pass.old pass.new object now (enters.Unbiased mark) result }
-{
-    enter_from_mark(heap, pass, object, now, mark)
-}
-
 /// Takes a hold of the object. `now` is the moment for the policy of bulk operations, in milliseconds from 1.
 ///
 /// `Done(path)` says that the thread has one more hold, by this path: the Enter is logged, and nothing is unfinished.
@@ -396,6 +348,9 @@ pub fn enter(heap: &Heap, pass: &mut Pass, object: u32, now: u64) -> Result<Prog
     ensures stands { StandsOrSame pass.old.known pass.new.known result }
     ensures others { PendsOrRefused pass.old.known.thread result }
 {
+    if !pass.is_free() {
+        return enter_slowly(heap, pass, object, now);
+    }
     match heap.quick_enter(pass, object, now) {
         QuickEnter::Not => enter_slowly(heap, pass, object, now),
         QuickEnter::Done { path } => Ok(Progress::Done(path)),
@@ -403,7 +358,7 @@ pub fn enter(heap: &Heap, pass: &mut Pass, object: u32, now: u64) -> Result<Prog
             expected,
             found,
         })),
-        QuickEnter::Unbiased { mark } => Ok(enter_from_mark_apart(heap, pass, object, now, mark)),
+        QuickEnter::Unbiased { mark } => Ok(enter_from_mark(heap, pass, object, now, mark)),
         QuickEnter::Biased { mark, prototype } => {
             Ok(enter_from_prototype(heap, pass, object, now, mark, prototype))
         }

@@ -117,51 +117,6 @@ pub fn exit_from_owner(
     Progress::Done(())
 }
 
-/// Goes on with an exit of which `quick_exit` has found that the mark has no bias pattern, and whose newest hold is at this place, and is the one of this
-/// depth. From the pass on which it began, this is what `exit` does and answers.
-#[inline(always)]
-pub fn exit_from_mark(
-    heap: &Heap,
-    pass: &mut Pass,
-    object: u32,
-    depth: u32,
-    place: u32,
-) -> Progress<()>
-    requires { IsAmidExit heap.now pass.old object (exits.Unbiased depth place) }
-    ensures rests { Rests heap.now pass.new }
-    ensures whole { EndsExit heap.now pass.old pass.new object (exits.Unbiased depth place) result }
-{
-    match heap.quick_exit_unbiased(pass, object, depth, place) {
-        QuickExit::Left => Progress::Done(()),
-        QuickExit::Inflating => Progress::Pending(PendingCause::Inflating),
-        QuickExit::Raced { expected, found } => {
-            Progress::Pending(PendingCause::Raced { expected, found })
-        }
-        QuickExit::Owned {
-            monitor,
-            owner,
-            place: newest,
-        } => exit_from_owner(heap, pass, object, monitor, owner, newest),
-        QuickExit::Not | QuickExit::Unbiased { .. } => unreachable!(),
-    }
-}
-
-// The same, out of line.
-#[inline(never)]
-fn exit_from_mark_apart(
-    heap: &Heap,
-    pass: &mut Pass,
-    object: u32,
-    depth: u32,
-    place: u32,
-) -> Progress<()>
-    requires { IsAmidExit heap.now pass.old object (exits.Unbiased depth place) }
-    ensures rests { Rests heap.now pass.new }
-    ensures whole { EndsExit heap.now pass.old pass.new object (exits.Unbiased depth place) result }
-{
-    exit_from_mark(heap, pass, object, depth, place)
-}
-
 /// Leaves the thread's newest hold of the object.
 ///
 /// `Done(())` says that it has: the Exit is logged, and nothing is unfinished.
@@ -185,6 +140,9 @@ pub fn exit(heap: &Heap, pass: &mut Pass, object: u32) -> Result<Progress<()>, I
     ensures stands { StandsOrSame pass.old.known pass.new.known result }
     ensures owner { IsRefusedUnheld pass.old.known.log object result }
 {
+    if !pass.is_free() {
+        return exit_slowly(heap, pass, object);
+    }
     match heap.quick_exit(pass, object) {
         QuickExit::Not => exit_slowly(heap, pass, object),
         QuickExit::Left => Ok(Progress::Done(())),
@@ -193,9 +151,6 @@ pub fn exit(heap: &Heap, pass: &mut Pass, object: u32) -> Result<Progress<()>, I
             expected,
             found,
         })),
-        QuickExit::Unbiased { depth, place } => {
-            Ok(exit_from_mark_apart(heap, pass, object, depth, place))
-        }
         QuickExit::Owned {
             monitor,
             owner,

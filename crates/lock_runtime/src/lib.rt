@@ -19,7 +19,7 @@ mod waiting;
 
 pub use entering::{enter, enter_from_mark, enter_from_owner, enter_from_prototype};
 pub use hashing::hash;
-pub use leaving::{exit, exit_from_mark, exit_from_owner, exit_held};
+pub use leaving::{exit, exit_from_owner, exit_held};
 pub use looking::{check_stuck, dump};
 pub use making::create;
 pub use running::{poll, resume, stop};

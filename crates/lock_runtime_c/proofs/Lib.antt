@@ -1,6 +1,6 @@
 mod AsBox
 mod Begins
-mod Exits
+mod NeverFull
 mod Keeps
 mod LogRoom
 mod MayBegin

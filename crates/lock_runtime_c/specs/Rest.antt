@@ -4,7 +4,9 @@ use Rattle.plain_monitor.specs.Limits.{most_threads, most_classes, most_slots, m
 use Rattle.heap_table.specs.Resting.{Rests}
 use Rattle.heap_table.specs.Seen.{HeapSeen, PassSeen}
 use Rattle.lock_runtime_c.specs.LogRoom.{KeepsRoom}
+use Rattle.heap_table.specs.Quick.{IsFree}
 use Rattle.lock_runtime_c.specs.declared.inner.Plan.{Plan}
+use Rattle.lock_runtime_c.specs.declared.inner.Seat.{Seat}
 use Rattle.lock_runtime_c.specs.declared.inner.Inner.{Inner}
 use Rattle.lock_runtime_c.specs.declared.inner.Inner.TheVariants as inner
 
@@ -34,8 +36,13 @@ pub record IsHome (h : HeapSeen) (t : ℕ) (p : PassSeen) : Type 0 where
   pub stopped : p.known.running ≡ false
   pub quiet : (p.known.requesting ≡ false) ⊎ (p.known.halted ≡ true)
 
+-- So between two calls of C. Where the seat says that the pass is free, it is.
+pub record IsAtRest (s : Seat) : Type 0 where
+  pub seated : IsSeated s.room.value.heap s.lent.place s.lent.thing
+  pub free : s.free ≡ true → IsFree s.lent.thing.known
+
 -- what a heap has at home its own fields say
 abbrev pub RestsWithin : Inner → Type 0
 RestsWithin (inner.Plan p) = IsInLimits p
-RestsWithin (inner.Seat s) = IsSeated s.room.value.heap s.lent.place s.lent.thing
+RestsWithin (inner.Seat s) = IsAtRest s
 RestsWithin _ = Unit {0}

@@ -70,8 +70,9 @@ fn hash(heap: &Heap, pass: &mut Pass, object: u32, now: u64) -> Outcome
     hashed(runtime::hash(heap, pass, object, now))
 }
 
+/// A get that may begin.
 #[inline(always)]
-fn get(heap: &Heap, pass: &mut Pass, object: u32, slot: u32) -> Outcome
+pub fn get(heap: &Heap, pass: &mut Pass, object: u32, slot: u32) -> Outcome
     requires { MayOperate heap.now pass.old (task.Get object slot) }
     ensures rests { Rests heap.now pass.new }
     ensures limit { pass.new.limit ≡ pass.old.limit }
@@ -80,8 +81,9 @@ fn get(heap: &Heap, pass: &mut Pass, object: u32, slot: u32) -> Outcome
     got(runtime::get(heap, pass, object, slot))
 }
 
+/// A put that may begin.
 #[inline(always)]
-fn put(heap: &Heap, pass: &mut Pass, object: u32, slot: u32, value: Value) -> Outcome
+pub fn put(heap: &Heap, pass: &mut Pass, object: u32, slot: u32, value: Value) -> Outcome
     requires { MayOperate heap.now pass.old (task.Put object slot value) }
     ensures rests { Rests heap.now pass.new }
     ensures limit { pass.new.limit ≡ pass.old.limit }

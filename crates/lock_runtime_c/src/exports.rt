@@ -3,10 +3,12 @@ ghost use Rattle.core_world.specs.declared.heap_call.HeapCall.TheVariants.{Enter
 ghost use Rattle.lock_runtime_c.specs.ByHandle.{Answers, IsNeverFull};
 ghost use Rattle.plain_monitor.specs.declared.entry.Ending.TheVariants as ending;
 
-use crate::access::{answer_by, make_by};
+use crate::access::make_by;
 use crate::answers::{Answer, answered};
-use crate::calls::{EnterCall, ExitCall, PollCall};
+use crate::enters::enter_by;
+use crate::exits::exit_by;
 use crate::handle::Slot;
+use crate::polls::poll_by;
 use core_world::HeapCall;
 use plain_monitor::Ending;
 use std::alloc::Global;
@@ -15,7 +17,7 @@ use std::alloc::Global;
 pub extern "C" fn biasrun_poll(alloc: Global, at: &mut Slot) -> Answer
     ensures { Answers at.old at.new Poll result }
 {
-    answer_by(alloc, at, PollCall)
+    poll_by(alloc, at)
 }
 
 #[unsafe(no_mangle)]
@@ -43,7 +45,7 @@ pub extern "C" fn biasrun_check_stuck(alloc: Global, at: &mut Slot) -> Answer
 pub extern "C" fn biasrun_enter(alloc: Global, at: &mut Slot, object: u32, now: u64) -> Answer
     ensures { Answers at.old at.new (Enter object now) result }
 {
-    answer_by(alloc, at, EnterCall { object, now })
+    enter_by(alloc, at, object, now)
 }
 
 #[unsafe(no_mangle)]
@@ -51,7 +53,7 @@ pub extern "C" fn biasrun_exit(alloc: Global, at: &mut Slot, object: u32) -> Ans
     ensures told { Answers at.old at.new (Exit object) result }
     ensures full { IsNeverFull at.old result }
 {
-    answer_by(alloc, at, ExitCall { object })
+    exit_by(alloc, at, object)
 }
 
 #[unsafe(no_mangle)]

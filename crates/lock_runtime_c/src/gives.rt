@@ -3,7 +3,7 @@ ghost use Rattle.std.specs.Prelude.{◌≡◌, ◌≤◌, [], IfErr, IfOk, None,
 ghost use Rattle.lock_runtime_c.specs.ByHandle.{AnswersOf, ByHandleOf};
 ghost use Rattle.lock_runtime_c.specs.Leaving.{Empties, leave_reason, not_freed, not_left};
 ghost use Rattle.lock_runtime_c.specs.Closing.{Closes, ClosesHeap, IsLeftOf};
-ghost use Rattle.lock_runtime_c.specs.Rest.{IsHome, IsSeated, RestsWithin};
+ghost use Rattle.lock_runtime_c.specs.Rest.{IsAtRest, IsHome, RestsWithin};
 ghost use Rattle.lock_runtime_c.specs.inner.Parting.{MayLeave};
 ghost use Rattle.lock_runtime_c.specs.declared.inner.Inner.TheVariants as inner;
 ghost use Rattle.lock_runtime_c.specs.declared.outcome.Misuse.TheVariants as misuse;
@@ -21,7 +21,7 @@ use std::sync::Arc;
 
 // Why the pass may not be given back. That of a halted run may, whatever its thread holds.
 fn may_not_leave(seat: &Seat) -> Option<Misuse>
-    requires { IsSeated seat.now.room.value.heap seat.now.lent.place seat.now.lent.thing }
+    requires { IsAtRest seat.now }
     ensures why { result ≡ leave_reason seat.now.lent.thing }
     ensures home { result ≡ None → IsHome seat.now.room.value.heap seat.now.lent.place seat.now.lent.thing }
 {

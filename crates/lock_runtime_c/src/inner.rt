@@ -36,6 +36,8 @@ pub struct Seat {
     pub lent: Lent,
     /// The page of the log that was handed out last. The next one gets its room.
     pub page: Vec<Logged>,
+    /// It is known that the thread runs, and is in the middle of nothing.
+    pub free: bool,
     pub ghost of_the_room: { lent.seat.table_id ≡ room.value.passes.table.shared.table_id },
 }
 

@@ -7,6 +7,8 @@
 mod access;
 mod answers;
 mod calls;
+mod enters;
+mod exits;
 mod exports;
 mod gives;
 mod handle;
@@ -19,6 +21,7 @@ mod numbers;
 mod opens;
 mod outcome;
 mod plans;
+mod polls;
 mod quickly;
 mod reads;
 mod reasons;

@@ -2,7 +2,7 @@
 ghost use Rattle.std.specs.Prelude.{◌≡◌, [], IfErr, IfOk, unwrap_or};
 ghost use Rattle.lock_runtime_c.specs.Left.{entry_answer, entry_row};
 ghost use Rattle.lock_runtime_c.specs.Pages.{HandsOut};
-ghost use Rattle.lock_runtime_c.specs.Rest.{IsSeated};
+ghost use Rattle.lock_runtime_c.specs.Rest.{IsAtRest};
 
 use crate::answers::{Answer, answered};
 use crate::inner::Seat;
@@ -16,8 +16,8 @@ use std::mem;
 /// Hands out the entries that the thread logged since its last page, which lie in the seat until the next page is handed out; and how
 /// many they are. The first time it takes memory, for one more page. Where there is none, the page before can't be read any more.
 pub fn take_page(alloc: Global, seat: &mut Seat) -> Result<u64, NoMemory>
-    requires { IsSeated seat.old.room.value.heap seat.old.lent.place seat.old.lent.thing }
-    ensures seated { IsSeated seat.new.room.value.heap seat.new.lent.place seat.new.lent.thing }
+    requires { IsAtRest seat.old }
+    ensures rests { IsAtRest seat.new }
     ensures room { seat.new.room ≡ seat.old.room }
     ensures page { IfOk result (λ count. HandsOut seat.old.lent.thing seat.new.lent.thing seat.new.page.items count) }
     ensures same { IfErr result (λ _. (seat.new.lent.thing ≡ seat.old.lent.thing) × (seat.new.page.items ≡ [])) }
@@ -28,6 +28,7 @@ pub fn take_page(alloc: Global, seat: &mut Seat) -> Result<u64, NoMemory>
         return Err(NoMemory);
     }
     seat.page = seat.lent.thing.take_page(&seat.room.heap, empty);
+    seat.free = seat.lent.thing.is_free();
     Ok(seat.page.len() as u64)
 }
 

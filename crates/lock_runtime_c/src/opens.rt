@@ -1,5 +1,5 @@
 //! How a heap begins, and how threads get their passes.
-ghost use Rattle.std.specs.Prelude.{◌≡◌, ◌<◌, ◌≤◌, ℕ, IfOk, vec_len};
+ghost use Rattle.std.specs.Prelude.{◌≡◌, ◌<◌, ◌≤◌, ℕ, IfOk, false, vec_len};
 ghost use Rattle.heap_table.specs.Fresh.{IsFresh};
 ghost use Rattle.heap_table.specs.Seen.{first_pass, first_passes};
 ghost use Rattle.plain_monitor.specs.Limits.{most_fuel, most_threads};
@@ -70,7 +70,8 @@ pub fn open(alloc: Global, plan: &Plan) -> Result<Arc<Room, Global>, NoMemory>
 
 /// The thread's pass, where it is at home.
 pub fn seat_of(alloc: Global, room: &Arc<Room, Global>, thread: u32) -> Result<Seat, Outcome>
-    ensures { SeatOf room.now.value.heap thread result }
+    ensures seat { SeatOf room.now.value.heap thread result }
+    ensures free { IfOk result (λ s. s.free ≡ false) }
 {
     let Ok(own) = Arc::try_clone(room) else {
         return Err(Outcome::NoMemory);
@@ -83,6 +84,7 @@ pub fn seat_of(alloc: Global, room: &Arc<Room, Global>, thread: u32) -> Result<S
             room: own,
             lent,
             page: Vec::new(alloc),
+            free: false,
         }),
         None => Err(Outcome::Misused(Misuse::PassTaken)),
     }

@@ -121,8 +121,9 @@ fn of_object(heap: &Heap, object: u32) -> Option<Misuse>
     }
 }
 
+/// What is wrong with the slot of a get.
 #[inline(always)]
-fn of_slot(heap: &Heap, object: u32, slot: u32) -> Option<Misuse>
+pub fn of_slot(heap: &Heap, object: u32, slot: u32) -> Option<Misuse>
     ensures { result ≡ reasons.of_slot heap.now.heap.shape object slot }
 {
     if object >= heap.shape().declared() {
@@ -157,9 +158,9 @@ fn of_value(heap: &Heap, value: Value) -> Option<Misuse>
     }
 }
 
-// What is wrong with what a put writes.
+/// What is wrong with what a put writes, and where.
 #[inline(always)]
-fn of_put(heap: &Heap, object: u32, slot: u32, value: Value) -> Option<Misuse>
+pub fn of_put(heap: &Heap, object: u32, slot: u32, value: Value) -> Option<Misuse>
     ensures { result ≡ reasons.or_else (reasons.of_slot heap.now.heap.shape object slot)
         (reasons.of_value heap.now.heap.shape value) }
 {

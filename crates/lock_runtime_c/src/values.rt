@@ -1,16 +1,23 @@
 //! The calls on a pass that have a value, for C.
 ghost use Rattle.std.specs.Prelude.{◌≡◌};
-ghost use Rattle.core_world.specs.declared.heap_call.HeapCall.TheVariants.{Get};
+ghost use Rattle.core_world.specs.declared.heap_call.HeapCall.TheVariants.{Get, Put};
 ghost use Rattle.lock_runtime_c.specs.ByHandle.{Answers};
 ghost use Rattle.lock_runtime_c.specs.OfValues.{Finds, Gives, PrintOf, PutOf};
+ghost use Rattle.lock_runtime_c.specs.Rest.{RestsWithin};
+ghost use Rattle.lock_runtime_c.specs.inner.QuickCalls.{CallsWithin};
 
 use crate::access::make_by;
 use crate::answers::{Answer, answered};
-use crate::calls::{GetCall, PutCall};
+use crate::calls::{GetCall, PutCall, get, put};
 use crate::handle::Slot;
+use crate::inner::Inner;
 use crate::numbers::{Cell, cell_of, value_of};
 use crate::outcome::{Misuse, Outcome, Said};
+use crate::quickly::is_open;
+use crate::reasons::{of_put, of_slot};
 use core_world::HeapCall;
+use plain_monitor::Value;
+use plain_monitor::limits::HOLDS;
 use std::alloc::Global;
 
 // What was read, where something was.
@@ -21,6 +28,34 @@ fn read_of(outcome: Outcome, before: Cell) -> Cell
         Outcome::Done(Said::Read(value)) => cell_of(value),
         _ => before,
     }
+}
+
+// A get by the handle's pass, where it is plain that it may begin.
+#[inline(always)]
+fn get_within(held: &mut Inner, object: u32, slot: u32) -> Option<Outcome>
+    requires { RestsWithin held.old }
+    ensures { CallsWithin held.old held.new (Get object slot) result }
+{
+    let Inner::Seat(seat) = held else {
+        return None;
+    };
+    let heap = &seat.room.heap;
+    if !is_open(heap, &seat.lent.thing, seat.free, object, HOLDS + 2) {
+        return None;
+    }
+    let None = of_slot(heap, object, slot) else {
+        return None;
+    };
+    Some(get(heap, &mut seat.lent.thing, object, slot))
+}
+
+#[inline(never)]
+fn get_slowly(alloc: Global, at: &mut Slot, object: u32, slot: u32, out: &mut Cell) -> Answer
+    ensures { Gives at.old at.new (Get object slot) out.old out.new result }
+{
+    let outcome = make_by(alloc, at, GetCall { object, slot });
+    *out = read_of(outcome, *out);
+    answered(outcome)
 }
 
 /// `out` is as it was where nothing was read.
@@ -34,9 +69,70 @@ pub extern "C" fn biasrun_get(
 ) -> Answer
     ensures { Gives at.old at.new (Get object slot) out.old out.new result }
 {
-    let outcome = make_by(alloc, at, GetCall { object, slot });
-    *out = read_of(outcome, *out);
-    answered(outcome)
+    let Some(mut held) = at.take(alloc) else {
+        return answered(Outcome::Misused(Misuse::Empty));
+    };
+    match get_within(&mut *held, object, slot) {
+        Some(outcome) => {
+            at.put(alloc, held);
+            *out = read_of(outcome, *out);
+            answered(outcome)
+        }
+        None => {
+            at.put(alloc, held);
+            get_slowly(alloc, at, object, slot, out)
+        }
+    }
+}
+
+// A put by the handle's pass, where it is plain that it may begin.
+#[inline(always)]
+fn put_within(held: &mut Inner, object: u32, slot: u32, value: Value) -> Option<Outcome>
+    requires { RestsWithin held.old }
+    ensures { CallsWithin held.old held.new (Put object slot value) result }
+{
+    let Inner::Seat(seat) = held else {
+        return None;
+    };
+    let heap = &seat.room.heap;
+    if !is_open(heap, &seat.lent.thing, seat.free, object, HOLDS + 2) {
+        return None;
+    }
+    let None = of_put(heap, object, slot, value) else {
+        return None;
+    };
+    Some(put(heap, &mut seat.lent.thing, object, slot, value))
+}
+
+#[inline(never)]
+fn put_slowly(alloc: Global, at: &mut Slot, object: u32, slot: u32, value: Value) -> Answer
+    ensures { Answers at.old at.new (Put object slot value) result }
+{
+    let call = PutCall {
+        object,
+        slot,
+        value,
+    };
+    answered(make_by(alloc, at, call))
+}
+
+#[inline(always)]
+fn put_by(alloc: Global, at: &mut Slot, object: u32, slot: u32, value: Value) -> Answer
+    ensures { Answers at.old at.new (Put object slot value) result }
+{
+    let Some(mut held) = at.take(alloc) else {
+        return answered(Outcome::Misused(Misuse::Empty));
+    };
+    match put_within(&mut *held, object, slot, value) {
+        Some(outcome) => {
+            at.put(alloc, held);
+            answered(outcome)
+        }
+        None => {
+            at.put(alloc, held);
+            put_slowly(alloc, at, object, slot, value)
+        }
+    }
 }
 
 #[unsafe(no_mangle)]
@@ -50,14 +146,7 @@ pub extern "C" fn biasrun_put(
     ensures { PutOf value at.old at.new object slot result }
 {
     match value_of(value) {
-        Some(value) => {
-            let call = PutCall {
-                object,
-                slot,
-                value,
-            };
-            answered(make_by(alloc, at, call))
-        }
+        Some(value) => put_by(alloc, at, object, slot, value),
         None => answered(Outcome::Misused(Misuse::NoValue)),
     }
 }

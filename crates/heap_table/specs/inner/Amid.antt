@@ -1,5 +1,5 @@
 -- Amid a call, between two of its steps: the seat has what they made of its thread's knowledge, and the mirror is written after the last.
-use Rattle.std.specs.Prelude.{◌≡◌, ℕ, ◌+◌, ◌<◌, true, length, Option, Some, None, Result, Ok}
+use Rattle.std.specs.Prelude.{◌≡◌, ℕ, ◌+◌, ◌<◌, Bool, true, false, length, Option, Some, None, Result, Ok}
 use Rattle.mark_word.specs.Mark.{read_mark}
 use Rattle.mark_word.specs.Owner.{read_owner}
 use Rattle.plain_monitor.specs.Limits.{most_holds}
@@ -15,7 +15,7 @@ use Rattle.core_world.specs.declared.heap_call.HeapCall.{HeapCall}
 use Rattle.core_world.specs.declared.act.Act.{Act}
 use Rattle.core_world.specs.declared.plan.LogEffect.TheVariants.{Log}
 use Rattle.core_world.specs.declared.word_id.WordId.{WordId}
-use Rattle.core_world.specs.declared.word_id.WordId.TheVariants.{Prototype}
+use Rattle.core_world.specs.declared.word_id.WordId.TheVariants.{Mark, Prototype}
 use Rattle.core_world.specs.Steps.{draws_after, holds_after, published_after, wait_after}
 use Rattle.core_world.specs.Locks.{hold_count}
 use Rattle.core_world.specs.Threads.Stages.{Revocation}
@@ -29,16 +29,19 @@ use Rattle.core_world.specs.Trees.Operations.{answer, enter_at, enter_tried, exi
 use Rattle.core_world.specs.Trees.Plans.{CallContext, free_place, load, top_place}
 use Rattle.core_world.specs.Trees.StepTree.{StepTree, done, unreachable, ask, ◌>>=◌}
 use Rattle.core_world.specs.Words.Acts.{hits, word_after}
+use Rattle.core_world.specs.Words.Forms.{hold_word}
 use Rattle.core_world.specs.Words.Shape.{Shape, class_in_shape}
 use Rattle.core_law.specs.Logic.{Heap}
 use Rattle.heap_table.specs.Cells.{cells_shown}
 use Rattle.heap_table.specs.ExitParts.{lowered_exit, owned_exit}
 use Rattle.heap_table.specs.Kept.{Mirrors, limit_by}
+use Rattle.heap_table.specs.Layout.{place_of}
 use Rattle.heap_table.specs.Resting.{start_now}
 use Rattle.heap_table.specs.Seen.{HeapSeen, PassSeen}
 use Rattle.heap_table.specs.StepsLeft.{AreLeft}
 use Rattle.heap_table.specs.declared.mirror.Mirror.{Mirror}
 use Rattle.heap_table.specs.inner.Kept.{made_after, stand_after}
+use Rattle.heap_table.specs.inner.NewestHold.{IsLastOf}
 use Rattle.heap_table.specs.declared.quick.QuickEnter.{QuickEnter}
 use Rattle.heap_table.specs.declared.quick.QuickEnter.TheVariants as enters
 use Rattle.heap_table.specs.declared.quick.QuickExit.{QuickExit}
@@ -136,6 +139,11 @@ biased_left s e k b mark = do
   prototype ← ask (load e (Prototype (class_in_shape s b.object)))
   prototype_left s e k b mark prototype
 
+-- Whether the mark has it was found.
+abbrev pub mark_left : Bool → Shape → CallContext → Start → Revocation → ℕ → EnterTree
+mark_left true s e k b mark = biased_left s e k b mark
+mark_left false s e k b mark = unbiased_enter s e k b.object mark
+
 -- What is left of an enter by its answer.
 abbrev pub enter_left : Shape → CallContext → Start → Revocation → QuickEnter → EnterTree
 enter_left s e k b enters.Not = unreachable
@@ -152,12 +160,30 @@ KeepsStart (enters.Biased mark prototype) k j = IsStartOf k j
 KeepsStart (enters.Taken m found) k j = IsStartOf k j
 KeepsStart _ k j = Unit {0}
 
--- The thread may take one more hold: it enters none by its waiting word, the lowest free place is after those in use, and the log has room.
-pub record MayHold (m : Mirror) : Type 0 where
+-- Between two calls the mirror says that nothing is unfinished, and so it stays, where no more than the call's own steps lag.
+pub record IsIdle (e : CallContext) (m : Mirror) : Type 0 where
+  pub left : m.unfinished ≡ None
+  pub check : m.checking ≡ e.check
+
+abbrev pub EntersIdle : QuickEnter → CallContext → Mirror → Type 0
+EntersIdle (enters.Done path) e m = IsIdle e m
+EntersIdle _ e m = Unit {0}
+
+abbrev pub LeavesIdle : QuickExit → CallContext → Mirror → Type 0
+LeavesIdle exits.Left e m = IsIdle e m
+LeavesIdle _ e m = Unit {0}
+
+-- The thread may take one more hold of this object, whose words begin at this place, by this hold word: it enters none by its waiting word, the lowest
+-- free place is after those in use, and the log has room.
+pub record MayHold (s : Shape) (e : CallContext) (m : Mirror) (o w n : ℕ) : Type 0 where
   pub waits : m.wait ≡ 0
   pub place : free_place m.holds.words ≡ m.holds.used
   pub few : m.holds.used < most_holds
   pub room : m.keeps ≡ true → length m.log.items < m.room
+  pub word : w ≡ hold_word o (hold_count o m.holds.words + 1)
+  pub at : n ≡ place_of s (Mark o)
+  pub low : n < 1000000
+  pub idle : IsIdle e m
 
 -- THE END OF AN EXIT: the hold word is cleared, which logs Exit,
 abbrev pub exit_over : ExitTree
@@ -219,18 +245,22 @@ exit_left e k o exits.Not = unreachable
 exit_left e k o exits.Left = exit_over
 exit_left e k o exits.Inflating = done (Ok (Pending why.Inflating))
 exit_left e k o (exits.Raced mark found) = done (Ok (Pending (why.Raced mark found)))
-exit_left e k o (exits.Unbiased depth place) = unbiased_exit e k o
 exit_left e k o (exits.Owned m owner place) = owner_left e k o m owner
 
 -- where it isn't over, the place is that of the newest hold, and the call goes on with what it took of its thread's knowledge at its beginning
 abbrev pub KeepsExit : ℕ → QuickExit → ThreadView → ThreadView → Type 0
-KeepsExit o (exits.Unbiased depth place) k j = ⊥
 KeepsExit o (exits.Owned m owner place) k j = (place ≡ top_place o k.holds) × IsStartOf k j
 KeepsExit o _ k j = Unit {0}
 
--- The thread may leave the hold at this place, which is its newest of the object, and the log has room.
-pub record MayLeave (m : Mirror) (o p : ℕ) : Type 0 where
+-- The thread may clear the hold word at this place, of its newest hold of the object. The test says whether that is known to be the last in use.
+pub record MayClear (e : CallContext) (m : Mirror) (o p : ℕ) (last : Bool) : Type 0 where
   pub place : p ≡ top_place o m.holds.words
+  pub ends : last ≡ true → IsLastOf m.holds.stacked m.holds.used p
+  pub idle : IsIdle e m
+
+-- So it may leave the hold: the log has room.
+pub record MayLeave (e : CallContext) (m : Mirror) (o p : ℕ) (last : Bool) : Type 0 where
+  pub clears : MayClear e m o p last
   pub room : m.keeps ≡ true → length m.log.items < m.room
 
 -- the mirror, but for what is unfinished amid the call, which it doesn't say yet
@@ -247,6 +277,8 @@ pub record IsSameFrame (m n : Mirror) : Type 0 where
   pub objects : n.shots.objects ≡ m.shots.objects
   pub cut : n.shots.draft.cut.items ≡ m.shots.draft.cut.items
   pub cells : cells_shown n.shots.draft.cells.items ≡ cells_shown m.shots.draft.cells.items
+  pub stand : n.stand ≡ m.stand
+  pub wait : n.wait ≡ m.wait
 
 -- a step that hits and logs this entry, of which, as of its word, a mirror shows nothing but the entry
 pub record IsAside (entry : Entry) (at : WordId) (act : Act) (found : ℕ) (m : Mirror) : Type 0 where

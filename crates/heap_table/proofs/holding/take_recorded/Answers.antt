@@ -12,11 +12,11 @@ use Rattle.heap_table.proofs.holding.take_recorded.Goals as goal
 use Rattle.heap_table.proofs.holding.take_recorded.Goals.{After-quiet-first, After-step_in_table}
 
 first_plan : (c : After-quiet-first) → let k = only c.args.seat.now.me.0 in
-    c.quiet-first.result ≡ displace_plan c.args.call.now c.args.stage k.thread (free_place k.holds) c.args.word
+    c.quiet-first.result ≡ displace_plan c.args.call.now c.args.stage k.thread (free_place k.holds) c.args.displaced
 first_plan c =
     let shows = c.requires.amid.late.mirrors in
     let place = sym c.requires.may.place ∙ ap free_place (sym shows.holds) in
-    c.quiet-first.ensures ∙ λ i. with_stage c.args.stage (quiet_plan c.args.call.now (Displaced (sym shows.thread i) (place i)) (Store c.args.word))
+    c.quiet-first.ensures ∙ λ i. with_stage c.args.stage (quiet_plan c.args.call.now (Displaced (sym shows.thread i) (place i)) (Store c.args.displaced))
 
 pub step_in_table-requires-clause-may : goal.step_in_table-requires-clause-may
 step_in_table-requires-clause-may c =
@@ -29,7 +29,7 @@ local c = (keeps_start (heap_in c.args.setting.now) c.step_in_table.result (firs
 
 stored : (c : After-step_in_table) → let e = c.args.call.now in let k = only c.args.seat.now.me.0 in
     Leads (heap_in c.args.setting.now) e.task
-    k (recorded_end e c.args.stage (local_of k) c.args.object c.args.word c.args.path) (lagging e c.args.mirror.now)
+    k (recorded_end e c.args.stage (local_of k) c.args.object c.args.displaced c.args.path) (lagging e c.args.mirror.now)
     (only c.step_in_table.new.seat.me.0) (hold_end e (local_of (only c.step_in_table.new.seat.me.0)) c.args.object c.args.path)
     (lagging e c.args.mirror.now)
 stored c = λ h o d its late.
@@ -37,7 +37,7 @@ stored c = λ h o d its late.
     let k = only c.args.seat.now.me.0 in
     let plan = first_plan c.before.before in
     late_as (made_step late its plan refl refl c.step_in_table.ensures.stepped c.step_in_table.ensures.seat.1
-    (follow_quiet h.heap.shape h.heap.start e c.args.stage (Displaced k.thread (free_place k.holds)) (Store c.args.word) c.step_in_table.result _ _ refl refl
+    (follow_quiet h.heap.shape h.heap.start e c.args.stage (Displaced k.thread (free_place k.holds)) (Store c.args.displaced) c.step_in_table.result _ _ refl refl
     (λ l. refl) (λ l. refl) (λ l. refl) late.mirrors)) (ap (λ (l : Local). hold_end e l c.args.object c.args.path) (sym (local c)))
 
 pub take_hold-requires-clause-amid : goal.take_hold-requires-clause-amid

@@ -23,8 +23,8 @@ pub step_in_table-recursions-requires-clause-may : goal.step_in_table-recursions
 step_in_table-recursions-requires-clause-may c = may_step c.requires.amid.late c.requires.amid.its c.quiet-first.ensures refl
 
 -- THE RECURSIONS rise.
-pub overflow_add-word : goal.overflow_add-word
-overflow_add-word c =
+pub overflow_add-raised : goal.overflow_add-raised
+overflow_add-raised c =
     let a = c.requires.amid in
     let k = only c.args.seat.now.me.0 in
     let e = c.args.call.now in

@@ -18,7 +18,7 @@ use Rattle.heap_table.specs.inner.Amid.{EnterTree, Leads, first_enter, hold_end,
 use Rattle.heap_table.proofs.HoldEnds.{hold_ended, not_entering}
 use Rattle.heap_table.proofs.Late.{amid_by, exchange_keeps, keeps_start, late_as, may_step, made_step, follow_missed, follow_quiet, shows_alike}
 use Rattle.heap_table.proofs.quick_enters.enter_by_record.Goals as goal
-use Rattle.heap_table.proofs.quick_enters.enter_by_record.Goals.{After-quiet-first, After-quiet-second, After-step_in_table-found}
+use Rattle.heap_table.proofs.quick_enters.enter_by_record.Goals.{After-quiet-first, After-quiet-second, After-step_at-found}
 
 abbrev seized : CallContext → Local → ℕ → ℕ → ℕ → EnterTree
 seized e k o mark found = (if found == mark then hold_steps e k o StackFirst >>= done_with else pending_for (why.Raced mark found)) >>= answer
@@ -67,55 +67,55 @@ second_plan c =
     c.quiet-second.ensures ∙ λ i. with_stage (RecordLocked c.args.object (its_place z i))
     (quiet_plan c.args.call.now (Mark c.args.object) (CompareExchange c.args.mark (word i)))
 
-pub step_in_table-found-requires-clause-may : goal.step_in_table-found-requires-clause-may
-step_in_table-found-requires-clause-may c =
-    let z = (goal.at.step_in_table-found-requires-clause-may c).After-quiet-second in
+pub step_at-found-requires-clause-may : goal.step_at-found-requires-clause-may
+step_at-found-requires-clause-may c =
+    let z = (goal.at.step_at-found-requires-clause-may c).After-quiet-second in
     let a = c.requires.amid in
     may_step (seizing z a.heap a.begun a.due a.its a.late) a.its (second_plan z) refl
 
 -- It missed.
 pub returns-then-found-mark-clause-leads : goal.returns-then-found-mark-clause-leads
 returns-then-found-mark-clause-leads c = λ h o d its late.
-    let z = (goal.at.returns-then-found-mark-clause-leads c).After-step_in_table-found in
+    let z = (goal.at.returns-then-found-mark-clause-leads c).After-step_at-found in
     let y = z.before.before in
     let k = only c.args.seat.now.me.0 in
-    let found = c.step_in_table-found.result in
+    let found = c.step_at-found.result in
     let other : (found == c.args.mark) ≡ false = ne_eqb _ _ c.if-found-mark.true in
     let here = seizing y h o d its late in
-    let missed = made_step here its (second_plan y) refl refl c.step_in_table-found.ensures.stepped c.step_in_table-found.ensures.seat.1
+    let missed = made_step here its (second_plan y) refl refl c.step_at-found.ensures.stepped c.step_at-found.ensures.seat.1
     (follow_missed h.heap.shape h.heap.start (seize_plan c.args.call.now k.thread c.args.object c.args.mark (free_place k.holds)) found _ _ other refl
     here.mirrors) in
     let left = late_as missed (ap (λ b. (if b then hold_steps c.args.call.now (local_of k) c.args.object StackFirst >>= done_with
     else pending_for (why.Raced c.args.mark found)) >>= answer) other) in
     record {
       left = left.left;
-      mirrors = shows_alike _ _ _ _ _ _ (subst (λ (e : CallContext). Mirrors (lagging e c.args.mirror.now) (only c.step_in_table-found.new.seat.me.0))
+      mirrors = shows_alike _ _ _ _ _ _ (subst (λ (e : CallContext). Mirrors (lagging e c.args.mirror.now) (only c.step_at-found.new.seat.me.0))
           (sym c.call.view_is) left.mirrors);
     }
 
 -- It hit: the hold is left to take.
-seized_plan : (c : After-step_in_table-found) → let k = only c.args.seat.now.me.0 in
+seized_plan : (c : After-step_at-found) → let k = only c.args.seat.now.me.0 in
     c.quiet-second.result ≡ seize_plan c.args.call.now k.thread c.args.object c.args.mark (free_place k.holds)
 seized_plan c = second_plan c.before.before
 
-locked : (c : After-step_in_table-found) → c.step_in_table-found.result ≡ c.args.mark → let e = c.args.call.now in let k = only c.args.seat.now.me.0 in
+locked : (c : After-step_at-found) → c.step_at-found.result ≡ c.args.mark → let e = c.args.call.now in let k = only c.args.seat.now.me.0 in
     Leads (heap_in c.args.setting.now) e.task
     k (first_enter e (local_of k) c.args.object c.args.mark) (lagging e c.args.mirror.now)
-    (only c.step_in_table-found.new.seat.me.0)
-    (hold_end e (local_of (only c.step_in_table-found.new.seat.me.0)) c.args.object StackFirst)
+    (only c.step_at-found.new.seat.me.0)
+    (hold_end e (local_of (only c.step_at-found.new.seat.me.0)) c.args.object StackFirst)
     (lagging e c.args.mirror.now)
 locked c is = λ h o d its late.
     let e = c.args.call.now in
     let k = only c.args.seat.now.me.0 in
-    let found = c.step_in_table-found.result in
+    let found = c.step_at-found.result in
     let hit : (found == c.args.mark) ≡ true = eq-eqb _ _ is in
     let here = seizing c.before.before h o d its late in
-    let made = made_step here its (seized_plan c) refl refl c.step_in_table-found.ensures.stepped c.step_in_table-found.ensures.seat.1
+    let made = made_step here its (seized_plan c) refl refl c.step_at-found.ensures.stepped c.step_at-found.ensures.seat.1
     (follow_quiet h.heap.shape h.heap.start e (RecordLocked c.args.object (free_place k.holds)) (Mark c.args.object)
     (CompareExchange c.args.mark (mark_of (Locked k.thread (free_place k.holds)))) found _ _ hit refl (λ l. refl) (λ l. refl) (λ l. refl) here.mirrors) in
     let first = (keeps_start (heap_in c.args.setting.now) c.step_in_table.result (first_plan (first_of c.before.before)) c.step_in_table.ensures.seat.1
     (record { local = refl; kept = refl })).local in
-    let second = (keeps_start (heap_in c.args.setting.now) found (seized_plan c) c.step_in_table-found.ensures.seat.1 (exchange_keeps _ _ (seize_plan e k.thread c.args.object c.args.mark (free_place k.holds)) found _ (record { local = refl; kept = refl })
+    let second = (keeps_start (heap_in c.args.setting.now) found (seized_plan c) c.step_at-found.ensures.seat.1 (exchange_keeps _ _ (seize_plan e k.thread c.args.object c.args.mark (free_place k.holds)) found _ (record { local = refl; kept = refl })
     (record { local = refl; kept = refl }))).local in
     late_as made (ap (λ b. (if b then hold_steps e (local_of k) c.args.object StackFirst >>= done_with else pending_for (why.Raced c.args.mark found)) >>= answer)
     hit ∙ hold_ended e (local_of k) c.args.object StackFirst (not_entering _ _ late.mirrors c.requires.may.waits) done_with answer
@@ -123,10 +123,10 @@ locked c is = λ h o d its late.
 
 pub take_hold-requires-clause-amid : goal.take_hold-requires-clause-amid
 take_hold-requires-clause-amid c =
-    let z = (goal.at.take_hold-requires-clause-amid c).After-step_in_table-found in
+    let z = (goal.at.take_hold-requires-clause-amid c).After-step_at-found in
     amid_by c.requires.amid (locked z c.if-found-mark.false)
 
 pub returns-clause-leads : goal.returns-clause-leads
 returns-clause-leads c = λ h o d its late.
-    let z = (goal.at.returns-clause-leads c).After-step_in_table-found in
+    let z = (goal.at.returns-clause-leads c).After-step_at-found in
     c.take_hold.ensures.leads h o d its (locked z c.if-found-mark.false h o d its late)

@@ -38,7 +38,7 @@ enter_by_record-requires-clause-amid c =
       begun = a.begun;
       due = a.due;
       its = a.its;
-      late = late_as a.late (by_neutral _ c.args.call.now (start_now a.heap a.begun) c.args.object c.args.mark _ _ (sym c.mark_of_word.ensures ∙ c.in-Some-Neutral.is ∙ ap Some c.in-Some-Neutral.field-0-is)
+      late = late_as a.late (by_neutral _ c.args.call.now (start_now a.heap a.begun) c.args.object c.args.mark _ _ (sym c.form_of.ensures ∙ ap Some c.in-Neutral.is)
           ∙ ap (λ (l : Local). first_enter c.args.call.now l c.args.object c.args.mark) (sym a.local));
     }
 
@@ -51,23 +51,23 @@ enter_inflated-requires-clause-amid c =
       due = a.due;
       its = a.its;
       local = a.local;
-      late = late_as a.late (by_monitor _ c.args.call.now (start_now a.heap a.begun) c.args.object c.args.mark _ (sym c.mark_of_word.ensures ∙ c.in-Some-Inflated.is ∙ ap Some c.in-Some-Inflated.field-0-is));
+      late = late_as a.late (by_monitor _ c.args.call.now (start_now a.heap a.begun) c.args.object c.args.mark _ (sym c.form_of.ensures ∙ ap Some c.in-Inflated.is));
     }
 
-pub returns-in-Some-Inflated-clause-leads : goal.returns-in-Some-Inflated-clause-leads
-returns-in-Some-Inflated-clause-leads c = λ h o d its local late. c.enter_inflated.ensures.leads h o d its local
-    (late_as late (by_monitor _ c.args.call.now (start_now h o) c.args.object c.args.mark _ (sym c.mark_of_word.ensures ∙ c.in-Some-Inflated.is ∙ ap Some c.in-Some-Inflated.field-0-is)))
+pub returns-in-Inflated-clause-leads : goal.returns-in-Inflated-clause-leads
+returns-in-Inflated-clause-leads c = λ h o d its local late. c.enter_inflated.ensures.leads h o d its local
+    (late_as late (by_monitor _ c.args.call.now (start_now h o) c.args.object c.args.mark _ (sym c.form_of.ensures ∙ ap Some c.in-Inflated.is)))
 
 pub returns-in-Some-clause-leads : goal.returns-in-Some-clause-leads
 returns-in-Some-clause-leads c = λ h o d its local late. c.in-Some.ensures.leads h o d its
     (late_as late (by_neutral _ c.args.call.now (start_now h o) c.args.object c.args.mark _ _
-    (sym c.mark_of_word.ensures ∙ c.in-Some-Neutral.is ∙ ap Some c.in-Some-Neutral.field-0-is)
+    (sym c.form_of.ensures ∙ ap Some c.in-Neutral.is)
     ∙ ap (λ (l : Local). first_enter c.args.call.now l c.args.object c.args.mark) (sym local)))
 
 pub returns-in-None-clause-leads : goal.returns-in-None-clause-leads
 returns-in-None-clause-leads c = λ h o d its local late. c.in-None.ensures.leads h o d its
     (late_as late (by_neutral _ c.args.call.now (start_now h o) c.args.object c.args.mark _ _
-    (sym c.mark_of_word.ensures ∙ c.in-Some-Neutral.is ∙ ap Some c.in-Some-Neutral.field-0-is)
+    (sym c.form_of.ensures ∙ ap Some c.in-Neutral.is)
     ∙ ap (λ (l : Local). first_enter c.args.call.now l c.args.object c.args.mark) (sym local)))
 
 -- The mark names a record of the thread's own.
@@ -98,10 +98,10 @@ take_recorded-requires-clause-amid c =
       due = a.due;
       its = a.its;
       late = own_record c.args.mirror.now _ c.args.call.now c.args.object c.args.mark _ _
-          (sym c.mark_of_word.ensures ∙ c.in-Some-Locked.is ∙ ap Some c.in-Some-Locked.field-0-is) c.if-thread-mirror.true c.requires.may.waits a.local a.late;
+          (sym c.form_of.ensures ∙ ap Some c.in-Locked.is) c.if-thread-mirror.true c.requires.may.waits a.local a.late;
     }
 
 pub returns-then-thread-mirror-clause-leads : goal.returns-then-thread-mirror-clause-leads
 returns-then-thread-mirror-clause-leads c = λ h o d its local late. c.take_recorded.ensures.leads h o d its
-    (own_record c.args.mirror.now _ c.args.call.now c.args.object c.args.mark _ _ (sym c.mark_of_word.ensures ∙ c.in-Some-Locked.is ∙ ap Some c.in-Some-Locked.field-0-is)
+    (own_record c.args.mirror.now _ c.args.call.now c.args.object c.args.mark _ _ (sym c.form_of.ensures ∙ ap Some c.in-Locked.is)
     c.if-thread-mirror.true c.requires.may.waits local late)

@@ -15,41 +15,41 @@ use Rattle.heap_table.proofs.Late.{amid_by, late_as}
 use Rattle.heap_table.proofs.Loops.{binds}
 use Rattle.heap_table.proofs.StepsLeft.{never}
 use Rattle.heap_table.proofs.quick_exits.leave_marked.Goals as goal
-use Rattle.heap_table.proofs.quick_exits.leave_marked.Goals.{After-mark_of_word}
+use Rattle.heap_table.proofs.quick_exits.leave_marked.Goals.{After-form_of}
 
 -- what is left, by this form
 abbrev formed : CallContext → Local → ℕ → ℕ → ℕ → Option MarkForm → ExitTree
 formed e k o header mark form = stack_exit_at form e k o header mark >>= (λ (out : StackOut). exit_at out e k o >>= answer)
 
-by_form : (c : After-mark_of_word) (f : Option MarkForm) → c.mark_of_word.result ≡ f → let e = c.args.call.now in let k = only c.args.seat.now.me.0 in
+by_form : (c : After-form_of) (f : MarkForm) → c.form_of.result ≡ f → let e = c.args.call.now in let k = only c.args.seat.now.me.0 in
     Leads (heap_in c.args.setting.now) e.task k (marked_exit e (local_of k) c.args.object c.args.header c.args.mark) (lagging e c.args.mirror.now)
-    k (formed e (local_of k) c.args.object c.args.header c.args.mark f) (lagging e c.args.mirror.now)
+    k (formed e (local_of k) c.args.object c.args.header c.args.mark (Some f)) (lagging e c.args.mirror.now)
 by_form c f is = λ h o d its late.
-    late_as late (ap (formed c.args.call.now (local_of (only c.args.seat.now.me.0)) c.args.object c.args.header c.args.mark) (sym c.mark_of_word.ensures ∙ is))
+    late_as late (ap (formed c.args.call.now (local_of (only c.args.seat.now.me.0)) c.args.object c.args.header c.args.mark) (sym c.form_of.ensures ∙ ap Some is))
 
 pub leave_record-requires-clause-amid : goal.leave_record-requires-clause-amid
 leave_record-requires-clause-amid c = amid_by c.requires.amid
-    (by_form (goal.at.leave_record-requires-clause-amid c).After-mark_of_word _ (c.in-Some.is ∙ ap Some c.in-Locked.is))
+    (by_form (goal.at.leave_record-requires-clause-amid c).After-form_of _ c.in-Locked.is)
 
 pub returns-in-Locked-clause-leads : goal.returns-in-Locked-clause-leads
 returns-in-Locked-clause-leads c = λ h o d its late. c.leave_record.ensures.leads h o d its
-    (by_form (goal.at.returns-in-Locked-clause-leads c).After-mark_of_word _ (c.in-Some.is ∙ ap Some c.in-Locked.is) h o d its late)
+    (by_form (goal.at.returns-in-Locked-clause-leads c).After-form_of _ c.in-Locked.is h o d its late)
 
-by_monitor : (c : After-mark_of_word) (m : ℕ) → c.mark_of_word.result ≡ Some (Inflated m) → let e = c.args.call.now in let k = only c.args.seat.now.me.0 in
+by_monitor : (c : After-form_of) (m : ℕ) → c.form_of.result ≡ Inflated m → let e = c.args.call.now in let k = only c.args.seat.now.me.0 in
     Leads (heap_in c.args.setting.now) e.task k (marked_exit e (local_of k) c.args.object c.args.header c.args.mark) (lagging e c.args.mirror.now)
     k (monitor_exit e (local_of k) c.args.object m) (lagging e c.args.mirror.now)
 by_monitor c m is = λ h o d its late.
-    late_as (by_form c (Some (Inflated m)) is h o d its late)
+    late_as (by_form c (Inflated m) is h o d its late)
     (binds (monitor_exit_steps c.args.call.now (local_of (only c.args.seat.now.me.0)) c.args.object m) (λ _. done_with tt) answer)
 
 pub leave_monitor-requires-clause-amid : goal.leave_monitor-requires-clause-amid
 leave_monitor-requires-clause-amid c = amid_by c.requires.amid
-    (by_monitor (goal.at.leave_monitor-requires-clause-amid c).After-mark_of_word _ (c.in-Some.is ∙ ap Some c.in-Inflated.is))
+    (by_monitor (goal.at.leave_monitor-requires-clause-amid c).After-form_of _ c.in-Inflated.is)
 
 pub returns-in-Inflated-clause-leads : goal.returns-in-Inflated-clause-leads
 returns-in-Inflated-clause-leads c = λ h o d its late. c.leave_monitor.ensures.leads h o d its
-    (by_monitor (goal.at.returns-in-Inflated-clause-leads c).After-mark_of_word c.in-Inflated.monitor
-    (c.in-Some.is ∙ ap Some c.in-Inflated.is) h o d its late)
+    (by_monitor (goal.at.returns-in-Inflated-clause-leads c).After-form_of c.in-Inflated.monitor
+    c.in-Inflated.is h o d its late)
 
 -- No other mark is found.
 unlike : (f : MarkForm) (e : CallContext) (k : Local) (o header mark : ℕ) → (f ≡ Inflating → ⊥) → ((t p : ℕ) → f ≡ Locked t p → ⊥)
@@ -61,9 +61,5 @@ unlike _ e k o header mark inflating locked inflated = refl
 
 pub unreachable-requires : goal.unreachable-requires
 unreachable-requires c =
-    let a = amid_by c.requires.amid (by_form (goal.at.unreachable-requires c).After-mark_of_word _ c.in-Some.is) in
-    never a.late.left (unlike c.in-Some.form _ _ _ _ _ c.in_default.not-Inflating c.in_default.not-Locked c.in_default.not-Inflated)
-
-pub unreachable-requires-in-None : goal.unreachable-requires-in-None
-unreachable-requires-in-None c =
-    let a = amid_by c.requires.amid (by_form (goal.at.unreachable-requires-in-None c).After-mark_of_word _ c.in-None.is) in never a.late.left refl
+    let a = amid_by c.requires.amid (by_form (goal.at.unreachable-requires c).After-form_of _ refl) in
+    never a.late.left (unlike c.form_of.result _ _ _ _ _ c.in_default.not-Inflating c.in_default.not-Locked c.in_default.not-Inflated)

@@ -20,9 +20,10 @@ use Rattle.heap_table.specs.declared.mirror.Mirror.{Mirror}
 use Rattle.heap_table.specs.inner.Amid.{ExitTree, IsStartOf, Late, Leads, exit_left, lagging, leave_end, marked_exit, unbiased_exit}
 use Rattle.heap_table.proofs.Late.{amid_by, exit_keeps, follow_quiet, late_as, made_step, may_step, raise_if, raise_keeps, raised, start_after}
 use Rattle.heap_table.proofs.Loops.{binds}
+use Rattle.heap_table.proofs.LowBits.{found_mark}
 use Rattle.heap_table.proofs.quick_exits.leave_unbiased.Goals as goal
 use Rattle.heap_table.proofs.quick_exits.leave_unbiased.Goals.{After-raise_at, After-quiet-first, After-step_in_table-header, After-quiet-second}
-use Rattle.heap_table.proofs.quick_exits.leave_unbiased.Goals.{After-step_in_table-mark}
+use Rattle.heap_table.proofs.quick_exits.leave_unbiased.Goals.{After-step_at-mark}
 
 abbrev gone : CallContext → Local → ℕ → StackOut → ExitTree
 gone e k o out = exit_at out e k o >>= answer
@@ -85,7 +86,7 @@ first_plan : (c : After-quiet-first) → let k = only c.args.seat.now.me.0 in
 first_plan c =
     let shows = c.requires.amid.late.mirrors in
     let thread = sym shows.thread in
-    let place = c.requires.may.place ∙ ap (top_place c.args.object) (sym shows.holds) in
+    let place = c.requires.may.clears.place ∙ ap (top_place c.args.object) (sym shows.holds) in
     c.quiet-first.ensures ∙ λ i. with_stage Settled (quiet_plan c.args.call.now (Displaced (thread i) (place i)) Load)
 
 abbrev after_raise : After-quiet-first → After-raise_at
@@ -140,38 +141,43 @@ second_plan c = c.quiet-second.ensures
 abbrev after_header : After-quiet-second → After-step_in_table-header
 after_header c = c.before.before
 
-pub step_in_table-mark-requires-clause-may : goal.step_in_table-mark-requires-clause-may
-step_in_table-mark-requires-clause-may c =
-    let z = (goal.at.step_in_table-mark-requires-clause-may c).After-quiet-second in
+pub step_at-mark-requires-clause-may : goal.step_at-mark-requires-clause-may
+step_at-mark-requires-clause-may c =
+    let z = (goal.at.step_at-mark-requires-clause-may c).After-quiet-second in
     let a = amid_by c.requires.amid (by_header false (after_header z) (ne_eqb _ _ c.if-header-eq0.false)) in may_step a.late a.its (second_plan z) refl
 
-since_mark : (c : After-step_in_table-mark) → IsStartOf (only c.args.seat.now.me.0) (only c.step_in_table-mark.new.seat.me.0)
+since_mark : (c : After-step_at-mark) → IsStartOf (only c.args.seat.now.me.0) (only c.step_at-mark.new.seat.me.0)
 since_mark c =
     let z = c.before.before in
-    start_after (heap_in c.args.setting.now) c.step_in_table-mark.result (since_header (after_header z)) (second_plan z)
-    c.step_in_table-mark.ensures.seat.1 (record { local = refl; kept = refl })
+    start_after (heap_in c.args.setting.now) c.step_at-mark.result (since_header (after_header z)) (second_plan z)
+    c.step_at-mark.ensures.seat.1 (record { local = refl; kept = refl })
 
-marked : (c : After-step_in_table-mark) → let e = c.args.call.now in let k = only c.args.seat.now.me.0 in let j = only c.step_in_table-mark.new.seat.me.0 in
+marked : (c : After-step_at-mark) → let e = c.args.call.now in let k = only c.args.seat.now.me.0 in let j = only c.step_at-mark.new.seat.me.0 in
     Leads (heap_in c.args.setting.now) e.task k (unbiased_exit e (local_of k) c.args.object) (lagging e c.args.mirror.now)
-    j (marked_exit e (local_of j) c.args.object c.step_in_table-header.result c.step_in_table-mark.result) (lagging e c.args.mirror.now)
+    j (marked_exit e (local_of j) c.args.object c.step_in_table-header.result c.step_at-mark.result) (lagging e c.args.mirror.now)
 marked c = λ h o d its late.
     let e = c.args.call.now in
-    let n = c.step_in_table-mark.result in
+    let n = c.step_at-mark.result in
     let z = c.before.before in
     let here = by_header false (after_header z) (ne_eqb _ _ c.if-header-eq0.false) h o d its late in
-    late_as (made_step here its (second_plan z) refl refl c.step_in_table-mark.ensures.stepped c.step_in_table-mark.ensures.seat.1
+    late_as (made_step here its (second_plan z) refl refl c.step_at-mark.ensures.stepped c.step_at-mark.ensures.seat.1
     (follow_quiet h.heap.shape h.heap.start e Settled (Mark c.args.object) Load n _ _ refl refl (λ l. refl) (λ l. refl) (λ l. refl) here.mirrors))
     (ap (λ (k : Local). marked_exit e k c.args.object c.step_in_table-header.result n) (sym (since_mark c).local))
 
+pub leave_marked-requires-clause-found : goal.leave_marked-requires-clause-found
+leave_marked-requires-clause-found c =
+    let z = (goal.at.leave_marked-requires-clause-found c).After-step_at-mark in
+    found_mark _ _ _ _ c.args.object _ (second_plan z.before.before) refl c.step_at-mark.ensures.stepped
+
 pub leave_marked-requires-clause-amid : goal.leave_marked-requires-clause-amid
-leave_marked-requires-clause-amid c = amid_by c.requires.amid (marked (goal.at.leave_marked-requires-clause-amid c).After-step_in_table-mark)
+leave_marked-requires-clause-amid c = amid_by c.requires.amid (marked (goal.at.leave_marked-requires-clause-amid c).After-step_at-mark)
 
 pub returns-clause-start : goal.returns-clause-start
 returns-clause-start c =
-    exit_keeps c.args.object c.leave_marked.result _ _ _ (since_mark (goal.at.returns-clause-start c).After-step_in_table-mark) c.leave_marked.ensures.start
+    exit_keeps c.args.object c.leave_marked.result _ _ _ (since_mark (goal.at.returns-clause-start c).After-step_at-mark) c.leave_marked.ensures.start
 
 pub returns-clause-leads : goal.returns-clause-leads
 returns-clause-leads c = λ h o d its late.
-    let z = (goal.at.returns-clause-leads c).After-step_in_table-mark in
+    let z = (goal.at.returns-clause-leads c).After-step_at-mark in
     late_as (c.leave_marked.ensures.leads h o d its (marked z h o d its late))
     (ap (λ (k : Local). exit_left c.args.call.now k c.args.object c.leave_marked.result) (since_mark z).local)

@@ -18,7 +18,7 @@ use Rattle.heap_table.proofs.quick_exits.release.Goals.{After-logging-first, Aft
 first_plan : (c : After-logging-first) → c.logging-first.result
     ≡ free_plan c.args.call.now c.args.object c.args.monitor (top_place c.args.object (only c.args.seat.now.me.0).holds)
 first_plan c =
-    let place = c.requires.may.place ∙ ap (top_place c.args.object) (sym c.requires.amid.late.mirrors.holds) in
+    let place = c.requires.may.clears.place ∙ ap (top_place c.args.object) (sym c.requires.amid.late.mirrors.holds) in
     c.logging-first.ensures ∙ λ i. with_stage (Exits c.args.object (place i))
     (logging_plan (entry.Exit c.args.object) c.args.call.now (Owner c.args.monitor) (Store 0))
 

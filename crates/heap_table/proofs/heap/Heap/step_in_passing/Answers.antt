@@ -1,20 +1,14 @@
-use Rattle.std.proofs.Common.{◌≡◌, ◌+◌, ◌%◌, ◌^◌, ◌<◌, ℕ, List, length, ap, sym, ◌∙◌, subst, ◌≤◌}
+use Rattle.std.proofs.Common.{◌≡◌, ◌+◌, ◌%◌, ◌^◌, ◌<◌, ℕ, List, ap, sym, ◌∙◌, subst}
 use Rattle.atomic_table.specs.Table.{Me}
 use Rattle.core_world.specs.Threads.ThreadView.{ThreadView}
-use Rattle.core_world.specs.Clauses.Lengths.{log_limit}
 use Rattle.core_world.specs.Steps.{known_after}
-use Rattle.core_world.specs.There.{HasPlace}
 use Rattle.core_law.specs.Logic.{Heap}
 use Rattle.heap_table.specs.Cells.{cells_shown}
 use Rattle.heap_table.specs.Drafts.{IsLeft}
-use Rattle.heap_table.specs.Kept.{LogHasRoom}
 use Rattle.heap_table.specs.Ruled.{only, Stepped}
 use Rattle.heap_table.specs.inner.Ruled.{MayStep}
 use Rattle.heap_table.specs.Seen.{HeapSeen, PassSeen}
-use Rattle.heap_table.proofs.Follow.{few_given, few_made, few_installed, room_in_page}
 use Rattle.heap_table.proofs.Knows.{same_thread, goes_on, is_there, real_after}
-use Rattle.heap_table.proofs.Places.{placed}
-use Rattle.heap_table.proofs.Stamps.{short, stamp_fits}
 use Rattle.heap_table.proofs.heap.Heap.step_in_passing.Goals as goal
 
 pub step_in_table-found-requires-clause-may : goal.step_in_table-found-requires-clause-may
@@ -27,30 +21,6 @@ step_in_table-found-requires-clause-may c =
       next = r.next;
       at = (is_there _ _ _ r.next r.heap.within r.heap.real).0;
     })
-
-pub follow_in_passing-requires-clause-at : goal.follow_in_passing-requires-clause-at
-follow_in_passing-requires-clause-at c = let r = c.requires.can in placed _ _ (is_there _ _ _ r.next r.heap.within r.heap.real).0
-
-pub follow_in_passing-requires-clause-shots : goal.follow_in_passing-requires-clause-shots
-follow_in_passing-requires-clause-shots c =
-    let r = c.requires.can in
-    let knew = ap (λ (p : PassSeen). p.known) c.pass.view_is in
-    subst (λ xs. HasPlace c.args.plan.own (length xs)) (ap (λ (k : ThreadView). k.shots) (sym knew) ∙ c.pass.invariant.1.shots)
-    (is_there _ _ _ r.next r.heap.within r.heap.real).1
-
-pub follow_in_passing-requires-clause-stamp : goal.follow_in_passing-requires-clause-stamp
-follow_in_passing-requires-clause-stamp c = stamp_fits _ _ _ _ _ c.step_in_table-found.ensures.stepped c.pass.invariant.1.last
-
-pub follow_in_passing-requires-clause-made : goal.follow_in_passing-requires-clause-made
-follow_in_passing-requires-clause-made c = few_made _ _ c.pass.invariant.1
-
-pub follow_in_passing-requires-clause-draws : goal.follow_in_passing-requires-clause-draws
-follow_in_passing-requires-clause-draws c = few_installed _ _ c.pass.invariant.1
-
-pub follow_in_passing-requires-clause-room : goal.follow_in_passing-requires-clause-room
-follow_in_passing-requires-clause-room c =
-    room_in_page _ _ _ _ _ _ c.pass.invariant.1.log
-    (subst (λ (p : PassSeen). LogHasRoom c.args.plan.note p.known.log p.limit) (sym c.pass.view_is) c.requires.can.room)
 
 pub returns : goal.returns
 returns c =
@@ -83,7 +53,3 @@ returns c =
       stepped = stepped;
       comes = goes_on h k c.args.plan c.step_in_table-found.result _ stepped c.requires.can.heap.within known;
     }
-
-pub follow_in_passing-requires-clause-few : goal.follow_in_passing-requires-clause-few
-follow_in_passing-requires-clause-few c = few_given _ _ c.pass.invariant.1
-    (subst (λ (p : PassSeen). length p.known.log ≤ log_limit) (sym c.pass.view_is) (short c.args.self.now c.args.pass.now c.requires.can.heap))

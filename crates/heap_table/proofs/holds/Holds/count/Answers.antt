@@ -1,11 +1,11 @@
-use Rattle.std.proofs.Common.{rules, ◌≡◌, ◌==◌, length, not, arith}
+-- Stacked words are as many as the places in use.
+use Rattle.std.proofs.Common.{rules, ◌≡◌, length, sym, arith}
 use Rattle.plain_monitor.specs.Limits.{most_holds}
-use Rattle.heap_table.proofs.Counting.{number_few}
+use Rattle.heap_table.proofs.Stacked.{number_stacked}
 use Rattle.heap_table.proofs.holds.Holds.count.Goals as goal
 
-pub returns-clause-few : goal.returns-clause-few
-returns-clause-few c =
+pub returns-then-self-clause-holds : goal.returns-then-self-clause-holds
+returns-then-self-clause-holds c =
     let holds = c.args.self.now in
     let n : length holds.words ≡ most_holds = search rules in
-    let few = number_few (λ p h. not (h == 0)) 0 holds.words in
-    let is = holds.counted in omega (arith, n, few, is)
+    sym (number_stacked holds.used holds.words (holds.stacks c.if-self.true) holds.within (omega (arith, n, holds.within)) holds.rest)

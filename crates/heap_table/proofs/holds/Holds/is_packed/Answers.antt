@@ -3,8 +3,8 @@ use Rattle.plain_monitor.specs.Limits.{most_holds}
 use Rattle.heap_table.proofs.Stacked.{free_past}
 use Rattle.heap_table.proofs.holds.Holds.is_packed.Goals as goal
 
-pub returns-then-self-clause-free : goal.returns-then-self-clause-free
-returns-then-self-clause-free c =
+pub returns-clause-free : goal.returns-clause-free
+returns-clause-free c =
     let holds = c.args.self.now in
     let n : length holds.words ≡ most_holds = search rules in
-    λ _. free_past holds.used holds.words (holds.stacks c.if-self.true) holds.within (omega (arith, n, holds.within)) holds.rest
+    λ _. free_past holds.used holds.words (holds.stacks c.if-not-self.false) holds.within (omega (arith, n, holds.within)) holds.rest

@@ -1,4 +1,4 @@
-use Rattle.std.proofs.Common.{arith, refl}
+use Rattle.std.proofs.Common.{arith}
 use Rattle.plain_monitor.specs.Limits.{most_holds}
 use Rattle.heap_table.proofs.Held.{none_used}
 use Rattle.heap_table.proofs.holds.Holds.new.Goals as goal
@@ -8,6 +8,5 @@ invariant_of-result c = record {
   within = omega arith;
   rest = λ i l. none_used most_holds i;
   tight = λ h. absurd (omega (arith, h));
-  counted = refl;
   stacks = λ _ i l. absurd (omega (arith, l));
 }

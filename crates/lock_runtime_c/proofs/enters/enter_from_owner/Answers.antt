@@ -1,0 +1,14 @@
+use Rattle.std.proofs.Common.{ap, ◌∙◌}
+use Rattle.lock_runtime_c.specs.Numbers.{answered}
+use Rattle.lock_runtime_c.proofs.QuickCalls.{enter_answers}
+use Rattle.lock_runtime_c.proofs.enters.enter_from_owner.Goals as goal
+
+pub enter_from_owner-progress-requires : goal.enter_from_owner-progress-requires
+enter_from_owner-progress-requires c = (c.requires.0, c.requires.1.begun)
+
+pub returns-clause-answer : goal.returns-clause-answer
+returns-clause-answer c = λ p opened.
+    let a = c.args in
+    let on = c.enter_from_owner-progress in
+    enter_answers a.heap.now p on.new.pass on.ensures.rests a.object a.now on.result c.answered.result opened.may opened.begun.may
+    (on.ensures.whole p opened.begun) (c.answered.ensures ∙ ap answered c.entered.ensures)
