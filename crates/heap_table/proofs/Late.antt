@@ -26,6 +26,8 @@ use Rattle.core_world.specs.Words.Acts.{hits, word_after}
 use Rattle.core_world.specs.Words.Shape.{Shape}
 use Rattle.core_world.proofs.CallRests.{next_due}
 use Rattle.core_law.specs.Logic.{Heap}
+use Rattle.heap_table.specs.declared.quick.QuickEnter.{QuickEnter}
+use Rattle.heap_table.specs.declared.quick.QuickEnter.TheVariants as enters
 use Rattle.heap_table.specs.declared.quick.QuickExit.{QuickExit}
 use Rattle.heap_table.specs.declared.quick.QuickExit.TheVariants.{Owned}
 use Rattle.heap_table.specs.Drafts.{IsLeft}
@@ -37,7 +39,7 @@ use Rattle.heap_table.specs.Ruled.{only, Stepped}
 use Rattle.heap_table.specs.Seen.{HeapSeen, PassSeen, IsOf}
 use Rattle.heap_table.specs.Stepping.{HasStepped}
 use Rattle.heap_table.specs.declared.mirror.Mirror.{Mirror}
-use Rattle.heap_table.specs.inner.Amid.{IsAmid, IsIdle, IsStartOf, KeepsExit, Late, Leads}
+use Rattle.heap_table.specs.inner.Amid.{IsAmid, IsIdle, IsStartOf, KeepsExit, KeepsStart, Late, Leads}
 use Rattle.heap_table.specs.inner.Kept.{stand_after}
 use Rattle.heap_table.specs.inner.Parts.{is_shot}
 use Rattle.heap_table.specs.inner.Ruled.{IsStepIf, MayStep}
@@ -287,18 +289,27 @@ pub amid_by : {A : Type 0} {b : Heap} {t : HeapCall} {k j : ThreadView} {x y : S
     → Leads b t k x m j y n → IsAmid b t j y n
 amid_by a leads = record { heap = a.heap; begun = a.begun; due = a.due; its = a.its; late = leads a.heap a.begun a.due a.its a.late }
 
--- What a call took at its beginning is still so after another step that leaves it,
+-- What a call took at its beginning is still so where two ways after one another leave it,
+pub start_since : {i k j : ThreadView} → IsStartOf i k → IsStartOf k j → IsStartOf i j
+start_since since here = record { local = here.local ∙ since.local; kept = here.kept ∙ since.kept }
+
+-- after another step that leaves it,
 pub start_after : (b : Heap) (n : ℕ) {said plan : StepPlan} {i k : ThreadView} {me : Me (Unit {0}) (List ThreadView)} → IsStartOf i k → said ≡ plan
     → me ≡ (known_after b.shape b.start said n k ∷ [], []) → IsStartOf k (known_after b.shape b.start plan n k) → IsStartOf i (only me.0)
-start_after b n since same told is = let here = keeps_start b n same told is in record {
-  local = here.local ∙ since.local;
-  kept = here.kept ∙ since.kept;
-}
+start_after b n since same told is = start_since since (keeps_start b n same told is)
 
--- so it is where the rest of an exit leaves it.
+-- and where the rest of an enter or of an exit leaves it.
+pub enter_keeps : (r : QuickEnter) (i k j : ThreadView) → IsStartOf i k → KeepsStart r k j → KeepsStart r i j
+enter_keeps (enters.Done path) i k j since is = tt
+enter_keeps enters.Not i k j since is = start_since since is
+enter_keeps (enters.Raced mark found) i k j since is = start_since since is
+enter_keeps (enters.Unbiased mark) i k j since is = start_since since is
+enter_keeps (enters.Biased mark prototype) i k j since is = start_since since is
+enter_keeps (enters.Taken m found) i k j since is = start_since since is
+
 pub exit_keeps : (o : ℕ) (r : QuickExit) (i k j : ThreadView) → IsStartOf i k → KeepsExit o r k j → KeepsExit o r i j
 exit_keeps o (Owned m owner place) i k j since is = (
   is.0 ∙ ap (λ (x : Local). top_place o x.holds) since.local,
-  record { local = is.1.local ∙ since.local; kept = is.1.kept ∙ since.kept },
+  start_since since is.1,
 )
 exit_keeps o _ i k j since is = tt

@@ -32,7 +32,7 @@ enter_answered h o q ob now k j m enters.Not same first keeps late = absurd (nev
 enter_answered h o q ob now k j m (enters.Done path) same first keeps late = made_on late q same
 enter_answered h o q ob now k j m (enters.Raced mark found) same first keeps late = made_on late q same
 enter_answered h o q ob now k j m (enters.Unbiased mark) same first keeps late =
-    begun_on late q same (ap local_of keeps ∙ first.local) (ap (λ (x : ThreadView). x.kept) keeps ∙ first.kept)
+    begun_on late q same (keeps.local ∙ first.local) (keeps.kept ∙ first.kept)
 enter_answered h o q ob now k j m (enters.Biased mark prototype) same first keeps late =
     begun_on (late_as late (sym (binds (bias_enter_by (read_mark prototype) (entering ob now) (start_now h o).local ob mark prototype)
     (λ t. enter_tried t h.heap.shape (entering ob now) (start_now h o) (entered ob now)) answer))) q same

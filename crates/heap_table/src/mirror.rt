@@ -12,6 +12,7 @@ use crate::afters::{
     Stand, halted_next, keep_next, looked_at, note_entry, published_next, saved_next, stand_next,
     store_hold, unfinished_next, wait_next,
 };
+use crate::call_context::CallContext;
 use crate::counts::{ClassCounts, NO_COUNTS, count_next};
 use crate::draws::{Drawing, draw_next};
 use crate::holds::Holds;
@@ -144,7 +145,8 @@ impl Mirror {
     ghost use Rattle.core_world.specs.declared.plan.LogEffect.TheVariants.{Log};
     ghost use Rattle.core_world.specs.declared.stage.Stage.{Stage};
     ghost use Rattle.core_world.specs.declared.word_id.WordId.{WordId};
-    ghost use Rattle.core_world.specs.Trees.Plans.{CallContext, logging_plan, with_stage};
+    ghost use Rattle.core_world.specs.Trees.Plans as plans;
+    ghost use Rattle.core_world.specs.Trees.Plans.{logging_plan, with_stage};
     ghost use Rattle.heap_table.specs.inner.Amid.{IsAside, IsSameFrame, lagging};
     ghost use Rattle.heap_table.specs.inner.Kept.{StampFits, with_any_entry, entry_after};
     ghost use Rattle.heap_table.specs.inner.Layout.{IsPlaced};
@@ -285,7 +287,7 @@ impl Mirror {
         requires room { self.old.keeps ≡ true → length self.old.log.items < self.old.room }
         requires few { self.old.given + 1 < 2 ^ 42 }
         requires stamp { StampFits (Log entry) found self.old.last }
-        ensures shows { (s : Shape) (start : ℕ) (e : CallContext) (stage : Stage) (at : WordId) (act : Act) (k : ThreadView)
+        ensures shows { (s : Shape) (start : ℕ) (e : plans.CallContext) (stage : Stage) (at : WordId) (act : Act) (k : ThreadView)
             → IsAside entry at act found self.old → Mirrors (lagging e self.old) k
             → Mirrors (lagging (record e { unfinished = None }) self.new)
             (known_after s start (with_stage stage (logging_plan entry e at act)) found k) }
@@ -301,5 +303,15 @@ impl Mirror {
             &LogEffect::Log { entry },
             found,
         );
+    }
+
+    /// Says what the call leaves unfinished, which lags up to here.
+    #[inline(always)]
+    pub fn stays_amid(&mut self, call: &CallContext)
+        ensures shows { (k : ThreadView) → Mirrors (lagging call.now self.old) k → Mirrors self.new k }
+        ensures frame { IsSameFrame self.old self.new }
+    {
+        self.unfinished = call.unfinished;
+        self.checking = call.check;
     }
 }

@@ -7,9 +7,9 @@ ghost use Rattle.heap_table.specs.Resting.{MayOperate};
 
 use crate::call_context::CallContext;
 use crate::heap::Heap;
+use crate::holding::enter_marked;
 use crate::pass::Pass;
 use crate::plans::quiet;
-use crate::quick_enters::enter_marked;
 use crate::quick_exits::{leave_hold, leave_unbiased, raise_at};
 use crate::reads::has_bias_bits;
 use crate::steps::step_at;

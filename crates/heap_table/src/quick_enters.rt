@@ -1,18 +1,20 @@
-//! The ways of a quick enter, once its mark was found. The seat is ahead of the mirror up to the last step of each.
-ghost use Rattle.std.specs.Prelude.{◌≡◌, ◌≢◌, ◌<◌, true, None, [], ◌∷◌, IfSome};
+//! The ways of a quick enter, once its mark was found: they lead to where the lock is the thread's own, and the hold is left to take. The seat is
+//! ahead of the mirror, which is only read.
+ghost use Rattle.std.specs.Prelude.{◌≡◌, ◌≢◌, ◌<◌, true, None, [], ◌∷◌};
 ghost use Rattle.mark_word.specs.Mark.{read_mark};
-ghost use Rattle.plain_monitor.specs.declared.entry.Path.TheVariants.{MonitorAgain, MonitorFirst};
+ghost use Rattle.core_world.specs.declared.word_id.WordId.TheVariants.{Mark};
 ghost use Rattle.core_world.specs.Threads.ThreadView.{local_of};
 ghost use Rattle.core_world.specs.Words.Forms.{is_biased};
-ghost use Rattle.heap_table.specs.Layout.{word_count};
+ghost use Rattle.heap_table.specs.Layout.{place_of, word_count};
 ghost use Rattle.heap_table.specs.Quick.{entered};
-ghost use Rattle.heap_table.specs.Ruled.{heap_in, only};
-ghost use Rattle.heap_table.specs.inner.Amid.{EntersIdle, IsAmid, IsAmidSince, IsIdle, IsSameFrame, IsStartOf, KeepsStart, Leads, LeadsSince, MayHold};
-ghost use Rattle.heap_table.specs.inner.Amid.{again_enter, biased_left, enter_left, first_enter, lagging, monitor_enter, owner_entered};
-ghost use Rattle.heap_table.specs.inner.Amid.{mark_left, record_left, taken, unbiased_enter};
+ghost use Rattle.heap_table.specs.Ruled.{only};
+ghost use Rattle.heap_table.specs.inner.Amid.{Awaits, AwaitsSince, Goes, GoesSince, IsStartOf, MaySeize};
+ghost use Rattle.heap_table.specs.inner.Amid.{again_enter, biased_left, first_enter, hold_end, mark_left, monitor_enter, monitor_left};
+ghost use Rattle.heap_table.specs.inner.Amid.{record_left, recorded_end, seized_left, unbiased_enter};
+ghost use Rattle.plain_monitor.specs.declared.entry.Path.TheVariants.{MonitorAgain};
+ghost use Rattle.core_world.specs.Trees.Plans.{free_place};
 
 use crate::call_context::CallContext;
-use crate::holding::{take_hold, take_recorded};
 use crate::mirror::Mirror;
 use crate::plans::quiet;
 use crate::quick::QuickEnter;
@@ -24,32 +26,67 @@ use core_world::{Act, Stage, WordId};
 use mark_word::{MarkForm, OwnerForm, encode, encode_owner};
 use plain_monitor::Path;
 
-/// By a lock record, where the mark is neutral: it becomes the record's displaced word, and is exchanged for the record's place. The answer is the
-/// other mark that the exchange found, or none where the thread has the lock.
+// Stores this displaced word at the place that the hold will have.
 #[inline(always)]
-pub fn enter_by_record(
+fn displace(
     words: &Words,
     setting: &Setting,
     seat: &mut Place,
-    mirror: &mut Mirror,
+    mirror: &Mirror,
+    call: &CallContext,
+    stage: Stage,
+    object: u32,
+    displaced: u64,
+    path: Path,
+)
+    requires setting { (words.now.shared.key ≡ setting.now)
+        × (words.now.shared.table_id.words ≡ word_count setting.now.shape) }
+    requires seat { (seat.old.table_id ≡ words.now.shared.table_id) × (seat.old.me ≡ (only seat.old.me.0 ∷ [], [])) }
+    requires place { free_place mirror.now.holds.words ≡ mirror.now.holds.used }
+    requires amid { Awaits setting.now call.now mirror.now (only seat.old.me.0)
+        (recorded_end call.now stage (local_of (only seat.old.me.0)) object displaced path) }
+    ensures seat { (seat.new.table_id ≡ seat.old.table_id) × (seat.new.me ≡ (only seat.new.me.0 ∷ [], [])) }
+    ensures start { IsStartOf (only seat.old.me.0) (only seat.new.me.0) }
+    ensures leads { Goes setting.now call.now mirror.now
+        (only seat.old.me.0) (recorded_end call.now stage (local_of (only seat.old.me.0)) object displaced path)
+        (only seat.new.me.0) (hold_end call.now (local_of (only seat.old.me.0)) object path) }
+{
+    let thread = mirror.thread;
+    let place = mirror.holds.used;
+    let first = quiet(
+        call,
+        stage,
+        WordId::Displaced { thread, place },
+        Act::Store { word: displaced },
+    );
+    step_in_table(words, setting, seat, first);
+}
+
+// By a lock record, where the mark is neutral: it becomes the record's displaced word, and is exchanged for the record's place. The answer is the
+// other mark that the exchange found, or none where the thread has the lock.
+#[inline(always)]
+fn seize_by_record(
+    words: &Words,
+    setting: &Setting,
+    seat: &mut Place,
+    mirror: &Mirror,
     call: &CallContext,
     object: u32,
     mark: u64,
-    word: u64,
     at: usize,
 ) -> Option<u64>
     requires setting { (words.now.shared.key ≡ setting.now)
         × (words.now.shared.table_id.words ≡ word_count setting.now.shape) }
     requires seat { (seat.old.table_id ≡ words.now.shared.table_id) × (seat.old.me ≡ (only seat.old.me.0 ∷ [], [])) }
-    requires may { MayHold setting.now.shape call.now mirror.old object word at }
-    requires amid { IsAmid (heap_in setting.now) call.now.task (only seat.old.me.0)
-        (first_enter call.now (local_of (only seat.old.me.0)) object mark) (lagging call.now mirror.old) }
+    requires may { MaySeize mirror.now }
+    requires at { at ≡ place_of setting.now.shape (Mark object) }
+    requires amid { Awaits setting.now call.now mirror.now (only seat.old.me.0)
+        (first_enter call.now (local_of (only seat.old.me.0)) object mark) }
     ensures seat { (seat.new.table_id ≡ seat.old.table_id) × (seat.new.me ≡ (only seat.new.me.0 ∷ [], [])) }
-    ensures frame { IsSameFrame mirror.old mirror.new }
-    ensures idle { result ≡ None → IsIdle call.now mirror.new }
-    ensures leads { Leads (heap_in setting.now) call.now.task
-        (only seat.old.me.0) (first_enter call.now (local_of (only seat.old.me.0)) object mark) (lagging call.now mirror.old)
-        (only seat.new.me.0) (record_left mark result) mirror.new }
+    ensures start { IsStartOf (only seat.old.me.0) (only seat.new.me.0) }
+    ensures leads { Goes setting.now call.now mirror.now
+        (only seat.old.me.0) (first_enter call.now (local_of (only seat.old.me.0)) object mark)
+        (only seat.new.me.0) (record_left call.now (local_of (only seat.old.me.0)) object mark result) }
 {
     let thread = mirror.thread;
     let place = mirror.holds.used;
@@ -64,54 +101,34 @@ pub fn enter_by_record(
     let second = quiet(call, stage, WordId::Mark { object }, act);
     let found = step_at(words, setting, seat, at, second);
     if found != mark {
-        mirror.unfinished = call.unfinished;
-        mirror.checking = call.check;
         return Some(found);
     }
-    take_hold(
-        words,
-        setting,
-        seat,
-        mirror,
-        call,
-        object,
-        word,
-        at,
-        Path::StackFirst,
-    );
     None
 }
 
-/// By this monitor, which the mark names: its owner word is exchanged from free. The answer is the other owner word that the exchange found, or none
-/// where the thread owns the monitor.
+// By this monitor, which the mark names: its owner word is exchanged from free. The answer is the other owner word that the exchange found, or none
+// where the thread owns the monitor.
 #[inline(always)]
-pub fn enter_by_monitor(
+fn seize_by_monitor(
     words: &Words,
     setting: &Setting,
     seat: &mut Place,
-    mirror: &mut Mirror,
+    mirror: &Mirror,
     call: &CallContext,
     object: u32,
     monitor: u32,
-    word: u64,
-    at: usize,
 ) -> Option<u64>
     requires setting { (words.now.shared.key ≡ setting.now)
         × (words.now.shared.table_id.words ≡ word_count setting.now.shape) }
     requires seat { (seat.old.table_id ≡ words.now.shared.table_id) × (seat.old.me ≡ (only seat.old.me.0 ∷ [], [])) }
-    requires may { MayHold setting.now.shape call.now mirror.old object word at }
-    requires amid { IsAmid (heap_in setting.now) call.now.task (only seat.old.me.0)
-        (monitor_enter call.now (local_of (only seat.old.me.0)) object monitor) (lagging call.now mirror.old) }
+    requires may { MaySeize mirror.now }
+    requires amid { Awaits setting.now call.now mirror.now (only seat.old.me.0)
+        (monitor_enter call.now (local_of (only seat.old.me.0)) object monitor) }
     ensures seat { (seat.new.table_id ≡ seat.old.table_id) × (seat.new.me ≡ (only seat.new.me.0 ∷ [], [])) }
-    ensures frame { IsSameFrame mirror.old mirror.new }
-    ensures idle { result ≡ None → IsIdle call.now mirror.new }
-    ensures taken { result ≡ None → Leads (heap_in setting.now) call.now.task
-        (only seat.old.me.0) (monitor_enter call.now (local_of (only seat.old.me.0)) object monitor) (lagging call.now mirror.old)
-        (only seat.new.me.0) (taken MonitorFirst) mirror.new }
-    ensures found { IfSome result (λ owner. (mirror.new ≡ mirror.old) × IsStartOf (only seat.old.me.0) (only seat.new.me.0)
-        × Leads (heap_in setting.now) call.now.task
-        (only seat.old.me.0) (monitor_enter call.now (local_of (only seat.old.me.0)) object monitor) (lagging call.now mirror.old)
-        (only seat.new.me.0) (owner_entered call.now (local_of (only seat.old.me.0)) object monitor owner) (lagging call.now mirror.old)) }
+    ensures start { IsStartOf (only seat.old.me.0) (only seat.new.me.0) }
+    ensures leads { Goes setting.now call.now mirror.now
+        (only seat.old.me.0) (monitor_enter call.now (local_of (only seat.old.me.0)) object monitor)
+        (only seat.new.me.0) (monitor_left call.now (local_of (only seat.old.me.0)) object monitor result) }
 {
     let thread = mirror.thread;
     let act = Act::CompareExchange {
@@ -124,7 +141,7 @@ pub fn enter_by_monitor(
     if found != 0 {
         return Some(found);
     }
-    take_recorded(
+    displace(
         words,
         setting,
         seat,
@@ -133,38 +150,33 @@ pub fn enter_by_monitor(
         stage,
         object,
         3,
-        word,
-        at,
         Path::MonitorFirst,
     );
     None
 }
 
-/// By this monitor, which the thread owns: the recursions rise.
+// By this monitor, which the thread owns: the recursions rise.
 #[inline(always)]
-pub fn enter_again(
+fn seize_again(
     words: &Words,
     setting: &Setting,
     seat: &mut Place,
-    mirror: &mut Mirror,
+    mirror: &Mirror,
     call: &CallContext,
     object: u32,
     monitor: u32,
-    word: u64,
-    at: usize,
 )
     requires setting { (words.now.shared.key ≡ setting.now)
         × (words.now.shared.table_id.words ≡ word_count setting.now.shape) }
     requires seat { (seat.old.table_id ≡ words.now.shared.table_id) × (seat.old.me ≡ (only seat.old.me.0 ∷ [], [])) }
-    requires may { MayHold setting.now.shape call.now mirror.old object word at }
-    requires amid { IsAmid (heap_in setting.now) call.now.task (only seat.old.me.0)
-        (again_enter call.now (local_of (only seat.old.me.0)) object monitor) (lagging call.now mirror.old) }
+    requires may { MaySeize mirror.now }
+    requires amid { Awaits setting.now call.now mirror.now (only seat.old.me.0)
+        (again_enter call.now (local_of (only seat.old.me.0)) object monitor) }
     ensures seat { (seat.new.table_id ≡ seat.old.table_id) × (seat.new.me ≡ (only seat.new.me.0 ∷ [], [])) }
-    ensures frame { IsSameFrame mirror.old mirror.new }
-    ensures idle { IsIdle call.now mirror.new }
-    ensures leads { Leads (heap_in setting.now) call.now.task
-        (only seat.old.me.0) (again_enter call.now (local_of (only seat.old.me.0)) object monitor) (lagging call.now mirror.old)
-        (only seat.new.me.0) (taken MonitorAgain) mirror.new }
+    ensures start { IsStartOf (only seat.old.me.0) (only seat.new.me.0) }
+    ensures leads { Goes setting.now call.now mirror.now
+        (only seat.old.me.0) (again_enter call.now (local_of (only seat.old.me.0)) object monitor)
+        (only seat.new.me.0) (hold_end call.now (local_of (only seat.old.me.0)) object MonitorAgain) }
 {
     let count = WordId::Recursions { monitor };
     let first = quiet(call, Stage::Settled, count, Act::Load);
@@ -173,7 +185,7 @@ pub fn enter_again(
     let raised = recursions + 1;
     let second = quiet(call, stage, count, Act::Store { word: raised });
     step_in_table(words, setting, seat, second);
-    take_recorded(
+    displace(
         words,
         setting,
         seat,
@@ -182,95 +194,81 @@ pub fn enter_again(
         stage,
         object,
         3,
-        word,
-        at,
         Path::MonitorAgain,
     );
 }
 
-/// By this monitor, which the mark names.
+// By this monitor, which the mark names.
 #[inline(always)]
-pub fn enter_inflated(
+fn seize_inflated(
     words: &Words,
     setting: &Setting,
     seat: &mut Place,
-    mirror: &mut Mirror,
+    mirror: &Mirror,
     call: &CallContext,
     object: u32,
     now: u64,
     monitor: u32,
-    word: u64,
-    at: usize,
 ) -> QuickEnter
     requires setting { (words.now.shared.key ≡ setting.now)
         × (words.now.shared.table_id.words ≡ word_count setting.now.shape) }
     requires seat { (seat.old.table_id ≡ words.now.shared.table_id) × (seat.old.me ≡ (only seat.old.me.0 ∷ [], [])) }
-    requires may { MayHold setting.now.shape call.now mirror.old object word at }
-    requires amid { IsAmidSince (heap_in setting.now) call.now.task (only seat.old.me.0)
-        (λ start. monitor_enter call.now start.local object monitor) (lagging call.now mirror.old) }
+    requires may { MaySeize mirror.now }
+    requires amid { AwaitsSince setting.now call.now mirror.now (only seat.old.me.0)
+        (λ start. monitor_enter call.now start.local object monitor) }
     ensures seat { (seat.new.table_id ≡ seat.old.table_id) × (seat.new.me ≡ (only seat.new.me.0 ∷ [], [])) }
-    ensures frame { IsSameFrame mirror.old mirror.new }
-    ensures idle { EntersIdle result call.now mirror.new }
-    ensures start { KeepsStart result (only seat.old.me.0) (only seat.new.me.0) }
-    ensures leads { LeadsSince (heap_in setting.now) call.now.task
-        (only seat.old.me.0) (λ start. monitor_enter call.now start.local object monitor) (lagging call.now mirror.old)
-        (only seat.new.me.0) (λ start. enter_left setting.now.shape call.now start (entered object now) result) mirror.new }
+    ensures start { IsStartOf (only seat.old.me.0) (only seat.new.me.0) }
+    ensures leads { GoesSince setting.now call.now mirror.now
+        (only seat.old.me.0) (λ start. monitor_enter call.now start.local object monitor)
+        (only seat.new.me.0) (λ start. seized_left setting.now.shape call.now start (entered object now) result) }
 {
-    match enter_by_monitor(
-        words, setting, seat, mirror, call, object, monitor, word, at,
-    ) {
+    match seize_by_monitor(words, setting, seat, mirror, call, object, monitor) {
         None => QuickEnter::Done {
             path: Path::MonitorFirst,
         },
         Some(found) => {
             let thread = mirror.thread;
             if found == encode_owner(&OwnerForm::ByThread { thread }) {
-                enter_again(
-                    words, setting, seat, mirror, call, object, monitor, word, at,
-                );
+                seize_again(words, setting, seat, mirror, call, object, monitor);
                 return QuickEnter::Done {
                     path: Path::MonitorAgain,
                 };
             }
-            mirror.unfinished = call.unfinished;
-            mirror.checking = call.check;
             QuickEnter::Taken { monitor, found }
         }
     }
 }
 
-/// By a mark without the bias pattern.
+// By a mark without the bias pattern.
 #[inline(always)]
-pub fn enter_unbiased(
+fn seize_unbiased(
     words: &Words,
     setting: &Setting,
     seat: &mut Place,
-    mirror: &mut Mirror,
+    mirror: &Mirror,
     call: &CallContext,
     object: u32,
     now: u64,
     mark: u64,
-    word: u64,
     at: usize,
 ) -> QuickEnter
     requires setting { (words.now.shared.key ≡ setting.now)
         × (words.now.shared.table_id.words ≡ word_count setting.now.shape) }
     requires seat { (seat.old.table_id ≡ words.now.shared.table_id) × (seat.old.me ≡ (only seat.old.me.0 ∷ [], [])) }
-    requires may { MayHold setting.now.shape call.now mirror.old object word at }
+    requires may { MaySeize mirror.now }
+    requires at { at ≡ place_of setting.now.shape (Mark object) }
     requires found { read_mark mark ≢ None }
-    requires amid { IsAmidSince (heap_in setting.now) call.now.task (only seat.old.me.0)
-        (λ start. unbiased_enter setting.now.shape call.now start object mark) (lagging call.now mirror.old) }
+    requires amid { AwaitsSince setting.now call.now mirror.now (only seat.old.me.0)
+        (λ start. unbiased_enter setting.now.shape call.now start object mark) }
     ensures seat { (seat.new.table_id ≡ seat.old.table_id) × (seat.new.me ≡ (only seat.new.me.0 ∷ [], [])) }
-    ensures frame { IsSameFrame mirror.old mirror.new }
-    ensures idle { EntersIdle result call.now mirror.new }
-    ensures start { KeepsStart result (only seat.old.me.0) (only seat.new.me.0) }
-    ensures leads { LeadsSince (heap_in setting.now) call.now.task
-        (only seat.old.me.0) (λ start. unbiased_enter setting.now.shape call.now start object mark) (lagging call.now mirror.old)
-        (only seat.new.me.0) (λ start. enter_left setting.now.shape call.now start (entered object now) result) mirror.new }
+    ensures start { IsStartOf (only seat.old.me.0) (only seat.new.me.0) }
+    ensures leads { GoesSince setting.now call.now mirror.now
+        (only seat.old.me.0) (λ start. unbiased_enter setting.now.shape call.now start object mark)
+        (only seat.new.me.0) (λ start. seized_left setting.now.shape call.now start (entered object now) result) }
 {
     match form_of(mark) {
         MarkForm::Neutral { .. } => {
-            match enter_by_record(words, setting, seat, mirror, call, object, mark, word, at) {
+            match seize_by_record(words, setting, seat, mirror, call, object, mark, at) {
                 Some(found) => QuickEnter::Raced {
                     expected: mark,
                     found,
@@ -283,129 +281,87 @@ pub fn enter_unbiased(
         MarkForm::Locked { thread, .. } => {
             if thread == mirror.thread {
                 let path = Path::StackAgain;
-                take_recorded(
-                    words,
-                    setting,
-                    seat,
-                    mirror,
-                    call,
-                    Stage::Settled,
-                    object,
-                    0,
-                    word,
-                    at,
-                    path,
-                );
+                let stage = Stage::Settled;
+                displace(words, setting, seat, mirror, call, stage, object, 0, path);
                 return QuickEnter::Done { path };
             }
-            mirror.unfinished = call.unfinished;
-            mirror.checking = call.check;
             QuickEnter::Unbiased { mark }
         }
         MarkForm::Inflated { monitor } => {
-            enter_inflated(
-                words, setting, seat, mirror, call, object, now, monitor, word, at,
-            )
+            seize_inflated(words, setting, seat, mirror, call, object, now, monitor)
         }
-        _ => {
-            mirror.unfinished = call.unfinished;
-            mirror.checking = call.check;
-            QuickEnter::Unbiased { mark }
-        }
+        _ => QuickEnter::Unbiased { mark },
     }
 }
 
-/// By a mark with the bias pattern.
+// By a mark with the bias pattern.
 #[inline(always)]
-pub fn enter_biased(
+fn seize_biased(
     words: &Words,
     setting: &Setting,
     seat: &mut Place,
-    mirror: &mut Mirror,
+    mirror: &Mirror,
     call: &CallContext,
     object: u32,
     now: u64,
     mark: u64,
-    word: u64,
-    at: usize,
 ) -> QuickEnter
     requires setting { (words.now.shared.key ≡ setting.now)
         × (words.now.shared.table_id.words ≡ word_count setting.now.shape) }
     requires seat { (seat.old.table_id ≡ words.now.shared.table_id) × (seat.old.me ≡ (only seat.old.me.0 ∷ [], [])) }
-    requires may { MayHold setting.now.shape call.now mirror.old object word at }
+    requires may { MaySeize mirror.now }
     requires declared { object < setting.now.shape.declared }
     requires biased { is_biased mark ≡ true }
-    requires amid { IsAmidSince (heap_in setting.now) call.now.task (only seat.old.me.0)
-        (λ start. biased_left setting.now.shape call.now start (entered object now) mark) (lagging call.now mirror.old) }
+    requires amid { AwaitsSince setting.now call.now mirror.now (only seat.old.me.0)
+        (λ start. biased_left setting.now.shape call.now start (entered object now) mark) }
     ensures seat { (seat.new.table_id ≡ seat.old.table_id) × (seat.new.me ≡ (only seat.new.me.0 ∷ [], [])) }
-    ensures frame { IsSameFrame mirror.old mirror.new }
-    ensures idle { EntersIdle result call.now mirror.new }
-    ensures start { KeepsStart result (only seat.old.me.0) (only seat.new.me.0) }
-    ensures leads { LeadsSince (heap_in setting.now) call.now.task
-        (only seat.old.me.0) (λ start. biased_left setting.now.shape call.now start (entered object now) mark) (lagging call.now mirror.old)
-        (only seat.new.me.0) (λ start. enter_left setting.now.shape call.now start (entered object now) result) mirror.new }
+    ensures start { IsStartOf (only seat.old.me.0) (only seat.new.me.0) }
+    ensures leads { GoesSince setting.now call.now mirror.now
+        (only seat.old.me.0) (λ start. biased_left setting.now.shape call.now start (entered object now) mark)
+        (only seat.new.me.0) (λ start. seized_left setting.now.shape call.now start (entered object now) result) }
 {
     let class = setting.shape.class_of(object);
     let first = quiet(call, Stage::Settled, WordId::Prototype { class }, Act::Load);
     let prototype = step_in_table(words, setting, seat, first);
     if !is_own_by_sum(mark, prototype, mirror.own_bits) {
-        mirror.unfinished = call.unfinished;
-        mirror.checking = call.check;
         return QuickEnter::Biased { mark, prototype };
     }
-    take_hold(
-        words,
-        setting,
-        seat,
-        mirror,
-        call,
-        object,
-        word,
-        at,
-        Path::BiasOwn,
-    );
     QuickEnter::Done {
         path: Path::BiasOwn,
     }
 }
 
-/// By the mark that was found.
+/// By the mark that was found. Where it is done, the lock is the thread's own, and the hold is left to take.
 #[inline(always)]
-pub fn enter_marked(
+pub fn seize(
     words: &Words,
     setting: &Setting,
     seat: &mut Place,
-    mirror: &mut Mirror,
+    mirror: &Mirror,
     call: &CallContext,
     object: u32,
     now: u64,
     mark: u64,
-    word: u64,
     at: usize,
 ) -> QuickEnter
     requires setting { (words.now.shared.key ≡ setting.now)
         × (words.now.shared.table_id.words ≡ word_count setting.now.shape) }
     requires seat { (seat.old.table_id ≡ words.now.shared.table_id) × (seat.old.me ≡ (only seat.old.me.0 ∷ [], [])) }
-    requires may { MayHold setting.now.shape call.now mirror.old object word at }
+    requires may { MaySeize mirror.now }
+    requires at { at ≡ place_of setting.now.shape (Mark object) }
     requires declared { object < setting.now.shape.declared }
     requires found { read_mark mark ≢ None }
-    requires amid { IsAmidSince (heap_in setting.now) call.now.task (only seat.old.me.0)
-        (λ start. mark_left (is_biased mark) setting.now.shape call.now start (entered object now) mark) (lagging call.now mirror.old) }
+    requires amid { AwaitsSince setting.now call.now mirror.now (only seat.old.me.0)
+        (λ start. mark_left (is_biased mark) setting.now.shape call.now start (entered object now) mark) }
     ensures seat { (seat.new.table_id ≡ seat.old.table_id) × (seat.new.me ≡ (only seat.new.me.0 ∷ [], [])) }
-    ensures frame { IsSameFrame mirror.old mirror.new }
-    ensures idle { EntersIdle result call.now mirror.new }
-    ensures start { KeepsStart result (only seat.old.me.0) (only seat.new.me.0) }
-    ensures leads { LeadsSince (heap_in setting.now) call.now.task
-        (only seat.old.me.0) (λ start. mark_left (is_biased mark) setting.now.shape call.now start (entered object now) mark) (lagging call.now mirror.old)
-        (only seat.new.me.0) (λ start. enter_left setting.now.shape call.now start (entered object now) result) mirror.new }
+    ensures start { IsStartOf (only seat.old.me.0) (only seat.new.me.0) }
+    ensures leads { GoesSince setting.now call.now mirror.now
+        (only seat.old.me.0) (λ start. mark_left (is_biased mark) setting.now.shape call.now start (entered object now) mark)
+        (only seat.new.me.0) (λ start. seized_left setting.now.shape call.now start (entered object now) result) }
 {
     if has_bias_bits(mark) {
-        enter_biased(
-            words, setting, seat, mirror, call, object, now, mark, word, at,
-        )
+        seize_biased(words, setting, seat, mirror, call, object, now, mark)
     } else {
-        enter_unbiased(
-            words, setting, seat, mirror, call, object, now, mark, word, at,
-        )
+        seize_unbiased(words, setting, seat, mirror, call, object, now, mark, at)
     }
 }

@@ -5,7 +5,7 @@ use Rattle.mark_word.specs.Owner.{read_owner}
 use Rattle.plain_monitor.specs.Limits.{most_holds}
 use Rattle.plain_monitor.specs.declared.entry.Entry.{Entry}
 use Rattle.plain_monitor.specs.declared.entry.Path.{Path}
-use Rattle.plain_monitor.specs.declared.entry.Path.TheVariants.{StackFirst}
+use Rattle.plain_monitor.specs.declared.entry.Path.TheVariants.{MonitorFirst, StackFirst}
 use Rattle.core_world.specs.declared.answer.IllegalMonitorState.{IllegalMonitorState}
 use Rattle.core_world.specs.declared.answer.Progress.{Progress}
 use Rattle.core_world.specs.declared.answer.PendingCause.TheVariants as why
@@ -36,6 +36,8 @@ use Rattle.heap_table.specs.Cells.{cells_shown}
 use Rattle.heap_table.specs.ExitParts.{lowered_exit, owned_exit}
 use Rattle.heap_table.specs.Kept.{Mirrors, limit_by}
 use Rattle.heap_table.specs.Layout.{place_of}
+use Rattle.heap_table.specs.Ruled.{heap_in}
+use Rattle.heap_table.specs.declared.setting.Setting.{Setting}
 use Rattle.heap_table.specs.Resting.{start_now}
 use Rattle.heap_table.specs.Seen.{HeapSeen, PassSeen}
 use Rattle.heap_table.specs.StepsLeft.{AreLeft}
@@ -78,6 +80,24 @@ abbrev pub LeadsSince : {A : Type 0} → Heap → HeapCall → ThreadView → (S
 LeadsSince {A} b t k x m j y n = (h : HeapSeen) (o : PassSeen) (d : StepTree A) → b ≡ h.heap → local_of k ≡ local_of o.known
     → Late h t o d k (x (start_now h o)) m → Late h t o d j (y (start_now h o)) n
 
+-- the mirror, but for what is unfinished amid the call, which it doesn't say yet
+abbrev pub lagging : CallContext → Mirror → Mirror
+lagging e m = record m { unfinished = e.unfinished; checking = e.check }
+
+-- THE SAME AS A WAY of the call has it, which only reads the mirror: the steps x are left,
+abbrev pub Awaits : {A : Type 0} → Setting → CallContext → Mirror → ThreadView → StepTree A → Type 0
+Awaits g e m k x = IsAmid (heap_in g) e.task k x (lagging e m)
+
+abbrev pub AwaitsSince : {A : Type 0} → Setting → CallContext → Mirror → ThreadView → (Start → StepTree A) → Type 0
+AwaitsSince g e m k x = IsAmidSince (heap_in g) e.task k x (lagging e m)
+
+-- and the way leads on to where y are.
+abbrev pub Goes : {A : Type 0} → Setting → CallContext → Mirror → ThreadView → StepTree A → ThreadView → StepTree A → Type 0
+Goes g e m k x j y = Leads (heap_in g) e.task k x (lagging e m) j y (lagging e m)
+
+abbrev pub GoesSince : {A : Type 0} → Setting → CallContext → Mirror → ThreadView → (Start → StepTree A) → ThreadView → (Start → StepTree A) → Type 0
+GoesSince g e m k x j y = LeadsSince (heap_in g) e.task k x (lagging e m) j y (lagging e m)
+
 -- a thread that knew k knows j, which is the same of what a call takes at its beginning, and another step may change
 pub record IsStartOf (k j : ThreadView) : Type 0 where
   pub local : local_of j ≡ local_of k
@@ -119,14 +139,19 @@ again_enter e k o m = monitor_again_steps e k o m >>= answer
 abbrev pub unbiased_enter : Shape → CallContext → Start → ℕ → ℕ → EnterTree
 unbiased_enter s e k o mark = enter_at (read_mark mark) s e k o mark >>= answer
 
--- The mark could be exchanged, and else another one was found.
-abbrev pub record_left : ℕ → Option ℕ → EnterTree
-record_left mark None = taken StackFirst
-record_left mark (Some found) = done (Ok (Pending (why.Raced mark found)))
+-- The mark could be exchanged, and the hold is left to take; or another mark was found.
+abbrev pub record_left : CallContext → Local → ℕ → ℕ → Option ℕ → EnterTree
+record_left e k o mark None = hold_end e k o StackFirst
+record_left e k o mark (Some found) = done (Ok (Pending (why.Raced mark found)))
 
 -- the exchange of the owner word of monitor m found that it is this
 abbrev pub owner_entered : CallContext → Local → ℕ → ℕ → ℕ → EnterTree
 owner_entered e k o m found = monitor_enter_at (read_owner found) e k o m found >>= answer
+
+-- It was free, and the hold is left to take, or it was not.
+abbrev pub monitor_left : CallContext → Local → ℕ → ℕ → Option ℕ → EnterTree
+monitor_left e k o m None = hold_end e k o MonitorFirst
+monitor_left e k o m (Some found) = owner_entered e k o m found
 
 abbrev pub prototype_left : Shape → CallContext → Start → Revocation → ℕ → ℕ → EnterTree
 prototype_left s e k b mark prototype = do
@@ -148,17 +173,20 @@ mark_left false s e k b mark = unbiased_enter s e k b.object mark
 abbrev pub enter_left : Shape → CallContext → Start → Revocation → QuickEnter → EnterTree
 enter_left s e k b enters.Not = unreachable
 enter_left s e k b (enters.Done path) = taken path
-enter_left s e k b (enters.Raced mark found) = record_left mark (Some found)
+enter_left s e k b (enters.Raced mark found) = done (Ok (Pending (why.Raced mark found)))
 enter_left s e k b (enters.Unbiased mark) = unbiased_enter s e k b.object mark
 enter_left s e k b (enters.Biased mark prototype) = prototype_left s e k b mark prototype
 enter_left s e k b (enters.Taken m found) = owner_entered e k.local b.object m found
 
+-- What is left before its hold is taken, where it has the lock.
+abbrev pub seized_left : Shape → CallContext → Start → Revocation → QuickEnter → EnterTree
+seized_left s e k b (enters.Done path) = hold_end e k.local b.object path
+seized_left s e k b r = enter_left s e k b r
+
 -- where it isn't over, the call goes on with what it took of its thread's knowledge at its beginning
 abbrev pub KeepsStart : QuickEnter → ThreadView → ThreadView → Type 0
-KeepsStart (enters.Unbiased mark) k j = j ≡ k
-KeepsStart (enters.Biased mark prototype) k j = IsStartOf k j
-KeepsStart (enters.Taken m found) k j = IsStartOf k j
-KeepsStart _ k j = Unit {0}
+KeepsStart (enters.Done path) k j = Unit {0}
+KeepsStart _ k j = IsStartOf k j
 
 -- Between two calls the mirror says that nothing is unfinished, and so it stays, where no more than the call's own steps lag.
 pub record IsIdle (e : CallContext) (m : Mirror) : Type 0 where
@@ -173,15 +201,18 @@ abbrev pub LeavesIdle : QuickExit → CallContext → Mirror → Type 0
 LeavesIdle exits.Left e m = IsIdle e m
 LeavesIdle _ e m = Unit {0}
 
--- The thread may take one more hold of this object, whose words begin at this place, by this hold word: it enters none by its waiting word, the lowest
--- free place is after those in use, and the log has room.
-pub record MayHold (s : Shape) (e : CallContext) (m : Mirror) (o w n : ℕ) : Type 0 where
+-- The thread may make an object its own: it enters none by its waiting word, and the lowest free place for a hold is after those in use.
+pub record MaySeize (m : Mirror) : Type 0 where
   pub waits : m.wait ≡ 0
   pub place : free_place m.holds.words ≡ m.holds.used
   pub few : m.holds.used < most_holds
+
+-- It may take one more hold of this object, too, whose words begin at this place, by this hold word: the log has room.
+pub record MayHold (s : Shape) (e : CallContext) (m : Mirror) (o w n : ℕ) : Type 0 where
+  pub seizes : MaySeize m
+  pub at : n ≡ place_of s (Mark o)
   pub room : m.keeps ≡ true → length m.log.items < m.room
   pub word : w ≡ hold_word o (hold_count o m.holds.words + 1)
-  pub at : n ≡ place_of s (Mark o)
   pub low : n < 1000000
   pub idle : IsIdle e m
 
@@ -262,10 +293,6 @@ pub record MayClear (e : CallContext) (m : Mirror) (o p : ℕ) (last : Bool) : T
 pub record MayLeave (e : CallContext) (m : Mirror) (o p : ℕ) (last : Bool) : Type 0 where
   pub clears : MayClear e m o p last
   pub room : m.keeps ≡ true → length m.log.items < m.room
-
--- the mirror, but for what is unfinished amid the call, which it doesn't say yet
-abbrev pub lagging : CallContext → Mirror → Mirror
-lagging e m = record m { unfinished = e.unfinished; checking = e.check }
 
 -- what stays of a pass, whatever its thread comes to know
 pub record IsSameFrame (m n : Mirror) : Type 0 where

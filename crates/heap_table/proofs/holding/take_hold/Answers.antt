@@ -31,7 +31,7 @@ first_plan c =
     let o = c.args.object in
     let all = sym shows.holds in
     let thread = sym shows.thread in
-    let place = sym c.requires.may.place ∙ ap free_place all in
+    let place = sym c.requires.may.seizes.place ∙ ap free_place all in
     let word = c.requires.may.word ∙ ap (λ hs. hold_word o (hold_count o hs + 1)) all in
     c.quiet-first.ensures ∙ λ i. with_stage (Enters o (place i) c.args.path) (quiet_plan c.args.call.now (Hold (thread i) (place i)) (Store (word i)))
 
@@ -59,7 +59,7 @@ stored : (c : After-logging-second) → let e = c.args.call.now in let k = only 
 stored c = λ h o d its late.
     let k = only c.args.seat.now.me.0 in
     let all = sym c.requires.amid.late.mirrors.holds in
-    let place = sym c.requires.may.place ∙ ap free_place all in
+    let place = sym c.requires.may.seizes.place ∙ ap free_place all in
     let word = c.requires.may.word ∙ ap (λ hs. hold_word c.args.object (hold_count c.args.object hs + 1)) all in
     made_step late its (first_plan (after_hold c)) refl refl c.step_in_table.ensures.stepped c.step_in_table.ensures.seat.1
     (follow_hold h.heap.shape h.heap.start c.args.call.now k.thread c.args.object (hold_count c.args.object k.holds + 1) (free_place k.holds) c.args.path

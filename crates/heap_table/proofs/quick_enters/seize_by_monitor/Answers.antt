@@ -14,11 +14,11 @@ use Rattle.core_world.specs.Trees.Plans.{quiet_plan, with_stage}
 use Rattle.core_world.specs.Trees.StepTree.{◌>>=◌}
 use Rattle.core_world.specs.Words.Acts.{hits}
 use Rattle.heap_table.specs.Ruled.{heap_in, only}
-use Rattle.heap_table.specs.inner.Amid.{IsStartOf, Leads, lagging, monitor_enter, recorded_end}
+use Rattle.heap_table.specs.inner.Amid.{Goes, IsStartOf, hold_end, monitor_enter, recorded_end}
 use Rattle.heap_table.proofs.HoldEnds.{recorded_ended, not_entering}
-use Rattle.heap_table.proofs.Late.{amid_by, exchange_keeps, keeps_start, late_as, may_step, made_step, follow_missed, follow_quiet}
-use Rattle.heap_table.proofs.quick_enters.enter_by_monitor.Goals as goal
-use Rattle.heap_table.proofs.quick_enters.enter_by_monitor.Goals.{After-quiet-first, After-step_in_table-found}
+use Rattle.heap_table.proofs.Late.{amid_by, exchange_keeps, keeps_start, late_as, may_step, made_step, follow_missed, follow_quiet, start_since}
+use Rattle.heap_table.proofs.quick_enters.seize_by_monitor.Goals as goal
+use Rattle.heap_table.proofs.quick_enters.seize_by_monitor.Goals.{After-quiet-first, After-step_in_table-found}
 
 -- THE OWNER WORD is exchanged.
 first_plan : (c : After-quiet-first) → c.quiet-first.result ≡ grab_plan c.args.call.now (only c.args.seat.now.me.0).thread c.args.object c.args.monitor
@@ -43,18 +43,17 @@ keeps c = keeps_start (heap_in c.args.setting.now) c.step_in_table-found.result 
     (record { local = refl; kept = refl }) (record { local = refl; kept = refl }))
 
 -- It missed.
-pub returns-then-found-ne0-clause-found : goal.returns-then-found-ne0-clause-found
-returns-then-found-ne0-clause-found c = (
-  refl,
-  keeps (goal.at.returns-then-found-ne0-clause-found c).After-step_in_table-found,
-  λ h o d its late.
-      let y = first_of (goal.at.returns-then-found-ne0-clause-found c).After-step_in_table-found in
-      let plan = grab_plan c.args.call.now (only c.args.seat.now.me.0).thread c.args.object c.args.monitor in
-      let n = c.step_in_table-found.result in
-      let other : hits plan.act n ≡ false = ne_eqb _ _ c.if-found-ne0.true in
-      made_step late its (first_plan y) refl refl c.step_in_table-found.ensures.stepped c.step_in_table-found.ensures.seat.1
-      (follow_missed h.heap.shape h.heap.start plan n _ _ other refl late.mirrors),
-)
+pub returns-then-found-ne0-clause-start : goal.returns-then-found-ne0-clause-start
+returns-then-found-ne0-clause-start c = keeps (goal.at.returns-then-found-ne0-clause-start c).After-step_in_table-found
+
+pub returns-then-found-ne0-clause-leads : goal.returns-then-found-ne0-clause-leads
+returns-then-found-ne0-clause-leads c = λ h o d its late.
+    let y = first_of (goal.at.returns-then-found-ne0-clause-leads c).After-step_in_table-found in
+    let plan = grab_plan c.args.call.now (only c.args.seat.now.me.0).thread c.args.object c.args.monitor in
+    let n = c.step_in_table-found.result in
+    let other : hits plan.act n ≡ false = ne_eqb _ _ c.if-found-ne0.true in
+    made_step late its (first_plan y) refl refl c.step_in_table-found.ensures.stepped c.step_in_table-found.ensures.seat.1
+    (follow_missed h.heap.shape h.heap.start plan n _ _ other refl late.mirrors)
 
 -- It hit: the record gets its word.
 is_free : read_owner 0 ≡ Some Free
@@ -63,8 +62,8 @@ is_free = refl
 
 acquired : (c : After-step_in_table-found) → c.step_in_table-found.result ≡ 0 → let e = c.args.call.now in let k = only c.args.seat.now.me.0 in
     let j = only c.step_in_table-found.new.seat.me.0 in
-    Leads (heap_in c.args.setting.now) e.task k (monitor_enter e (local_of k) c.args.object c.args.monitor) (lagging e c.args.mirror.now)
-    j (recorded_end e (MonitorAcquired c.args.object) (local_of j) c.args.object 3 MonitorFirst) (lagging e c.args.mirror.now)
+    Goes c.args.setting.now e c.args.mirror.now k (monitor_enter e (local_of k) c.args.object c.args.monitor)
+    j (recorded_end e (MonitorAcquired c.args.object) (local_of j) c.args.object 3 MonitorFirst)
 acquired c same = λ h o d its late.
     let e = c.args.call.now in
     let k = only c.args.seat.now.me.0 in
@@ -76,12 +75,16 @@ acquired c same = λ h o d its late.
     ∙ recorded_ended e (local_of k) c.args.object MonitorFirst (not_entering _ _ late.mirrors c.requires.may.waits) (MonitorAcquired c.args.object) 3
     ∙ ap (λ (l : Local). recorded_end e (MonitorAcquired c.args.object) l c.args.object 3 MonitorFirst) (sym (keeps c).local))
 
-pub take_recorded-requires-clause-amid : goal.take_recorded-requires-clause-amid
-take_recorded-requires-clause-amid c =
-    let z = (goal.at.take_recorded-requires-clause-amid c).After-step_in_table-found in
+pub displace-requires-clause-amid : goal.displace-requires-clause-amid
+displace-requires-clause-amid c =
+    let z = (goal.at.displace-requires-clause-amid c).After-step_in_table-found in
     amid_by c.requires.amid (acquired z c.if-found-ne0.false)
 
-pub returns-clause-taken : goal.returns-clause-taken
-returns-clause-taken c = λ none h o d its late.
-    let z = (goal.at.returns-clause-taken c).After-step_in_table-found in
-    c.take_recorded.ensures.leads h o d its (acquired z c.if-found-ne0.false h o d its late)
+pub returns-clause-start : goal.returns-clause-start
+returns-clause-start c = start_since (keeps (goal.at.returns-clause-start c).After-step_in_table-found) c.displace.ensures.start
+
+pub returns-clause-leads : goal.returns-clause-leads
+returns-clause-leads c = λ h o d its late.
+    let z = (goal.at.returns-clause-leads c).After-step_in_table-found in
+    late_as (c.displace.ensures.leads h o d its (acquired z c.if-found-ne0.false h o d its late))
+    (ap (λ (l : Local). hold_end c.args.call.now l c.args.object MonitorFirst) (keeps z).local)

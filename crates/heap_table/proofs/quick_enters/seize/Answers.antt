@@ -6,8 +6,8 @@ use Rattle.heap_table.specs.Resting.{start_now}
 use Rattle.heap_table.specs.Seen.{HeapSeen, PassSeen}
 use Rattle.heap_table.specs.inner.Amid.{mark_left}
 use Rattle.heap_table.proofs.Late.{late_as}
-use Rattle.heap_table.proofs.quick_enters.enter_marked.Goals as goal
-use Rattle.heap_table.proofs.quick_enters.enter_marked.Goals.{Start}
+use Rattle.heap_table.proofs.quick_enters.seize.Goals as goal
+use Rattle.heap_table.proofs.quick_enters.seize.Goals.{Start}
 
 -- what is left by that test
 by_test : (c : Start) (b : Bool) → is_biased c.args.mark ≡ b → (h : HeapSeen) (o : PassSeen) → let a = c.args in
@@ -15,10 +15,10 @@ by_test : (c : Start) (b : Bool) → is_biased c.args.mark ≡ b → (h : HeapSe
     ≡ mark_left b a.setting.now.shape a.call.now (start_now h o) (entered a.object a.now) a.mark
 by_test c b is h o = ap (λ x. mark_left x c.args.setting.now.shape c.args.call.now (start_now h o) (entered c.args.object c.args.now) c.args.mark) is
 
-pub enter_biased-requires-clause-amid : goal.enter_biased-requires-clause-amid
-enter_biased-requires-clause-amid c =
+pub seize_biased-requires-clause-amid : goal.seize_biased-requires-clause-amid
+seize_biased-requires-clause-amid c =
     let a = c.requires.amid in
-    let z = (goal.at.enter_biased-requires-clause-amid c).Start in
+    let z = (goal.at.seize_biased-requires-clause-amid c).Start in
     record {
       heap = a.heap;
       begun = a.begun;
@@ -28,10 +28,10 @@ enter_biased-requires-clause-amid c =
       late = late_as a.late (by_test z _ (sym c.has_bias_bits.ensures ∙ c.if-has_bias_bits.true) a.heap a.begun);
     }
 
-pub enter_unbiased-requires-clause-amid : goal.enter_unbiased-requires-clause-amid
-enter_unbiased-requires-clause-amid c =
+pub seize_unbiased-requires-clause-amid : goal.seize_unbiased-requires-clause-amid
+seize_unbiased-requires-clause-amid c =
     let a = c.requires.amid in
-    let z = (goal.at.enter_unbiased-requires-clause-amid c).Start in
+    let z = (goal.at.seize_unbiased-requires-clause-amid c).Start in
     record {
       heap = a.heap;
       begun = a.begun;
@@ -44,9 +44,9 @@ enter_unbiased-requires-clause-amid c =
 pub returns-then-has_bias_bits-clause-leads : goal.returns-then-has_bias_bits-clause-leads
 returns-then-has_bias_bits-clause-leads c = λ h o d its local late.
     let z = (goal.at.returns-then-has_bias_bits-clause-leads c).Start in
-    c.enter_biased.ensures.leads h o d its local (late_as late (by_test z _ (sym c.has_bias_bits.ensures ∙ c.if-has_bias_bits.true) h o))
+    c.seize_biased.ensures.leads h o d its local (late_as late (by_test z _ (sym c.has_bias_bits.ensures ∙ c.if-has_bias_bits.true) h o))
 
 pub returns-else-has_bias_bits-clause-leads : goal.returns-else-has_bias_bits-clause-leads
 returns-else-has_bias_bits-clause-leads c = λ h o d its local late.
     let z = (goal.at.returns-else-has_bias_bits-clause-leads c).Start in
-    c.enter_unbiased.ensures.leads h o d its local (late_as late (by_test z _ (sym c.has_bias_bits.ensures ∙ c.if-has_bias_bits.false) h o))
+    c.seize_unbiased.ensures.leads h o d its local (late_as late (by_test z _ (sym c.has_bias_bits.ensures ∙ c.if-has_bias_bits.false) h o))

@@ -11,13 +11,13 @@ use Rattle.core_world.specs.Trees.Operations.{answer}
 use Rattle.core_world.specs.Trees.Plans.{load}
 use Rattle.core_world.specs.Trees.StepTree.{step, ◌>>=◌}
 use Rattle.heap_table.specs.Ruled.{heap_in, only}
-use Rattle.heap_table.specs.inner.Amid.{Leads, again_enter, lagging, recorded_end}
+use Rattle.heap_table.specs.inner.Amid.{Goes, IsStartOf, again_enter, hold_end, recorded_end}
 use Rattle.heap_table.proofs.HoldEnds.{recorded_ended, not_entering}
-use Rattle.heap_table.proofs.Late.{amid_by, did_step, keeps_start, late_as, may_step, made_step, follow_quiet}
+use Rattle.heap_table.proofs.Late.{amid_by, did_step, keeps_start, late_as, may_step, made_step, follow_quiet, start_after, start_since}
 use Rattle.heap_table.proofs.RecursionRoom.{recursion_room}
 use Rattle.heap_table.proofs.StepsLeft.{part_of}
-use Rattle.heap_table.proofs.quick_enters.enter_again.Goals as goal
-use Rattle.heap_table.proofs.quick_enters.enter_again.Goals.{After-quiet-first, After-step_in_table-recursions, After-quiet-second, After-step_in_table}
+use Rattle.heap_table.proofs.quick_enters.seize_again.Goals as goal
+use Rattle.heap_table.proofs.quick_enters.seize_again.Goals.{After-quiet-first, After-step_in_table-recursions, After-quiet-second, After-step_in_table}
 
 pub step_in_table-recursions-requires-clause-may : goal.step_in_table-recursions-requires-clause-may
 step_in_table-recursions-requires-clause-may c = may_step c.requires.amid.late c.requires.amid.its c.quiet-first.ensures refl
@@ -40,11 +40,10 @@ abbrev recursions_of : After-quiet-second → After-step_in_table-recursions
 recursions_of c = c.before
 
 raising : (c : After-quiet-second) → let e = c.args.call.now in let k = only c.args.seat.now.me.0 in
-    Leads (heap_in c.args.setting.now) e.task k (again_enter e (local_of k) c.args.object c.args.monitor) (lagging e c.args.mirror.now)
+    Goes c.args.setting.now e c.args.mirror.now k (again_enter e (local_of k) c.args.object c.args.monitor)
     (only c.step_in_table-recursions.new.seat.me.0)
     (step (raise_count_plan e c.args.object c.args.monitor c.step_in_table-recursions.result)
     (λ _. record_steps e (RecursionsRaised c.args.object) (local_of k) c.args.object MonitorAgain >>= answer))
-    (lagging e c.args.mirror.now)
 raising c = λ h o d its late.
     made_step late its c.quiet-first.ensures refl refl c.step_in_table-recursions.ensures.stepped c.step_in_table-recursions.ensures.seat.1
     (follow_quiet h.heap.shape h.heap.start c.args.call.now Settled (Recursions c.args.monitor) Load c.step_in_table-recursions.result _ _ refl refl
@@ -60,16 +59,16 @@ step_in_table-requires-clause-may c =
 abbrev second_of : After-step_in_table → After-quiet-second
 second_of c = c.before.before
 
-keeps : (c : After-step_in_table) → local_of (only c.step_in_table.new.seat.me.0) ≡ local_of (only c.args.seat.now.me.0)
+keeps : (c : After-step_in_table) → IsStartOf (only c.args.seat.now.me.0) (only c.step_in_table.new.seat.me.0)
 keeps c =
     let b = heap_in c.args.setting.now in
-    (keeps_start b c.step_in_table.result c.quiet-second.ensures c.step_in_table.ensures.seat.1 (record { local = refl; kept = refl })).local
-    ∙ (keeps_start b c.step_in_table-recursions.result c.quiet-first.ensures c.step_in_table-recursions.ensures.seat.1
-    (record { local = refl; kept = refl })).local
+    let same = keeps_start b c.step_in_table-recursions.result c.quiet-first.ensures c.step_in_table-recursions.ensures.seat.1
+    (record { local = refl; kept = refl }) in
+    start_after b c.step_in_table.result same c.quiet-second.ensures c.step_in_table.ensures.seat.1 (record { local = refl; kept = refl })
 
 raised : (c : After-step_in_table) → let e = c.args.call.now in let k = only c.args.seat.now.me.0 in let j = only c.step_in_table.new.seat.me.0 in
-    Leads (heap_in c.args.setting.now) e.task k (again_enter e (local_of k) c.args.object c.args.monitor) (lagging e c.args.mirror.now)
-    j (recorded_end e (RecursionsRaised c.args.object) (local_of j) c.args.object 3 MonitorAgain) (lagging e c.args.mirror.now)
+    Goes c.args.setting.now e c.args.mirror.now k (again_enter e (local_of k) c.args.object c.args.monitor)
+    j (recorded_end e (RecursionsRaised c.args.object) (local_of j) c.args.object 3 MonitorAgain)
 raised c = λ h o d its late.
     let e = c.args.call.now in
     let k = only c.args.seat.now.me.0 in
@@ -78,13 +77,16 @@ raised c = λ h o d its late.
     (follow_quiet h.heap.shape h.heap.start e (RecursionsRaised c.args.object) (Recursions c.args.monitor) (Store (c.step_in_table-recursions.result + 1))
     c.step_in_table.result _ _ refl refl (λ l. refl) (λ l. refl) (λ l. refl) here.mirrors))
     (recorded_ended e (local_of k) c.args.object MonitorAgain (not_entering _ _ late.mirrors c.requires.may.waits) (RecursionsRaised c.args.object) 3
-    ∙ ap (λ (l : Local). recorded_end e (RecursionsRaised c.args.object) l c.args.object 3 MonitorAgain) (sym (keeps c)))
+    ∙ ap (λ (l : Local). recorded_end e (RecursionsRaised c.args.object) l c.args.object 3 MonitorAgain) (sym (keeps c).local))
 
-pub take_recorded-requires-clause-amid : goal.take_recorded-requires-clause-amid
-take_recorded-requires-clause-amid c =
-    let z = (goal.at.take_recorded-requires-clause-amid c).After-step_in_table in
-    amid_by c.requires.amid (raised z)
+pub displace-requires-clause-amid : goal.displace-requires-clause-amid
+displace-requires-clause-amid c = amid_by c.requires.amid (raised (goal.at.displace-requires-clause-amid c).After-step_in_table)
+
+pub returns-clause-start : goal.returns-clause-start
+returns-clause-start c = start_since (keeps (goal.at.returns-clause-start c).After-step_in_table) c.displace.ensures.start
 
 pub returns-clause-leads : goal.returns-clause-leads
 returns-clause-leads c = λ h o d its late.
-    let z = (goal.at.returns-clause-leads c).After-step_in_table in c.take_recorded.ensures.leads h o d its (raised z h o d its late)
+    let z = (goal.at.returns-clause-leads c).After-step_in_table in
+    late_as (c.displace.ensures.leads h o d its (raised z h o d its late))
+    (ap (λ (l : Local). hold_end c.args.call.now l c.args.object MonitorAgain) (keeps z).local)

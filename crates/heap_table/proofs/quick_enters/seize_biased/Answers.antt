@@ -1,5 +1,5 @@
--- The prototype is loaded, and then the hold is taken, where the bias is the thread's own.
-use Rattle.std.proofs.Common.{◌≡◌, ℕ, false, if◌then◌else◌, Option, Some, refl, sym, ap, ◌∙◌, subst, eq-eqb}
+-- The prototype is loaded: it tells whether the bias is the thread's own.
+use Rattle.std.proofs.Common.{◌≡◌, ℕ, false, if◌then◌else◌, Option, Some, refl, sym, ap, ◌∙◌, eq-eqb}
 use Rattle.mark_word.specs.declared.mark.MarkForm.{MarkForm}
 use Rattle.mark_word.specs.declared.mark.MarkForm.TheVariants.{Anonymous, Neutral}
 use Rattle.plain_monitor.specs.declared.entry.Path.TheVariants.{BiasOwn}
@@ -16,20 +16,19 @@ use Rattle.core_world.specs.Trees.Plans.{CallContext, load, quiet_plan, with_sta
 use Rattle.core_world.specs.Trees.StepTree.{done, ◌>>=◌}
 use Rattle.core_world.specs.Words.Forms.{is_entering}
 use Rattle.core_world.specs.Words.Shape.{Shape, class_in_shape}
-use Rattle.heap_table.specs.Kept.{Mirrors}
 use Rattle.heap_table.specs.Own.{IsOwn}
 use Rattle.heap_table.specs.Quick.{entered}
 use Rattle.heap_table.specs.Resting.{start_now}
 use Rattle.heap_table.specs.Ruled.{heap_in, only}
 use Rattle.heap_table.specs.Seen.{HeapSeen, PassSeen}
 use Rattle.heap_table.specs.StepsLeft.{AreLeft}
-use Rattle.heap_table.specs.inner.Amid.{EnterTree, IsStartOf, LeadsSince, biased_left, hold_end, lagging, prototype_left}
+use Rattle.heap_table.specs.inner.Amid.{EnterTree, GoesSince, IsStartOf, biased_left, hold_end, prototype_left}
 use Rattle.heap_table.proofs.HoldEnds.{hold_ended, not_entering}
-use Rattle.heap_table.proofs.Late.{keeps_start, late_as, may_step, made_step, follow_quiet, shows_alike}
+use Rattle.heap_table.proofs.Late.{keeps_start, late_as, may_step, made_step, follow_quiet}
 use Rattle.heap_table.specs.inner.Prototypes.{IsPrototypeForm}
 use Rattle.heap_table.proofs.StepsLeft.{never}
-use Rattle.heap_table.proofs.quick_enters.enter_biased.Goals as goal
-use Rattle.heap_table.proofs.quick_enters.enter_biased.Goals.{After-quiet-first, After-step_in_table-prototype}
+use Rattle.heap_table.proofs.quick_enters.seize_biased.Goals as goal
+use Rattle.heap_table.proofs.quick_enters.seize_biased.Goals.{After-quiet-first, After-step_in_table-prototype}
 
 first_plan : (c : After-quiet-first) → c.quiet-first.result ≡ load c.args.call.now (Prototype (class_in_shape c.args.setting.now.shape c.args.object))
 first_plan c = c.quiet-first.ensures
@@ -50,8 +49,8 @@ keeps c = keeps_start (heap_in c.args.setting.now) c.step_in_table-prototype.res
     (record { local = refl; kept = refl })
 
 loaded : (c : After-step_in_table-prototype) → let e = c.args.call.now in let s = c.args.setting.now.shape in let b = entered c.args.object c.args.now in
-    LeadsSince (heap_in c.args.setting.now) e.task (only c.args.seat.now.me.0) (λ k. biased_left s e k b c.args.mark) (lagging e c.args.mirror.now)
-    (only c.step_in_table-prototype.new.seat.me.0) (λ k. prototype_left s e k b c.args.mark c.step_in_table-prototype.result) (lagging e c.args.mirror.now)
+    GoesSince c.args.setting.now e c.args.mirror.now (only c.args.seat.now.me.0) (λ k. biased_left s e k b c.args.mark)
+    (only c.step_in_table-prototype.new.seat.me.0) (λ k. prototype_left s e k b c.args.mark c.step_in_table-prototype.result)
 loaded c = λ h o d its local late.
     made_step late its (first_plan (first_of c)) refl refl c.step_in_table-prototype.ensures.stepped c.step_in_table-prototype.ensures.seat.1
     (follow_quiet h.heap.shape h.heap.start c.args.call.now Settled (Prototype (class_in_shape c.args.setting.now.shape c.args.object)) Load
@@ -71,18 +70,15 @@ is_own_by_sum-requires-clause-prototype c =
     let a = c.requires.amid in
     form_told _ _ _ _ _ _ _ _ _ _ _ _ (loaded z a.heap a.begun a.due a.its a.local a.late).left
 
--- The bias isn't the thread's own.
 pub returns-then-not-is_own_by_sum-clause-start : goal.returns-then-not-is_own_by_sum-clause-start
 returns-then-not-is_own_by_sum-clause-start c = keeps (goal.at.returns-then-not-is_own_by_sum-clause-start c).After-step_in_table-prototype
 
+pub returns-clause-start : goal.returns-clause-start
+returns-clause-start c = keeps (goal.at.returns-clause-start c).After-step_in_table-prototype
+
+-- The bias isn't the thread's own.
 pub returns-then-not-is_own_by_sum-clause-leads : goal.returns-then-not-is_own_by_sum-clause-leads
-returns-then-not-is_own_by_sum-clause-leads c = λ h o d its local late.
-    let here = loaded (goal.at.returns-then-not-is_own_by_sum-clause-leads c).After-step_in_table-prototype h o d its local late in
-    record {
-      left = here.left;
-      mirrors = shows_alike _ _ _ _ _ _ (subst (λ (e : CallContext). Mirrors (lagging e c.args.mirror.now) (only c.step_in_table-prototype.new.seat.me.0))
-          (sym c.call.view_is) here.mirrors);
-    }
+returns-then-not-is_own_by_sum-clause-leads c = loaded (goal.at.returns-then-not-is_own_by_sum-clause-leads c).After-step_in_table-prototype
 
 -- It is: the hold is left to take.
 own_left : (s : Shape) (e : CallContext) (k : Start) (b : Revocation) (mark prototype thread : ℕ) → IsOwn mark prototype thread → thread ≡ k.local.thread
@@ -95,32 +91,11 @@ own_left s e k b mark prototype thread its same wait =
     ∙ ap (λ c. (if c then took_steps e k.local b.object BiasOwn else done (Valid mark)) >>= (λ t. enter_tried t s e k b >>= answer)) (eq-eqb _ _ same)
     ∙ hold_ended e k.local b.object BiasOwn wait (λ path. done (Took path)) (λ t. enter_tried t s e k b >>= answer)
 
-owned : (c : After-step_in_table-prototype) → IsOwn c.args.mark c.step_in_table-prototype.result c.args.mirror.now.thread
-    → let e = c.args.call.now in let s = c.args.setting.now.shape in let b = entered c.args.object c.args.now in
-    let j = only c.step_in_table-prototype.new.seat.me.0 in
-    LeadsSince (heap_in c.args.setting.now) e.task (only c.args.seat.now.me.0) (λ k. biased_left s e k b c.args.mark) (lagging e c.args.mirror.now)
-    j (λ k. hold_end e (local_of j) c.args.object BiasOwn) (lagging e c.args.mirror.now)
-owned c own = λ h o d its local late.
-    let e = c.args.call.now in
-    let thread = sym late.mirrors.thread ∙ ap (λ (l : Local). l.thread) local in
-    let wait = ap (λ (l : Local). is_entering l.wait) (sym local) ∙ not_entering _ _ late.mirrors c.requires.may.waits in
-    late_as (loaded c h o d its local late)
-    (own_left c.args.setting.now.shape e (start_now h o) (entered c.args.object c.args.now) c.args.mark c.step_in_table-prototype.result
-    c.args.mirror.now.thread own thread wait ∙ ap (λ (l : Local). hold_end e l c.args.object BiasOwn) (sym ((keeps c).local ∙ local)))
-
-pub take_hold-requires-clause-amid : goal.take_hold-requires-clause-amid
-take_hold-requires-clause-amid c =
-    let z = (goal.at.take_hold-requires-clause-amid c).After-step_in_table-prototype in
-    let a = c.requires.amid in
-    record {
-      heap = a.heap;
-      begun = a.begun;
-      due = a.due;
-      its = a.its;
-      late = owned z (c.is_own_by_sum.ensures c.if-not-is_own_by_sum.false _ c.args.mirror.now.owns) a.heap a.begun a.due a.its a.local a.late;
-    }
-
 pub returns-clause-leads : goal.returns-clause-leads
 returns-clause-leads c = λ h o d its local late.
     let z = (goal.at.returns-clause-leads c).After-step_in_table-prototype in
-    c.take_hold.ensures.leads h o d its (owned z (c.is_own_by_sum.ensures c.if-not-is_own_by_sum.false _ c.args.mirror.now.owns) h o d its local late)
+    let own = c.is_own_by_sum.ensures c.if-not-is_own_by_sum.false _ c.args.mirror.now.owns in
+    let thread = sym late.mirrors.thread ∙ ap (λ (l : Local). l.thread) local in
+    let wait = ap (λ (l : Local). is_entering l.wait) (sym local) ∙ not_entering _ _ late.mirrors c.requires.may.waits in
+    late_as (loaded z h o d its local late) (own_left c.args.setting.now.shape c.args.call.now (start_now h o) (entered c.args.object c.args.now) c.args.mark
+    c.step_in_table-prototype.result c.args.mirror.now.thread own thread wait)

@@ -3,7 +3,7 @@ use Rattle.std.proofs.Common.{◌≡◌, ℕ, false, if◌then◌else◌, Option
 use Rattle.mark_word.specs.Mark.{read_mark}
 use Rattle.mark_word.specs.declared.mark.MarkForm.{MarkForm}
 use Rattle.mark_word.specs.declared.mark.MarkForm.TheVariants.{Inflated, Locked, Neutral}
-use Rattle.plain_monitor.specs.declared.entry.Path.TheVariants.{StackAgain}
+use Rattle.plain_monitor.specs.declared.entry.Path.TheVariants.{StackAgain, StackFirst}
 use Rattle.core_world.specs.declared.heap_call.HeapCall.{HeapCall}
 use Rattle.core_world.specs.declared.stage.Stage.TheVariants.{Settled}
 use Rattle.core_world.specs.Threads.ThreadView.{ThreadView, Local, Start, local_of}
@@ -16,10 +16,10 @@ use Rattle.core_world.specs.Words.Shape.{Shape}
 use Rattle.heap_table.specs.Resting.{start_now}
 use Rattle.heap_table.specs.Seen.{HeapSeen, PassSeen}
 use Rattle.heap_table.specs.declared.mirror.Mirror.{Mirror}
-use Rattle.heap_table.specs.inner.Amid.{EnterTree, Late, first_enter, lagging, monitor_enter, recorded_end, unbiased_enter}
+use Rattle.heap_table.specs.inner.Amid.{EnterTree, Late, first_enter, hold_end, lagging, monitor_enter, recorded_end, unbiased_enter}
 use Rattle.heap_table.proofs.HoldEnds.{not_entering, recorded_ended}
 use Rattle.heap_table.proofs.Late.{late_as}
-use Rattle.heap_table.proofs.quick_enters.enter_unbiased.Goals as goal
+use Rattle.heap_table.proofs.quick_enters.seize_unbiased.Goals as goal
 
 by_neutral : (s : Shape) (e : CallContext) (k : Start) (o mark hash age : ℕ) → read_mark mark ≡ Some (Neutral hash age)
     → unbiased_enter s e k o mark ≡ first_enter e k.local o mark
@@ -30,8 +30,8 @@ by_monitor : (s : Shape) (e : CallContext) (k : Start) (o mark monitor : ℕ) �
     → unbiased_enter s e k o mark ≡ monitor_enter e k.local o monitor
 by_monitor s e k o mark monitor form = ap (λ (f : Option MarkForm). enter_at f s e k o mark >>= answer) form
 
-pub enter_by_record-requires-clause-amid : goal.enter_by_record-requires-clause-amid
-enter_by_record-requires-clause-amid c =
+pub seize_by_record-requires-clause-amid : goal.seize_by_record-requires-clause-amid
+seize_by_record-requires-clause-amid c =
     let a = c.requires.amid in
     record {
       heap = a.heap;
@@ -42,8 +42,8 @@ enter_by_record-requires-clause-amid c =
           ∙ ap (λ (l : Local). first_enter c.args.call.now l c.args.object c.args.mark) (sym a.local));
     }
 
-pub enter_inflated-requires-clause-amid : goal.enter_inflated-requires-clause-amid
-enter_inflated-requires-clause-amid c =
+pub seize_inflated-requires-clause-amid : goal.seize_inflated-requires-clause-amid
+seize_inflated-requires-clause-amid c =
     let a = c.requires.amid in
     record {
       heap = a.heap;
@@ -55,7 +55,7 @@ enter_inflated-requires-clause-amid c =
     }
 
 pub returns-in-Inflated-clause-leads : goal.returns-in-Inflated-clause-leads
-returns-in-Inflated-clause-leads c = λ h o d its local late. c.enter_inflated.ensures.leads h o d its local
+returns-in-Inflated-clause-leads c = λ h o d its local late. c.seize_inflated.ensures.leads h o d its local
     (late_as late (by_monitor _ c.args.call.now (start_now h o) c.args.object c.args.mark _ (sym c.form_of.ensures ∙ ap Some c.in-Inflated.is)))
 
 pub returns-in-Some-clause-leads : goal.returns-in-Some-clause-leads
@@ -65,10 +65,11 @@ returns-in-Some-clause-leads c = λ h o d its local late. c.in-Some.ensures.lead
     ∙ ap (λ (l : Local). first_enter c.args.call.now l c.args.object c.args.mark) (sym local)))
 
 pub returns-in-None-clause-leads : goal.returns-in-None-clause-leads
-returns-in-None-clause-leads c = λ h o d its local late. c.in-None.ensures.leads h o d its
+returns-in-None-clause-leads c = λ h o d its local late. late_as (c.in-None.ensures.leads h o d its
     (late_as late (by_neutral _ c.args.call.now (start_now h o) c.args.object c.args.mark _ _
     (sym c.form_of.ensures ∙ ap Some c.in-Neutral.is)
-    ∙ ap (λ (l : Local). first_enter c.args.call.now l c.args.object c.args.mark) (sym local)))
+    ∙ ap (λ (l : Local). first_enter c.args.call.now l c.args.object c.args.mark) (sym local))))
+    (ap (λ (l : Local). hold_end c.args.call.now l c.args.object StackFirst) local)
 
 -- The mark names a record of the thread's own.
 by_own_record : (s : Shape) (e : CallContext) (k : Start) (o mark thread place t : ℕ) → read_mark mark ≡ Some (Locked thread place) → thread ≡ t
@@ -89,8 +90,8 @@ own_record {h = h} {o = o} m s e i mark thread place form same none local late =
     late_as late (by_own_record s e (start_now h o) i mark thread place m.thread form same its wait
     ∙ ap (λ (l : Local). recorded_end e Settled l i 0 StackAgain) (sym local))
 
-pub take_recorded-requires-clause-amid : goal.take_recorded-requires-clause-amid
-take_recorded-requires-clause-amid c =
+pub displace-requires-clause-amid : goal.displace-requires-clause-amid
+displace-requires-clause-amid c =
     let a = c.requires.amid in
     record {
       heap = a.heap;
@@ -102,6 +103,7 @@ take_recorded-requires-clause-amid c =
     }
 
 pub returns-then-thread-mirror-clause-leads : goal.returns-then-thread-mirror-clause-leads
-returns-then-thread-mirror-clause-leads c = λ h o d its local late. c.take_recorded.ensures.leads h o d its
-    (own_record c.args.mirror.now _ c.args.call.now c.args.object c.args.mark _ _ (sym c.form_of.ensures ∙ ap Some c.in-Locked.is)
-    c.if-thread-mirror.true c.requires.may.waits local late)
+returns-then-thread-mirror-clause-leads c = λ h o d its local late.
+    late_as (c.displace.ensures.leads h o d its (own_record c.args.mirror.now _ c.args.call.now c.args.object c.args.mark _ _
+    (sym c.form_of.ensures ∙ ap Some c.in-Locked.is) c.if-thread-mirror.true c.requires.may.waits local late))
+    (ap (λ (l : Local). hold_end c.args.call.now l c.args.object StackAgain) local)
