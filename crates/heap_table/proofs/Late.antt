@@ -44,6 +44,7 @@ use Rattle.heap_table.specs.inner.Kept.{stand_after}
 use Rattle.heap_table.specs.inner.Parts.{is_shot}
 use Rattle.heap_table.specs.inner.Ruled.{IsStepIf, MayStep}
 use Rattle.heap_table.proofs.Follow.{follow_hit}
+use Rattle.heap_table.proofs.Mirrored.{mirrored, mirrors_by}
 use Rattle.heap_table.proofs.Knows.{same_thread, goes_on, is_there, real_after}
 use Rattle.heap_table.proofs.StepsLeft.{AreLeft, all_left, all_made, step_made}
 
@@ -58,54 +59,75 @@ module _ {A : Type 0} {h : HeapSeen} {t : HeapCall} {o : PassSeen} {d : StepTree
   pub late_as : {x y : StepTree A} → Late h t o d k x m → x ≡ y → Late h t o d k y m
   late_as late same = subst (λ z. Late h t o d k z m) same late
 
-  -- The code says the first of the steps that are left, and the heap, in its own words.
-  module _ {plan said : StepPlan} {b : Heap} {f : ℕ → StepTree A} (late : Late h t o d k (step plan f) m) (its : b ≡ h.heap) (same : said ≡ plan)
-      (task : plan.task ≡ t) where
-    -- the step may be made
-    pub may_step : MayStep b k said
-    may_step =
-        let is_of = late.left.heap in
-        let next = next_due h.heap.shape h.heap.start h.heap.biasing k t plan f late.left.due task in
-        subst (λ (x : Heap × StepPlan). MayStep x.0 k x.1) (λ i. (sym its i, sym same i))
-        (record { within = is_of.within; next = next; at = (is_there h.heap k plan next is_of.within is_of.real).0 })
+-- The code says the first of the steps that are left, and the heap, in its own words.
+module _ {A : Type 0} {h : HeapSeen} {t : HeapCall} {o : PassSeen} {d : StepTree A} {k : ThreadView} {plan said : StepPlan} {b : Heap} {f : ℕ → StepTree A}
+    (left : AreLeft h t o d (record o { known = k }) (step plan f)) (its : b ≡ h.heap) (same : said ≡ plan) (task : plan.task ≡ t) where
+  -- the step may be made
+  pub may_go : MayStep b k said
+  may_go =
+      let is_of = left.heap in
+      let next = next_due h.heap.shape h.heap.start h.heap.biasing k t plan f left.due task in
+      subst (λ (x : Heap × StepPlan). MayStep x.0 k x.1) (λ i. (sym its i, sym same i))
+      (record { within = is_of.within; next = next; at = (is_there h.heap k plan next is_of.within is_of.real).0 })
 
-    -- The thread knows what the step tells,
-    pub knows_step : (n : ℕ) {me : Me (Unit {0}) (List ThreadView)} → me ≡ (known_after b.shape b.start said n k ∷ [], [])
-        → only me.0 ≡ known_after h.heap.shape h.heap.start plan n k
-    knows_step n told = ap (λ (x : Me (Unit {0}) (List ThreadView)). only x.0) told ∙ λ i. known_after (its i).shape (its i).start (same i) n k
+  -- The thread knows what the step tells,
+  pub knows_gone : (n : ℕ) {me : Me (Unit {0}) (List ThreadView)} → me ≡ (known_after b.shape b.start said n k ∷ [], [])
+      → only me.0 ≡ known_after h.heap.shape h.heap.start plan n k
+  knows_gone n told = ap (λ (x : Me (Unit {0}) (List ThreadView)). only x.0) told ∙ λ i. known_after (its i).shape (its i).start (same i) n k
 
-    -- which is the step on the ghost pass,
-    pub did_step : {n : ℕ} → plan.own ≡ own.Unchanged → Stepped b k said n
-        → HasStepped h (record o { known = k }) (record o { known = known_after h.heap.shape h.heap.start plan n k }) plan n
-    did_step {n = n} unchanged stood =
-        let is_of = late.left.heap in
-        let next = known_after h.heap.shape h.heap.start plan n k in
-        let stepped = subst (λ (x : Heap × StepPlan). Stepped x.0 k x.1 n) (λ i. (its i, same i)) stood in
-        let thread = same_thread h.heap.shape h.heap.start plan n k in record {
-          heap = record {
-            table = is_of.table;
-            room = is_of.room;
-            within = subst (λ (u : ℕ). u < h.heap.shape.threads) (sym thread) is_of.within;
-            classes = is_of.classes;
-            first = is_of.first ∙ ap (λ (u : ℕ). (h.heap.start + u) % 2 ^ 32) (sym thread);
-            threads = is_of.threads;
-            objects = is_of.objects;
-            real = real_after h.heap k plan n next is_of.real stepped refl;
-          };
-          limit = refl;
-          draft = subst (λ (x : LocalEffect). IsLeft x o.cut o.cells o.cut o.cells) (sym unchanged) (refl, refl);
-          known = refl;
-          stepped = stepped;
-          comes = goes_on h.heap k plan n next stepped is_of.within refl;
-        }
+  -- which is the step on the ghost pass,
+  pub did_go : {n : ℕ} → plan.own ≡ own.Unchanged → Stepped b k said n
+      → HasStepped h (record o { known = k }) (record o { known = known_after h.heap.shape h.heap.start plan n k }) plan n
+  did_go {n = n} unchanged stood =
+      let is_of = left.heap in
+      let next = known_after h.heap.shape h.heap.start plan n k in
+      let stepped = subst (λ (x : Heap × StepPlan). Stepped x.0 k x.1 n) (λ i. (its i, same i)) stood in
+      let thread = same_thread h.heap.shape h.heap.start plan n k in record {
+        heap = record {
+          table = is_of.table;
+          room = is_of.room;
+          within = subst (λ (u : ℕ). u < h.heap.shape.threads) (sym thread) is_of.within;
+          classes = is_of.classes;
+          first = is_of.first ∙ ap (λ (u : ℕ). (h.heap.start + u) % 2 ^ 32) (sym thread);
+          threads = is_of.threads;
+          objects = is_of.objects;
+          real = real_after h.heap k plan n next is_of.real stepped refl;
+        };
+        limit = refl;
+        draft = subst (λ (x : LocalEffect). IsLeft x o.cut o.cells o.cut o.cells) (sym unchanged) (refl, refl);
+        known = refl;
+        stepped = stepped;
+        comes = goes_on h.heap k plan n next stepped is_of.within refl;
+      }
 
-    -- and then the others are left
-    pub made_step : {n : ℕ} {me : Me (Unit {0}) (List ThreadView)} {l : Mirror} → plan.own ≡ own.Unchanged → Stepped b k said n
-        → me ≡ (known_after b.shape b.start said n k ∷ [], []) → Mirrors l (known_after h.heap.shape h.heap.start plan n k)
-        → Late h t o d (only me.0) (f n) l
-    made_step {n = n} {me = me} {l = l} unchanged stood told mirrors =
-        subst (λ (j : ThreadView). Late h t o d j (f n) l) (sym (knows_step n told))
-        (record { left = step_made late.left refl task (ap is_shot unchanged) (did_step unchanged stood); mirrors = mirrors })
+  -- and then the others are left.
+  pub gone : {n : ℕ} {me : Me (Unit {0}) (List ThreadView)} → plan.own ≡ own.Unchanged → Stepped b k said n
+      → me ≡ (known_after b.shape b.start said n k ∷ [], []) → AreLeft h t o d (record o { known = only me.0 }) (f n)
+  gone {n = n} unchanged stood told =
+      subst (λ (j : ThreadView). AreLeft h t o d (record o { known = j }) (f n)) (sym (knows_gone n told))
+      (step_made left refl task (ap is_shot unchanged) (did_go unchanged stood))
+
+-- The same of a call whose mirror lags.
+module _ {A : Type 0} {h : HeapSeen} {t : HeapCall} {o : PassSeen} {d : StepTree A} {k : ThreadView} {m : Mirror} {plan said : StepPlan} {b : Heap}
+    {f : ℕ → StepTree A} (late : Late h t o d k (step plan f) m) (its : b ≡ h.heap) (same : said ≡ plan) (task : plan.task ≡ t) where
+  pub may_step : MayStep b k said
+  may_step = may_go late.left its same task
+
+  pub knows_step : (n : ℕ) {me : Me (Unit {0}) (List ThreadView)} → me ≡ (known_after b.shape b.start said n k ∷ [], [])
+      → only me.0 ≡ known_after h.heap.shape h.heap.start plan n k
+  knows_step = knows_gone late.left its same task
+
+  pub did_step : {n : ℕ} → plan.own ≡ own.Unchanged → Stepped b k said n
+      → HasStepped h (record o { known = k }) (record o { known = known_after h.heap.shape h.heap.start plan n k }) plan n
+  did_step = did_go late.left its same task
+
+  pub made_step : {n : ℕ} {me : Me (Unit {0}) (List ThreadView)} {l : Mirror} → plan.own ≡ own.Unchanged → Stepped b k said n
+      → me ≡ (known_after b.shape b.start said n k ∷ [], []) → Mirrors l (known_after h.heap.shape h.heap.start plan n k)
+      → Late h t o d (only me.0) (f n) l
+  made_step {n = n} {l = l} unchanged stood told mirrors = record {
+    left = gone late.left its same task unchanged stood told;
+    mirrors = subst (Mirrors l) (sym (knows_step n told)) mirrors;
+  }
 
 -- What a call took at its beginning is still so after a step that leaves it.
 pub keeps_start : (b : Heap) (n : ℕ) {said plan : StepPlan} {k : ThreadView} {me : Me (Unit {0}) (List ThreadView)} → said ≡ plan
@@ -260,29 +282,8 @@ raise_keeps k j heap said e object stamp false same did = (ap local_of did, ap (
 pub follow_missed : (s : Shape) (start : ℕ) (p : StepPlan) (n : ℕ) (k : ThreadView) (m : Mirror) → hits p.act n ≡ false → halted_after p.at n k ≡ k.halted
     → Mirrors m k → Mirrors m (known_after s start p n k)
 follow_missed s start p n k m missed halted f =
-    let here : Mirrors m (known_miss s start p n k) = record {
-      thread = f.thread;
-      log = f.log;
-      last = f.last;
-      running = f.running;
-      requesting = f.requesting;
-      reached = f.reached;
-      halted = halted ∙ f.halted;
-      kept = f.kept;
-      saved = f.saved;
-      holds = f.holds;
-      wait = f.wait;
-      published = f.published;
-      unfinished = f.unfinished;
-      checking = f.checking;
-      counts = f.counts;
-      draws = f.draws;
-      made = f.made;
-      shots = f.shots;
-      few = f.few;
-      generator = f.generator;
-    } in
-    subst (λ (b : Bool). Mirrors m (cond b (known_hit s start p n k) (known_miss s start p n k))) (sym missed) here
+    let same : mirrored (known_miss s start p n k) ≡ mirrored k = λ i. record (mirrored k) { halted = halted i } in
+    subst (λ (b : Bool). Mirrors m (cond b (known_hit s start p n k) (known_miss s start p n k))) (sym missed) (mirrors_by same f)
 
 -- The call that is amid is still so where the steps led.
 pub amid_by : {A : Type 0} {b : Heap} {t : HeapCall} {k j : ThreadView} {x y : StepTree A} {m n : Mirror} → IsAmid b t k x m

@@ -28,8 +28,10 @@ pub mod LowBits
 pub mod StepsLeft
 pub mod Own
 pub mod Stacked
+pub mod Mirrored
 pub mod Late
 pub mod HoldEnds
 mod QuickAnswers
+pub mod ExitEnds
 pub mod HoldSteps
 pub mod RecursionRoom

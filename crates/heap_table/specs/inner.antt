@@ -4,6 +4,7 @@ pub mod Drafts
 pub mod Firsts
 pub mod Kept
 pub mod Layout
+pub mod Leaving
 pub mod NewestHold
 pub mod Openings
 pub mod Parts

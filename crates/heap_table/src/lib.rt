@@ -17,6 +17,7 @@ mod entries;
 mod heap;
 mod holding;
 mod holds;
+mod leaving;
 mod made;
 mod mirror;
 mod opening;

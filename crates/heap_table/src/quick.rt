@@ -8,10 +8,10 @@ ghost use Rattle.heap_table.specs.Resting.{MayOperate};
 use crate::call_context::CallContext;
 use crate::heap::Heap;
 use crate::holding::enter_marked;
+use crate::leaving::leave_marked;
 use crate::pass::Pass;
 use crate::plans::quiet;
-use crate::quick_exits::{leave_hold, leave_unbiased, raise_at};
-use crate::reads::has_bias_bits;
+use crate::quick_exits::raise_at;
 use crate::steps::step_at;
 use core_world::{Act, HeapCall, Operation, Stage, Unfinished, WordId};
 use plain_monitor::Path;
@@ -177,32 +177,19 @@ impl Heap {
         );
         let first = quiet(&call, Stage::Settled, WordId::Mark { object }, Act::Load);
         let mark = step_at(words, setting, &mut pass.seat, at, first);
-        if has_bias_bits(mark) {
-            leave_hold(
-                words,
-                setting,
-                &mut pass.seat,
-                &mut pass.mirror,
-                &call,
-                object,
-                place,
-                !search,
-            );
-            QuickExit::Left
-        } else {
-            leave_unbiased(
-                words,
-                setting,
-                &mut pass.seat,
-                &mut pass.mirror,
-                &call,
-                object,
-                depth,
-                at,
-                place,
-                !search,
-            )
-        }
+        leave_marked(
+            words,
+            setting,
+            &mut pass.seat,
+            &mut pass.mirror,
+            &call,
+            object,
+            depth,
+            mark,
+            at,
+            place,
+            !search,
+        )
     }
 
     /// Leaves the newest hold of a declared object, where the thread is in the middle of nothing.

@@ -247,6 +247,11 @@ unbiased_exit e k o = do
   out ← stack_exit_steps e k o
   exit_at out e k o >>= answer
 
+-- Whether the mark has the bias pattern was found.
+abbrev pub exit_found : Bool → CallContext → Local → ℕ → ExitTree
+exit_found true e k o = leave_end e k o
+exit_found false e k o = unbiased_exit e k o
+
 -- The mark names monitor m, whose owner word is to be found, or was.
 abbrev pub monitor_exit : CallContext → Local → ℕ → ℕ → ExitTree
 monitor_exit e k o m = do

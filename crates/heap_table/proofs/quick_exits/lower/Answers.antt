@@ -1,13 +1,14 @@
--- The recursions are lowered, and then the hold is left.
-use Rattle.std.proofs.Common.{refl, sym, ap, ◌-◌, ◌≡◌}
+-- The recursions are lowered.
+use Rattle.std.proofs.Common.{refl, ◌-◌, ◌≡◌}
 use Rattle.core_world.specs.declared.act.Act.TheVariants.{Store}
 use Rattle.core_world.specs.declared.stage.Stage.TheVariants.{RecursionsLowered}
 use Rattle.core_world.specs.declared.word_id.WordId.TheVariants.{Recursions}
-use Rattle.core_world.specs.Threads.ThreadView.{Local, local_of}
+use Rattle.core_world.specs.Threads.ThreadView.{local_of}
 use Rattle.core_world.specs.Trees.MonitorSteps.{lower_count_plan}
-use Rattle.heap_table.specs.Ruled.{heap_in, only}
-use Rattle.heap_table.specs.inner.Amid.{Leads, lagging, leave_end, recursions_exit}
-use Rattle.heap_table.proofs.Late.{amid_by, follow_quiet, knows_step, late_as, made_step, may_step}
+use Rattle.heap_table.specs.Ruled.{only}
+use Rattle.heap_table.specs.declared.quick_exits.ExitPart.TheVariants as parts
+use Rattle.heap_table.proofs.Late.{follow_quiet, made_step, may_step}
+use Rattle.heap_table.proofs.ExitEnds.{held_part}
 use Rattle.heap_table.proofs.quick_exits.lower.Goals as goal
 use Rattle.heap_table.proofs.quick_exits.lower.Goals.{After-quiet-first, After-step_in_table}
 
@@ -18,22 +19,11 @@ pub step_in_table-requires-clause-may : goal.step_in_table-requires-clause-may
 step_in_table-requires-clause-may c =
     let a = c.requires.amid in may_step a.late a.its (first_plan (goal.at.step_in_table-requires-clause-may c).After-quiet-first) refl
 
-lowered : (c : After-step_in_table) → let e = c.args.call.now in let k = only c.args.seat.now.me.0 in let j = only c.step_in_table.new.seat.me.0 in
-    Leads (heap_in c.args.setting.now) e.task k (recursions_exit e (local_of k) c.args.object c.args.monitor c.args.recursions) (lagging e c.args.mirror.now)
-    j (leave_end e (local_of j) c.args.object) (lagging e c.args.mirror.now)
-lowered c = λ h o d its late.
-    let e = c.args.call.now in
-    let plan = first_plan c.before.before in
-    let n = c.step_in_table.result in
-    let told = c.step_in_table.ensures.seat.1 in
-    late_as (made_step late its plan refl refl c.step_in_table.ensures.stepped told
-    (follow_quiet h.heap.shape h.heap.start e (RecursionsLowered c.args.object) (Recursions c.args.monitor) (Store (c.args.recursions - 1)) n _ _
-    refl refl (λ l. refl) (λ l. refl) (λ l. refl) late.mirrors))
-    (ap (λ (k : Local). leave_end e k c.args.object) (sym (ap local_of (knows_step late its plan refl n told))))
-
-pub leave_hold-requires-clause-amid : goal.leave_hold-requires-clause-amid
-leave_hold-requires-clause-amid c = amid_by c.requires.amid (lowered (goal.at.leave_hold-requires-clause-amid c).After-step_in_table)
-
 pub returns-clause-leads : goal.returns-clause-leads
-returns-clause-leads c = λ h o d its late.
-    c.leave_hold.ensures.leads h o d its (lowered (goal.at.returns-clause-leads c).After-step_in_table h o d its late)
+returns-clause-leads c = λ h p d its late.
+    let k = only c.args.seat.now.me.0 in
+    let plan = first_plan (goal.at.returns-clause-leads c).After-step_in_table.before.before in
+    held_part (local_of k) parts.Held late.mirrors.thread late.mirrors.holds (λ j g shows. shows) refl
+    (made_step late its plan refl refl c.step_in_table.ensures.stepped c.step_in_table.ensures.seat.1
+    (follow_quiet h.heap.shape h.heap.start c.args.call.now (RecursionsLowered c.args.object) (Recursions c.args.monitor) (Store (c.args.recursions - 1))
+    c.step_in_table.result _ _ refl refl (λ l. refl) (λ l. refl) (λ l. refl) late.mirrors))

@@ -28,11 +28,9 @@ use Rattle.heap_table.specs.Resting.{start_now}
 use Rattle.heap_table.specs.Ruled.{heap_in, only}
 use Rattle.heap_table.specs.Seen.{HeapSeen, PassSeen}
 use Rattle.heap_table.specs.declared.mirror.Mirror.{Mirror}
-use Rattle.heap_table.specs.declared.quick.QuickExit.TheVariants as exits
-use Rattle.heap_table.specs.inner.Amid.{ExitTree, IsAmid, IsSameFrame, IsStartOf, Late, Leads, MayLeave, exit_left, exit_over, lagging}
-use Rattle.heap_table.specs.inner.Amid.{leave_end, unbiased_exit}
+use Rattle.heap_table.specs.inner.Amid.{ExitTree, IsAmid, IsSameFrame, IsStartOf, Late, Leads, MayLeave, exit_found, exit_left, lagging}
 use Rattle.heap_table.proofs.Follow.{room_in_page}
-use Rattle.heap_table.proofs.Late.{exit_keeps, follow_quiet, late_as, late_first, made_on, made_step, may_step, only_knows, raise_if}
+use Rattle.heap_table.proofs.Late.{exit_keeps, follow_quiet, late_as, late_first, made_step, may_step, only_knows, raise_if}
 use Rattle.heap_table.proofs.Late.{raise_keeps, raised, start_after}
 use Rattle.heap_table.proofs.Loops.{binds}
 use Rattle.heap_table.proofs.LowBits.{found_mark}
@@ -41,7 +39,7 @@ use Rattle.heap_table.proofs.Resting.{whole_due}
 use Rattle.heap_table.proofs.Stamps.{low}
 use Rattle.heap_table.proofs.heap.Heap.exit_quickly.Goals as goal
 use Rattle.heap_table.proofs.heap.Heap.exit_quickly.Goals.{After-leaving-call, After-raise_at, After-quiet-first, After-step_at-mark}
-use Rattle.heap_table.proofs.heap.Heap.exit_quickly.Goals.{After-leave_hold, After-leave_unbiased}
+use Rattle.heap_table.proofs.heap.Heap.exit_quickly.Goals.{After-leave_marked}
 
 -- what is left once the mark was found, where the test says whether it has the bias pattern
 abbrev told : Start → ℕ → Bool → ExitTree
@@ -147,9 +145,9 @@ step_at-mark-requires-clause-may c =
     let z = (goal.at.step_at-mark-requires-clause-may c).After-quiet-first in
     may_step (before_mark (after_raise z)).2 (its_heap (after_call (after_raise z))) (first_plan z) refl
 
-pub has_bias_bits-requires : goal.has_bias_bits-requires
-has_bias_bits-requires c =
-    let z = (goal.at.has_bias_bits-requires c).After-step_at-mark in
+pub leave_marked-requires-clause-found : goal.leave_marked-requires-clause-found
+leave_marked-requires-clause-found c =
+    let z = (goal.at.leave_marked-requires-clause-found c).After-step_at-mark in
     found_mark _ _ _ _ c.args.object _ (first_plan z.before.before) refl c.step_at-mark.ensures.stepped
 
 -- The call with these steps left, by what it took at its beginning.
@@ -252,90 +250,59 @@ seen c t k m table same =
     (same.threads ∙ ap (λ (x : PassSeen). x.threads) view) (same.objects ∙ ap (λ (x : PassSeen). x.objects) view)
     (same.cut ∙ ap (λ (x : PassSeen). x.cut) view) (same.cells ∙ ap (λ (x : PassSeen). x.cells) view)
 
--- IT HAS THE BIAS PATTERN: the hold is left.
-biased : (c : After-step_at-mark) → is_biased c.step_at-mark.result ≡ true → let o = c.args.object in
-    IsLeft c (only c.step_at-mark.new.seat.me.0) (leave_end (leaving o) (local_of c.args.pass.now.known) o) (lagging (leaving o) c.pass.inside.mirror)
-biased c is = by_mark true c is
+-- THE WAYS go on by the mark.
+found : (c : After-step_at-mark) → let o = c.args.object in
+    IsLeft c (only c.step_at-mark.new.seat.me.0) (exit_found (is_biased c.step_at-mark.result) (leaving o) (local_of c.args.pass.now.known) o)
+    (lagging (leaving o) c.pass.inside.mirror)
+found c = cases (is_biased c.step_at-mark.result) refl
+  where
+    cases : (b : Bool) → is_biased c.step_at-mark.result ≡ b → let o = c.args.object in
+        IsLeft c (only c.step_at-mark.new.seat.me.0) (exit_found b (leaving o) (local_of c.args.pass.now.known) o) (lagging (leaving o) c.pass.inside.mirror)
+    cases true is = by_mark true c is
+    cases false is =
+        let o = c.args.object in
+        let k = local_of c.args.pass.now.known in
+        late_as (by_mark false c is) (binds (stack_exit_steps (leaving o) k o) (λ (out : StackOut). exit_at out (leaving o) k o) answer)
 
-pub leave_hold-requires-clause-may : goal.leave_hold-requires-clause-may
-leave_hold-requires-clause-may c = may_leave (goal.at.leave_hold-requires-clause-may c).After-step_at-mark
+pub leave_marked-requires-clause-may : goal.leave_marked-requires-clause-may
+leave_marked-requires-clause-may c = may_leave (goal.at.leave_marked-requires-clause-may c).After-step_at-mark
 
-pub leave_hold-requires-clause-amid : goal.leave_hold-requires-clause-amid
-leave_hold-requires-clause-amid c =
-    let z = (goal.at.leave_hold-requires-clause-amid c).After-step_at-mark in
-    amid z (λ e k. leave_end e k c.args.object) (biased z (sym c.has_bias_bits.ensures ∙ c.if-has_bias_bits.true))
-
-abbrev mark_of_left : After-leave_hold → After-step_at-mark
-mark_of_left c = c.before.before.before.before.before.before
-
-over : (c : After-leave_hold) → IsLeft (mark_of_left c) (only c.leave_hold.new.seat.me.0) exit_over c.leave_hold.new.mirror
-over c =
-    let z = mark_of_left c in
-    led z (λ e k. leave_end e k c.args.object) (biased z (sym c.has_bias_bits.ensures ∙ c.if-has_bias_bits.true)) (λ _ _. exit_over) _ _
-    c.leave_hold.ensures.leads
-
-pub invariant_of-pass : goal.invariant_of-pass
-invariant_of-pass c = (c.leave_hold.ensures.seat.1, (over (goal.at.invariant_of-pass c).After-leave_hold).mirrors)
-
-pub returns-then-has_bias_bits-clause-left : goal.returns-then-has_bias_bits-clause-left
-returns-then-has_bias_bits-clause-left c =
-    let z = (goal.at.returns-then-has_bias_bits-clause-left c).After-leave_hold in
-    made_on (over z) _ (seen (mark_of_left z) _ _ _ c.leave_hold.ensures.seat.0 c.leave_hold.ensures.frame)
-
-pub returns-then-has_bias_bits-clause-free : goal.returns-then-has_bias_bits-clause-free
-returns-then-has_bias_bits-clause-free c =
-    let z = (goal.at.returns-then-has_bias_bits-clause-free c).After-leave_hold in
-    leaves_free c.leaving-call.result _ _ _ _ exits.Left c.requires.free (knew_all (mark_of_left z)) (over z).mirrors c.leave_hold.ensures.frame
-    (ap (λ (e : CallContext). e.check) c.leaving-call.ensures) c.leave_hold.ensures.idle
-
--- IT HASN'T: the parts of such an exit go on.
-unbiased : (c : After-step_at-mark) → is_biased c.step_at-mark.result ≡ false → let o = c.args.object in
-    IsLeft c (only c.step_at-mark.new.seat.me.0) (unbiased_exit (leaving o) (local_of c.args.pass.now.known) o) (lagging (leaving o) c.pass.inside.mirror)
-unbiased c is =
-    let o = c.args.object in
-    let k = local_of c.args.pass.now.known in
-    late_as (by_mark false c is) (binds (stack_exit_steps (leaving o) k o) (λ (out : StackOut). exit_at out (leaving o) k o) answer)
-
-pub leave_unbiased-requires-clause-may : goal.leave_unbiased-requires-clause-may
-leave_unbiased-requires-clause-may c = may_leave (goal.at.leave_unbiased-requires-clause-may c).After-step_at-mark
-
-pub leave_unbiased-requires-clause-next : goal.leave_unbiased-requires-clause-next
-leave_unbiased-requires-clause-next c =
+pub leave_marked-requires-clause-next : goal.leave_marked-requires-clause-next
+leave_marked-requires-clause-next c =
     let few = low c.args.self.now c.args.pass.now c.requires.may.call.rests.is_of in
-    let last = its_last (call_of (goal.at.leave_unbiased-requires-clause-next c).After-step_at-mark) in
+    let last = its_last (call_of (goal.at.leave_marked-requires-clause-next c).After-step_at-mark) in
     omega (arith, few, last)
 
-pub leave_unbiased-requires-clause-amid : goal.leave_unbiased-requires-clause-amid
-leave_unbiased-requires-clause-amid c =
-    let z = (goal.at.leave_unbiased-requires-clause-amid c).After-step_at-mark in
-    amid z (λ e k. unbiased_exit e k c.args.object) (unbiased z (sym c.has_bias_bits.ensures ∙ c.if-has_bias_bits.false))
+pub leave_marked-requires-clause-amid : goal.leave_marked-requires-clause-amid
+leave_marked-requires-clause-amid c =
+    let z = (goal.at.leave_marked-requires-clause-amid c).After-step_at-mark in
+    amid z (λ e k. exit_found (is_biased c.step_at-mark.result) e k c.args.object) (found z)
 
-abbrev mark_of_rest : After-leave_unbiased → After-step_at-mark
-mark_of_rest c = c.before.before.before.before.before.before
+abbrev mark_of_rest : After-leave_marked → After-step_at-mark
+mark_of_rest c = c.before.before.before.before
 
 -- What is left then is told by what the call took at its beginning.
-rest : (c : After-leave_unbiased) → let o = c.args.object in
-    IsLeft (mark_of_rest c) (only c.leave_unbiased.new.seat.me.0) (exit_left (leaving o) (local_of c.args.pass.now.known) o c.leave_unbiased.result)
-    c.leave_unbiased.new.mirror
+rest : (c : After-leave_marked) → let o = c.args.object in
+    IsLeft (mark_of_rest c) (only c.leave_marked.new.seat.me.0) (exit_left (leaving o) (local_of c.args.pass.now.known) o c.leave_marked.result)
+    c.leave_marked.new.mirror
 rest c =
     let z = mark_of_rest c in
-    led z (λ e k. unbiased_exit e k c.args.object) (unbiased z (sym c.has_bias_bits.ensures ∙ c.if-has_bias_bits.false))
-    (λ e k. exit_left e k c.args.object c.leave_unbiased.result) _ _ c.leave_unbiased.ensures.leads
+    led z (λ e k. exit_found (is_biased c.step_at-mark.result) e k c.args.object) (found z)
+    (λ e k. exit_left e k c.args.object c.leave_marked.result) _ _ c.leave_marked.ensures.leads
 
-pub invariant_of-pass-else-has_bias_bits : goal.invariant_of-pass-else-has_bias_bits
-invariant_of-pass-else-has_bias_bits c =
-    (c.leave_unbiased.ensures.seat.1, (rest (goal.at.invariant_of-pass-else-has_bias_bits c).After-leave_unbiased).mirrors)
+pub invariant_of-pass : goal.invariant_of-pass
+invariant_of-pass c = (c.leave_marked.ensures.seat.1, (rest (goal.at.invariant_of-pass c).After-leave_marked).mirrors)
 
-pub returns-else-has_bias_bits-clause-left : goal.returns-else-has_bias_bits-clause-left
-returns-else-has_bias_bits-clause-left c =
-    let y = (goal.at.returns-else-has_bias_bits-clause-left c).After-leave_unbiased in
+pub returns-clause-left : goal.returns-clause-left
+returns-clause-left c =
+    let y = (goal.at.returns-clause-left c).After-leave_marked in
     let z = mark_of_rest y in
-    exit_answered _ _ _ _ _ _ c.leave_unbiased.result (rest y)
-    (exit_keeps c.args.object c.leave_unbiased.result _ _ _ (since_mark z) c.leave_unbiased.ensures.start)
-    (seen z _ _ _ c.leave_unbiased.ensures.seat.0 c.leave_unbiased.ensures.frame)
+    exit_answered _ _ _ _ _ _ c.leave_marked.result (rest y)
+    (exit_keeps c.args.object c.leave_marked.result _ _ _ (since_mark z) c.leave_marked.ensures.start)
+    (seen z _ _ _ c.leave_marked.ensures.seat.0 c.leave_marked.ensures.frame)
 
-pub returns-else-has_bias_bits-clause-free : goal.returns-else-has_bias_bits-clause-free
-returns-else-has_bias_bits-clause-free c =
-    let y = (goal.at.returns-else-has_bias_bits-clause-free c).After-leave_unbiased in
-    leaves_free c.leaving-call.result _ _ _ _ c.leave_unbiased.result c.requires.free (knew_all (mark_of_rest y)) (rest y).mirrors
-    c.leave_unbiased.ensures.frame (ap (λ (e : CallContext). e.check) c.leaving-call.ensures) c.leave_unbiased.ensures.idle
+pub returns-clause-free : goal.returns-clause-free
+returns-clause-free c =
+    let y = (goal.at.returns-clause-free c).After-leave_marked in
+    leaves_free c.leaving-call.result _ _ _ _ c.leave_marked.result c.requires.free (knew_all (mark_of_rest y)) (rest y).mirrors
+    c.leave_marked.ensures.frame (ap (λ (e : CallContext). e.check) c.leaving-call.ensures) c.leave_marked.ensures.idle

@@ -17,13 +17,15 @@ use Rattle.heap_table.specs.Kept.{Mirrors}
 use Rattle.heap_table.specs.Ruled.{heap_in, only}
 use Rattle.heap_table.specs.Seen.{HeapSeen, PassSeen}
 use Rattle.heap_table.specs.declared.mirror.Mirror.{Mirror}
-use Rattle.heap_table.specs.inner.Amid.{ExitTree, IsStartOf, Late, Leads, exit_left, lagging, leave_end, marked_exit, unbiased_exit}
-use Rattle.heap_table.proofs.Late.{amid_by, exit_keeps, follow_quiet, late_as, made_step, may_step, raise_if, raise_keeps, raised, start_after}
+use Rattle.heap_table.specs.declared.quick_exits.ExitPart.TheVariants as parts
+use Rattle.heap_table.specs.inner.Amid.{ExitTree, Goes, IsStartOf, Late, lagging, marked_exit, unbiased_exit}
+use Rattle.heap_table.proofs.Late.{amid_by, follow_quiet, late_as, made_step, may_step, raise_if, raise_keeps, raised, start_after}
+use Rattle.heap_table.proofs.ExitEnds.{held_part, part_by, part_keeps}
 use Rattle.heap_table.proofs.Loops.{binds}
 use Rattle.heap_table.proofs.LowBits.{found_mark}
-use Rattle.heap_table.proofs.quick_exits.leave_unbiased.Goals as goal
-use Rattle.heap_table.proofs.quick_exits.leave_unbiased.Goals.{After-raise_at, After-quiet-first, After-step_in_table-header, After-quiet-second}
-use Rattle.heap_table.proofs.quick_exits.leave_unbiased.Goals.{After-step_at-mark}
+use Rattle.heap_table.proofs.quick_exits.part_unbiased.Goals as goal
+use Rattle.heap_table.proofs.quick_exits.part_unbiased.Goals.{After-raise_at, After-quiet-first, After-step_in_table-header, After-quiet-second}
+use Rattle.heap_table.proofs.quick_exits.part_unbiased.Goals.{After-step_at-mark}
 
 abbrev gone : CallContext → Local → ℕ → StackOut → ExitTree
 gone e k o out = exit_at out e k o >>= answer
@@ -86,7 +88,7 @@ first_plan : (c : After-quiet-first) → let k = only c.args.seat.now.me.0 in
 first_plan c =
     let shows = c.requires.amid.late.mirrors in
     let thread = sym shows.thread in
-    let place = c.requires.may.clears.place ∙ ap (top_place c.args.object) (sym shows.holds) in
+    let place = c.requires.place ∙ ap (top_place c.args.object) (sym shows.holds) in
     c.quiet-first.ensures ∙ λ i. with_stage Settled (quiet_plan c.args.call.now (Displaced (thread i) (place i)) Load)
 
 abbrev after_raise : After-quiet-first → After-raise_at
@@ -99,8 +101,8 @@ step_in_table-header-requires-clause-may c =
 
 by_header : (b : Bool) (c : After-step_in_table-header) → let e = c.args.call.now in let k = only c.args.seat.now.me.0 in
     let n = c.step_in_table-header.result in (n == 0) ≡ b
-    → Leads (heap_in c.args.setting.now) e.task k (unbiased_exit e (local_of k) c.args.object) (lagging e c.args.mirror.now)
-    (only c.step_in_table-header.new.seat.me.0) (headed e (local_of k) c.args.object n b) (lagging e c.args.mirror.now)
+    → Goes c.args.setting.now e c.args.mirror.now k (unbiased_exit e (local_of k) c.args.object)
+    (only c.step_in_table-header.new.seat.me.0) (headed e (local_of k) c.args.object n b)
 by_header b c is = λ h o d its late.
     let e = c.args.call.now in
     let k = local_of (only c.args.seat.now.me.0) in
@@ -118,21 +120,10 @@ since_header c =
     c.step_in_table-header.ensures.seat.1 (record { local = refl; kept = refl })
 
 -- It is 0: the record is recursive.
-recursive : (c : After-step_in_table-header) → let e = c.args.call.now in let k = only c.args.seat.now.me.0 in
-    let j = only c.step_in_table-header.new.seat.me.0 in c.step_in_table-header.result ≡ 0
-    → Leads (heap_in c.args.setting.now) e.task k (unbiased_exit e (local_of k) c.args.object) (lagging e c.args.mirror.now)
-    j (leave_end e (local_of j) c.args.object) (lagging e c.args.mirror.now)
-recursive c zero = λ h o d its late.
-    late_as (by_header true c (eq-eqb _ _ zero) h o d its late)
-    (ap (λ (k : Local). leave_end c.args.call.now k c.args.object) (sym (since_header c).local))
-
-pub leave_hold-requires-clause-amid : goal.leave_hold-requires-clause-amid
-leave_hold-requires-clause-amid c =
-    amid_by c.requires.amid (recursive (goal.at.leave_hold-requires-clause-amid c).After-step_in_table-header c.if-header-eq0.true)
-
 pub returns-then-header-eq0-clause-leads : goal.returns-then-header-eq0-clause-leads
-returns-then-header-eq0-clause-leads c = λ h o d its late. c.leave_hold.ensures.leads h o d its
-    (recursive (goal.at.returns-then-header-eq0-clause-leads c).After-step_in_table-header c.if-header-eq0.true h o d its late)
+returns-then-header-eq0-clause-leads c = λ h p d its late.
+    held_part (local_of (only c.args.seat.now.me.0)) parts.Held late.mirrors.thread late.mirrors.holds (λ j g shows. shows) refl
+    (by_header true (goal.at.returns-then-header-eq0-clause-leads c).After-step_in_table-header (eq-eqb _ _ c.if-header-eq0.true) h p d its late)
 
 -- It is a header: THE MARK is loaded.
 second_plan : (c : After-quiet-second) → c.quiet-second.result ≡ load c.args.call.now (Mark c.args.object)
@@ -153,8 +144,8 @@ since_mark c =
     c.step_at-mark.ensures.seat.1 (record { local = refl; kept = refl })
 
 marked : (c : After-step_at-mark) → let e = c.args.call.now in let k = only c.args.seat.now.me.0 in let j = only c.step_at-mark.new.seat.me.0 in
-    Leads (heap_in c.args.setting.now) e.task k (unbiased_exit e (local_of k) c.args.object) (lagging e c.args.mirror.now)
-    j (marked_exit e (local_of j) c.args.object c.step_in_table-header.result c.step_at-mark.result) (lagging e c.args.mirror.now)
+    Goes c.args.setting.now e c.args.mirror.now k (unbiased_exit e (local_of k) c.args.object)
+    j (marked_exit e (local_of j) c.args.object c.step_in_table-header.result c.step_at-mark.result)
 marked c = λ h o d its late.
     let e = c.args.call.now in
     let n = c.step_at-mark.result in
@@ -164,20 +155,19 @@ marked c = λ h o d its late.
     (follow_quiet h.heap.shape h.heap.start e Settled (Mark c.args.object) Load n _ _ refl refl (λ l. refl) (λ l. refl) (λ l. refl) here.mirrors))
     (ap (λ (k : Local). marked_exit e k c.args.object c.step_in_table-header.result n) (sym (since_mark c).local))
 
-pub leave_marked-requires-clause-found : goal.leave_marked-requires-clause-found
-leave_marked-requires-clause-found c =
-    let z = (goal.at.leave_marked-requires-clause-found c).After-step_at-mark in
+pub part_marked-requires-clause-found : goal.part_marked-requires-clause-found
+part_marked-requires-clause-found c =
+    let z = (goal.at.part_marked-requires-clause-found c).After-step_at-mark in
     found_mark _ _ _ _ c.args.object _ (second_plan z.before.before) refl c.step_at-mark.ensures.stepped
 
-pub leave_marked-requires-clause-amid : goal.leave_marked-requires-clause-amid
-leave_marked-requires-clause-amid c = amid_by c.requires.amid (marked (goal.at.leave_marked-requires-clause-amid c).After-step_at-mark)
+pub part_marked-requires-clause-amid : goal.part_marked-requires-clause-amid
+part_marked-requires-clause-amid c = amid_by c.requires.amid (marked (goal.at.part_marked-requires-clause-amid c).After-step_at-mark)
 
 pub returns-clause-start : goal.returns-clause-start
 returns-clause-start c =
-    exit_keeps c.args.object c.leave_marked.result _ _ _ (since_mark (goal.at.returns-clause-start c).After-step_at-mark) c.leave_marked.ensures.start
+    part_keeps c.part_marked.result _ _ _ (since_mark (goal.at.returns-clause-start c).After-step_at-mark) c.part_marked.ensures.start
 
 pub returns-clause-leads : goal.returns-clause-leads
-returns-clause-leads c = λ h o d its late.
+returns-clause-leads c = λ h p d its late.
     let z = (goal.at.returns-clause-leads c).After-step_at-mark in
-    late_as (c.leave_marked.ensures.leads h o d its (marked z h o d its late))
-    (ap (λ (k : Local). exit_left c.args.call.now k c.args.object c.leave_marked.result) (since_mark z).local)
+    part_by (since_mark z).local (c.part_marked.ensures.leads h p d its (marked z h p d its late))

@@ -1,5 +1,5 @@
 -- The owner word is loaded, and where it is the thread's own, the recursions are: they say which way the hold is left.
-use Rattle.std.proofs.Common.{refl, sym, ap, ◌∙◌, ◌≡◌, arith, Bool, false, true, if◌then◌else◌, subst, eq-eqb, ne_eqb, ◌==◌, ℕ, Option, List}
+use Rattle.std.proofs.Common.{refl, sym, ap, ◌∙◌, ◌≡◌, arith, Bool, false, true, if◌then◌else◌, eq-eqb, ne_eqb, ◌==◌, ℕ, Option, List}
 use Rattle.atomic_table.specs.Table.{Me}
 use Rattle.mark_word.specs.declared.owner.OwnerForm.{OwnerForm}
 use Rattle.mark_word.specs.declared.owner.OwnerForm.TheVariants.{ByThread}
@@ -15,13 +15,14 @@ use Rattle.core_world.specs.Trees.MonitorSteps.{release_steps}
 use Rattle.core_world.specs.Trees.Plans.{CallContext, load}
 use Rattle.core_world.specs.Trees.StepTree.{step, ◌>>=◌}
 use Rattle.heap_table.specs.ExitParts.{lowered_exit, owned_exit}
-use Rattle.heap_table.specs.Kept.{Mirrors}
+use Rattle.heap_table.specs.declared.quick_exits.ExitPart.TheVariants as parts
 use Rattle.heap_table.specs.Ruled.{heap_in, only}
-use Rattle.heap_table.specs.inner.Amid.{ExitTree, Leads, exit_over, lagging, monitor_exit, owner_left}
-use Rattle.heap_table.proofs.Late.{amid_by, follow_quiet, late_as, made_step, may_step, shows_alike}
-use Rattle.heap_table.proofs.quick_exits.leave_monitor.Goals as goal
-use Rattle.heap_table.proofs.quick_exits.leave_monitor.Goals.{After-quiet-first, After-step_in_table-owner, After-quiet-second}
-use Rattle.heap_table.proofs.quick_exits.leave_monitor.Goals.{After-step_in_table-recursions}
+use Rattle.heap_table.specs.inner.Amid.{ExitTree, Goes, exit_over, monitor_exit, owner_left}
+use Rattle.heap_table.proofs.Late.{amid_by, follow_quiet, keeps_start, late_as, made_step, may_step}
+use Rattle.heap_table.proofs.ExitEnds.{held_part, part_by}
+use Rattle.heap_table.proofs.quick_exits.part_from_monitor.Goals as goal
+use Rattle.heap_table.proofs.quick_exits.part_from_monitor.Goals.{After-quiet-first, After-step_in_table-owner, After-quiet-second}
+use Rattle.heap_table.proofs.quick_exits.part_from_monitor.Goals.{After-step_in_table-recursions}
 
 -- what is left, where the test says whether there are no recursions
 abbrev counted : CallContext → Local → ℕ → ℕ → ℕ → Bool → ExitTree
@@ -36,30 +37,33 @@ step_in_table-owner-requires-clause-may c =
 
 -- THE OWNER WORD is loaded.
 found : (c : After-step_in_table-owner) → let e = c.args.call.now in let k = only c.args.seat.now.me.0 in
-    Leads (heap_in c.args.setting.now) e.task k (monitor_exit e (local_of k) c.args.object c.args.monitor) (lagging e c.args.mirror.now)
+    Goes c.args.setting.now e c.args.mirror.now k (monitor_exit e (local_of k) c.args.object c.args.monitor)
     (only c.step_in_table-owner.new.seat.me.0) (owner_left e (local_of k) c.args.object c.args.monitor c.step_in_table-owner.result)
-    (lagging e c.args.mirror.now)
 found c = λ h o d its late.
     made_step late its (first_plan c.before.before) refl refl c.step_in_table-owner.ensures.stepped c.step_in_table-owner.ensures.seat.1
     (follow_quiet h.heap.shape h.heap.start c.args.call.now Settled (Owner c.args.monitor) Load c.step_in_table-owner.result _ _ refl refl
     (λ l. refl) (λ l. refl) (λ l. refl) late.mirrors)
 
 -- It isn't the thread's own.
+pub returns-then-owner-encode_owner-clause-start : goal.returns-then-owner-encode_owner-clause-start
+returns-then-owner-encode_owner-clause-start c =
+    let z = (goal.at.returns-then-owner-encode_owner-clause-start c).After-step_in_table-owner in
+    keeps_start (heap_in c.args.setting.now) c.step_in_table-owner.result (first_plan z.before.before) c.step_in_table-owner.ensures.seat.1
+    (record { local = refl; kept = refl })
+
 pub returns-then-owner-encode_owner-clause-leads : goal.returns-then-owner-encode_owner-clause-leads
-returns-then-owner-encode_owner-clause-leads c = λ h o d its late.
-    let here = found (goal.at.returns-then-owner-encode_owner-clause-leads c).After-step_in_table-owner h o d its late in
-    let shown = subst (λ (u : CallContext). Mirrors (lagging u c.args.mirror.now) (only c.step_in_table-owner.new.seat.me.0)) (sym c.call.view_is)
-    here.mirrors in
-    record { left = here.left; mirrors = shows_alike _ _ _ _ _ _ shown }
+returns-then-owner-encode_owner-clause-leads c = λ h p d its late.
+    held_part (local_of (only c.args.seat.now.me.0)) (parts.Owned c.args.monitor c.step_in_table-owner.result) late.mirrors.thread late.mirrors.holds
+    (λ j g shows. shows) refl (found (goal.at.returns-then-owner-encode_owner-clause-leads c).After-step_in_table-owner h p d its late)
 
 -- It is: THE RECURSIONS are loaded.
 abbrev owner_of_second : After-quiet-second → After-step_in_table-owner
-owner_of_second c = c.before.before.before.before.before
+owner_of_second c = c.before.before.before.before
 
 owned : (c : After-quiet-second) → let e = c.args.call.now in let k = only c.args.seat.now.me.0 in
-    Leads (heap_in c.args.setting.now) e.task k (monitor_exit e (local_of k) c.args.object c.args.monitor) (lagging e c.args.mirror.now)
-    (only c.step_in_table-owner.new.seat.me.0) (step (load e (Recursions c.args.monitor))
-    (λ n. counted e (local_of k) c.args.object c.args.monitor n (n == 0))) (lagging e c.args.mirror.now)
+    Goes c.args.setting.now e c.args.mirror.now k (monitor_exit e (local_of k) c.args.object c.args.monitor)
+    (only c.step_in_table-owner.new.seat.me.0)
+    (step (load e (Recursions c.args.monitor)) (λ n. counted e (local_of k) c.args.object c.args.monitor n (n == 0)))
 owned c = λ h o d its late.
     let k = local_of (only c.args.seat.now.me.0) in
     let own = read_owner-owner_of (ByThread c.args.mirror.now.thread) (omega (arith, c.args.mirror.now.low)) in
@@ -89,8 +93,8 @@ stays c =
 
 by_number : (b : Bool) (c : After-step_in_table-recursions) → let e = c.args.call.now in let k = only c.args.seat.now.me.0 in
     let j = only c.step_in_table-recursions.new.seat.me.0 in let n = c.step_in_table-recursions.result in (n == 0) ≡ b →
-    Leads (heap_in c.args.setting.now) e.task k (monitor_exit e (local_of k) c.args.object c.args.monitor) (lagging e c.args.mirror.now)
-    j (counted e (local_of j) c.args.object c.args.monitor n b) (lagging e c.args.mirror.now)
+    Goes c.args.setting.now e c.args.mirror.now k (monitor_exit e (local_of k) c.args.object c.args.monitor)
+    j (counted e (local_of j) c.args.object c.args.monitor n b)
 by_number b c is = λ h o d its late.
     let e = c.args.call.now in
     let z = c.before.before in
@@ -106,14 +110,16 @@ release-requires-clause-amid c = amid_by c.requires.amid
     (by_number true (goal.at.release-requires-clause-amid c).After-step_in_table-recursions (eq-eqb _ _ c.if-recursions-eq0.true))
 
 pub returns-then-recursions-eq0-clause-leads : goal.returns-then-recursions-eq0-clause-leads
-returns-then-recursions-eq0-clause-leads c = λ h o d its late. c.release.ensures.leads h o d its
-    (by_number true (goal.at.returns-then-recursions-eq0-clause-leads c).After-step_in_table-recursions (eq-eqb _ _ c.if-recursions-eq0.true) h o d its late)
+returns-then-recursions-eq0-clause-leads c = λ h p d its late.
+    let z = (goal.at.returns-then-recursions-eq0-clause-leads c).After-step_in_table-recursions in
+    part_by (stays z) (c.release.ensures.leads h p d its (by_number true z (eq-eqb _ _ c.if-recursions-eq0.true) h p d its late))
 
 -- or there are some.
 pub lower-requires-clause-amid : goal.lower-requires-clause-amid
 lower-requires-clause-amid c = amid_by c.requires.amid
     (by_number false (goal.at.lower-requires-clause-amid c).After-step_in_table-recursions (ne_eqb _ _ c.if-recursions-eq0.false))
 
-pub returns-else-recursions-eq0-clause-leads : goal.returns-else-recursions-eq0-clause-leads
-returns-else-recursions-eq0-clause-leads c = λ h o d its late. c.lower.ensures.leads h o d its
-    (by_number false (goal.at.returns-else-recursions-eq0-clause-leads c).After-step_in_table-recursions (ne_eqb _ _ c.if-recursions-eq0.false) h o d its late)
+pub returns-clause-leads : goal.returns-clause-leads
+returns-clause-leads c = λ h p d its late.
+    let z = (goal.at.returns-clause-leads c).After-step_in_table-recursions in
+    part_by (stays z) (c.lower.ensures.leads h p d its (by_number false z (ne_eqb _ _ c.if-recursions-eq0.false) h p d its late))
