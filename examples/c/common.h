@@ -31,14 +31,41 @@ static inline void set_running(biasrun_handle *pass) {
         fail("resume", a);
 }
 
-/* Between two tries of a call. Where another thread asks for a safepoint, this one stops until that is over. Where this one asks, it doesn't
-   run, and the poll is misuse: the call is made again. */
-static inline void give_way(biasrun_handle *pass) {
+/* Where another thread asks for a safepoint, this one stops until that is over. Where this one asks, it doesn't run, and the poll is misuse: the call
+   that asked is made again. */
+static inline void stop_where_asked(biasrun_handle *pass) {
     if (biasrun_poll(pass).kind == BIASRUN_PENDING) {
         biasrun_stop(pass);
         set_running(pass);
     }
+}
+
+/* Between two tries of a call that may take long. */
+static inline void give_way(biasrun_handle *pass) {
+    stop_where_asked(pass);
     sched_yield();
+}
+
+/* A moment in which this processor reads no word that another one works on. */
+static inline void pause_a_moment(void) {
+#if defined(__x86_64__) || defined(__i386__)
+    __builtin_ia32_pause();
+#elif defined(__aarch64__)
+    __asm__ volatile("yield");
+#endif
+}
+
+/* Between two tries of a call, of which so many were made. An owner mostly lets go soon: so the first tries follow one another on the processor, each
+   after twice the time of the one before, in which the owner works undisturbed. After these, others may run. */
+static inline void give_way_after(biasrun_handle *pass, unsigned tries) {
+    const unsigned most_tries = 8, fewest_moments = 8;
+    if (tries >= most_tries) {
+        give_way(pass);
+        return;
+    }
+    stop_where_asked(pass);
+    for (unsigned k = 0; k < fewest_moments << tries; k++)
+        pause_a_moment();
 }
 
 /* The log of one thread, as its pages came. */
@@ -73,9 +100,10 @@ static inline void take_page(biasrun_handle *pass, struct log *log) {
 #define MAKE(pass, log, call)                                     \
     do {                                                          \
         biasrun_answer made_;                                     \
+        unsigned tries_ = 0;                                      \
         while ((made_ = (call)).kind != BIASRUN_DONE)             \
             if (made_.kind == BIASRUN_PENDING)                    \
-                give_way(pass);                                   \
+                give_way_after(pass, tries_++);                   \
             else if (made_.kind == BIASRUN_FULL)                  \
                 take_page(pass, log);                             \
             else                                                  \

@@ -173,7 +173,11 @@ pub fn leave_marked(
         (exit_found (is_biased mark) call.now (local_of (only seat.old.me.0)) object) (lagging call.now mirror.old)
         (only seat.new.me.0) (exit_left call.now (local_of (only seat.old.me.0)) object result) mirror.new }
 {
-    let how = part(words, setting, seat, mirror, call, object, depth, mark, at, place);
-    end_exit(words, setting, seat, mirror, call, object, place, last, &how);
+    let how = part(
+        words, setting, seat, mirror, call, object, depth, mark, at, place,
+    );
+    end_exit(
+        words, setting, seat, mirror, call, object, place, last, &how,
+    );
     left_by(&how, place)
 }

@@ -225,7 +225,9 @@ fn part_from_monitor(
         release(words, setting, seat, mirror, call, object, monitor, place);
         return ExitPart::Logged;
     }
-    lower(words, setting, seat, mirror, call, object, monitor, recursions);
+    lower(
+        words, setting, seat, mirror, call, object, monitor, recursions,
+    );
     ExitPart::Held
 }
 
@@ -352,7 +354,5 @@ pub fn part(
     if has_bias_bits(mark) {
         return ExitPart::Held;
     }
-    part_unbiased(
-        words, setting, seat, mirror, call, object, depth, at, place,
-    )
+    part_unbiased(words, setting, seat, mirror, call, object, depth, at, place)
 }
