@@ -3,7 +3,7 @@ use Rattle.std.proofs.Common.{◌≡◌, ℕ, zero, suc, ◌+◌, ◌-◌, ◌<�
 use Rattle.std.proofs.Common.{List, [], ◌∷◌, length, drop, get_or, Option, Some, None, refl, ap, ◌∙◌, append_assoc}
 use Rattle.std.proofs.lemmas.List.{drop_more, drop_all}
 use Rattle.mark_word.specs.declared.mark.MarkForm.{MarkForm}
-use Rattle.mark_word.specs.declared.mark.MarkForm.TheVariants.{Inflating, Neutral, Anonymous, Biased, Locked, Inflated, Marked}
+use Rattle.mark_word.specs.declared.mark.MarkForm.TheVariants.{Neutral, Anonymous, Biased}
 use Rattle.mark_word.specs.Mark.{mark_of}
 use Rattle.core_world.specs.declared.word_id.WordId.TheVariants.{Mark}
 use Rattle.core_world.specs.declared.plan.LocalEffect.TheVariants as own
@@ -70,18 +70,8 @@ pub biased_or_not : (v : Visit) (f : Option MarkForm) (e : CallContext) (b : Rev
     → (if is_biased_form f then visit_form v f e b o else done tt) ≡ visit_form v f e b o
 biased_or_not v (Some (Anonymous epoch age)) e b o = refl
 biased_or_not v (Some (Biased t epoch age)) e b o = refl
-biased_or_not (Renew n) None e b o = refl
-biased_or_not (Renew n) (Some Inflating) e b o = refl
-biased_or_not (Renew n) (Some (Neutral hash age)) e b o = refl
-biased_or_not (Renew n) (Some (Locked t p)) e b o = refl
-biased_or_not (Renew n) (Some (Inflated m)) e b o = refl
-biased_or_not (Renew n) (Some Marked) e b o = refl
-biased_or_not Revoke None e b o = refl
-biased_or_not Revoke (Some Inflating) e b o = refl
-biased_or_not Revoke (Some (Neutral hash age)) e b o = refl
-biased_or_not Revoke (Some (Locked t p)) e b o = refl
-biased_or_not Revoke (Some (Inflated m)) e b o = refl
-biased_or_not Revoke (Some Marked) e b o = refl
+biased_or_not (Renew n) _ e b o = refl
+biased_or_not Revoke _ e b o = refl
 
 pub none_visited : (v : Visit) (e : CallContext) (b : Revocation) (o : ℕ) → visit_form v None e b o ≡ done tt
 none_visited (Renew n) e b o = refl
