@@ -3,7 +3,6 @@ use Rattle.std.proofs.Common.{◌≡◌, ℕ, ◌-◌, nat_lt, ◌||◌, Bool, t
 use Rattle.core_world.specs.declared.act.Act.TheVariants.{Load}
 use Rattle.core_world.specs.declared.word_id.WordId.{WordId}
 use Rattle.core_world.specs.declared.word_id.WordId.TheVariants as id
-use Rattle.core_world.specs.declared.word_id.WordId.TheVariants.{Length}
 use Rattle.core_world.specs.declared.stage.Stage.TheVariants.{Settled}
 use Rattle.core_world.specs.Locks.{or_zero}
 use Rattle.core_world.specs.Steps.{known_hit, seen_at_safepoint_before, seen_words}
@@ -25,8 +24,8 @@ use Rattle.heap_census.specs.inner.ShotParts.{IsLater, IsSettled}
 pub later_itself : (k : ThreadView) → IsLater k k
 later_itself k = record { local = refl; reached = refl; saw = λ n v e. e }
 
-pub later_than : (k l m : ThreadView) → IsLater k l → IsLater l m → IsLater k m
-later_than k l m a b = record { local = b.local ∙ a.local; reached = b.reached ∙ a.reached; saw = λ n v e. b.saw n v (a.saw n v e) }
+pub later_than : {k l m : ThreadView} → IsLater k l → IsLater l m → IsLater k m
+later_than a b = record { local = b.local ∙ a.local; reached = b.reached ∙ a.reached; saw = λ n v e. b.saw n v (a.saw n v e) }
 
 -- what was seen of a word
 pub seen_word : (k : ThreadView) (n : WordId) (v : ℕ) → last_seen n k.seen_at_safepoint ≡ Some v → IsSettled k (λ l. seen_words l n) v
@@ -51,7 +50,7 @@ stays_reached s start e id.Safepoint n k reached = or_true k.reached _ reached �
 stays_reached s start e _ n k reached = refl
 
 -- A load at the reached safepoint: the thread knows more after it, and has seen the word that it found.
-module _ (h : HeapSeen) (p q : PassSeen) (e : CallContext) (at : WordId) (n : ℕ)
+module _ {h : HeapSeen} {p q : PassSeen} (e : CallContext) (at : WordId) {n : ℕ}
     (is_of : IsOf h p) (reached : p.known.reached ≡ true) (s : HasStepped h p q (load e at) n) where
   after : ThreadView
   after = known_hit h.heap.shape h.heap.start (load e at) n p.known
@@ -78,18 +77,18 @@ module _ (h : HeapSeen) (p q : PassSeen) (e : CallContext) (at : WordId) (n : �
   load_settled = seen_word q.known at n load_saw
 
 -- THE CLASS of an object, found at the reached safepoint, stays the one that was seen.
-module _ (h : HeapSeen) (p q : PassSeen) (e : CallContext) (o c : ℕ) (is_of : IsOf h p) (reached : p.known.reached ≡ true)
+module _ {h : HeapSeen} {p q : PassSeen} (e : CallContext) (o : ℕ) {c : ℕ} (is_of : IsOf h p) (reached : p.known.reached ≡ true)
     (run : HasMadeSteps h (class_steps e Settled h.heap.shape o) p q c) where
   pub class_later : IsLater p.known q.known
   class_later = by_test (nat_lt o h.heap.shape.declared) (class_found h p q e Settled o c is_of run)
     where
       by_test : (b : Bool) → IsFound b h p q e Settled o c → IsLater p.known q.known
       by_test true found = subst (IsLater p.known) (sym found.0) (later_itself p.known)
-      by_test false found = load_later h p q e (id.Class o) found.0 is_of reached found.2
+      by_test false found = load_later e (id.Class o) is_of reached found.2
 
   pub class_settled : IsSettled q.known (λ k. class_by h.heap.shape (seen_words k) o) c
   class_settled l later = by_test (nat_lt o h.heap.shape.declared) (class_found h p q e Settled o c is_of run)
     where
       by_test : (b : Bool) → IsFound b h p q e Settled o c → cond b (class_in_shape h.heap.shape o) (seen_words l (id.Class o) - 1) ≡ c
       by_test true found = sym found.1
-      by_test false found = ap (λ n. n - 1) (load_settled h p q e (id.Class o) found.0 is_of reached found.2 l later) ∙ sym found.1
+      by_test false found = ap (λ n. n - 1) (load_settled e (id.Class o) is_of reached found.2 l later) ∙ sym found.1

@@ -1,5 +1,6 @@
 mod Standing
-mod StandLoop
+mod After
+mod Rounds
 mod Later
 mod Parting
 mod Cells

@@ -1,20 +1,15 @@
 -- Whether threads stand still, as a loop over them finds it; and marks that no thread that waits comes with.
 use Rattle.std.proofs.Common.{◌≡◌, ℕ, ◌&&◌, ◌||◌, not, Bool, true, false, List, [], ◌∷◌, Option, Some, None, refl, sym, ◌∙◌}
 use Rattle.mark_word.specs.declared.mark.MarkForm.{MarkForm}
-use Rattle.mark_word.specs.declared.mark.MarkForm.TheVariants.{Inflating, Neutral, Anonymous, Biased, Locked, Inflated, Marked}
+use Rattle.mark_word.specs.declared.mark.MarkForm.TheVariants.{Inflated}
 use Rattle.core_world.specs.Trees.LookSteps.{look_at_monitor, none_goes_on}
 use Rattle.core_world.specs.Trees.Plans.{CallContext}
 use Rattle.core_world.specs.Trees.StepTree.{unreachable, done}
 use Rattle.heap_census.specs.inner.StandParts.{stands_with}
 
 pub never_looked : (f : MarkForm) (e : CallContext) (t : ℕ) → ((m : ℕ) → f ≡ Inflated m → ⊥) → look_at_monitor (Some f) e t ≡ unreachable
-never_looked Inflating e t inflated = refl
-never_looked (Neutral hash age) e t inflated = refl
-never_looked (Anonymous epoch age) e t inflated = refl
-never_looked (Biased u epoch age) e t inflated = refl
-never_looked (Locked u p) e t inflated = refl
 never_looked (Inflated m) e t inflated = absurd (inflated m refl)
-never_looked Marked e t inflated = refl
+never_looked _ e t inflated = refl
 
 or_true : (b : Bool) → (b || true) ≡ true
 or_true true = refl

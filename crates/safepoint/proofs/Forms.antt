@@ -1,5 +1,5 @@
 -- What the forms of words say of them.
-use Rattle.std.proofs.Common.{◌≡◌, ℕ, ◌+◌, ◌<◌, ◌^◌, Bool, true, false, cond, is_some, Option, Some, None, IfSome, sym, ap, ◌∙◌, arith}
+use Rattle.std.proofs.Common.{◌≡◌, ℕ, ◌+◌, ◌<◌, ◌^◌, Bool, true, false, is_some, Option, Some, None, IfSome, sym, ap, ◌∙◌, arith}
 use Rattle.std.proofs.lemmas.Nat.{pow_below}
 use Rattle.plain_monitor.specs.Limits.{most_threads}
 use Rattle.mark_word.specs.declared.safe.SafeForm.{SafeForm}
@@ -7,11 +7,6 @@ use Rattle.mark_word.specs.Safe.{IsSafeInRange, read_safe, safe_of, requester_of
 use Rattle.mark_word.proofs.ReadingSafepoints.{read_safe-spells}
 use Rattle.core_world.specs.Words.Forms.{requester_form, is_still, still_form}
 use Rattle.core_world.specs.Trees.SafepointSteps.{has_requester, running_too}
-use Rattle.core_world.specs.Trees.StepTree.{StepTree}
-
--- what a test picks of two parts of a tree
-pub picks : {A : Type 0} {b c : Bool} (x y : StepTree A) → b ≡ c → cond b x y ≡ cond c x y
-picks x y e = ap (λ b. cond b x y) e
 
 module _ (word : ℕ) (form : Option SafeForm) (read : form ≡ read_safe word) where
   module _ (test answer : Bool) where

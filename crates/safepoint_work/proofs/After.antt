@@ -1,58 +1,42 @@
--- What is due after a part, whether it makes a step or none, where all its steps are of one call.
-use Rattle.std.proofs.Common.{◌≡◌, ℕ, zero, suc, ◌+◌, Bool, true, false, cond, ◌∷◌, sym, ap, ◌∙◌, subst}
-use Rattle.core_world.specs.declared.plan.StepPlan.{StepPlan}
+-- What is left after a part of a call, whether it makes a step or none; and a run leaves which thread it is.
+use Rattle.std.proofs.Common.{◌≡◌, ℕ, sym, ap, ◌∙◌, subst}
 use Rattle.core_world.specs.declared.heap_call.HeapCall.{HeapCall}
 use Rattle.core_world.specs.Due.{IsDue, Runs}
 use Rattle.core_world.specs.Steps.{known_after}
 use Rattle.core_world.specs.Threads.ThreadView.{ThreadView}
-use Rattle.core_world.specs.Trees.StepTree.{StepTree, done, unreachable, step, ◌>>=◌, all_from, each_from}
+use Rattle.core_world.specs.Trees.StepTree.{StepTree, done, unreachable, step, ◌>>=◌}
 use Rattle.core_world.specs.Words.Shape.{Shape}
-use Rattle.core_world.proofs.CallRests.{part_due}
 use Rattle.heap_table.specs.Parts.{IsDueOn, HasMadeSteps}
 use Rattle.heap_table.specs.Seen.{HeapSeen, PassSeen}
-use Rattle.heap_table.specs.Stepping.{HasStepped}
 use Rattle.heap_table.proofs.Knows.{same_thread}
 use Rattle.heap_table.proofs.Parts.{part_then}
+use Rattle.heap_table.proofs.StepsLeft.{AreLeft, part_of, part_left}
 
--- all steps are of a call of this task
-abbrev pub AreOf : {A : Type 0} → HeapCall → StepTree A → Type 0
-AreOf t (done a) = Unit {0}
-AreOf t unreachable = Unit {0}
-AreOf t (step p f) = (p.task ≡ t) × ((n : ℕ) → AreOf t (f n))
+-- its first step, if it has one, is of a call of this task,
+abbrev pub IsOfTask : {A : Type 0} → HeapCall → StepTree A → Type 0
+IsOfTask t (step plan f) = plan.task ≡ t
+IsOfTask t _ = Unit {0}
 
--- so what comes after them is due
-pub after_part : {A B : Type 0} (h : HeapSeen) (p q : PassSeen) (t : HeapCall) (d : StepTree A) (g : A → StepTree B) (a : A)
-    → IsDueOn h p t (d >>= g) → AreOf t d
-    → HasMadeSteps h d p q a → IsDueOn h q t (g a)
+-- so what comes after it is due, and left
+after_part : {A B : Type 0} (h : HeapSeen) (p q : PassSeen) (t : HeapCall) (x : StepTree A) (g : A → StepTree B) (a : A)
+    → IsDueOn h p t (x >>= g) → IsOfTask t x → HasMadeSteps h x p q a → IsDueOn h q t (g a)
 after_part {A = A} h p q t (done b) g a due of run =
     subst (λ (k : ThreadView). IsDue h.heap.shape h.heap.start h.heap.biasing k t (g a)) (sym run.ran.by.0)
     (subst (λ (x : A). IsDueOn h p t (g x)) (sym run.ran.by.1) due)
 after_part h p q t unreachable g a due of run = absurd run.ran.by
-after_part h p q t (step plan f) g a due of run = part_then h p q t plan f g a due of.0 run
+after_part h p q t (step plan f) g a due of run = part_then h p q t plan f g a due of run
 
-module _ (t : HeapCall) where
-  pub then_of : {A B : Type 0} (d : StepTree A) (g : A → StepTree B) → AreOf t d → ((a : A) → AreOf t (g a)) → AreOf t (d >>= g)
-  then_of (done a) g one two = two a
-  then_of unreachable g one two = tt
-  then_of (step p f) g one two = (one.0, λ n. then_of (f n) g (one.1 n) two)
+pub left_after : {A B : Type 0} {h : HeapSeen} {t : HeapCall} {o p q : PassSeen} {d : StepTree A} {x : StepTree B} {b : B} (g : B → StepTree A)
+    → HasMadeSteps h x p q b → IsOfTask t x → AreLeft h t o d p (x >>= g) → AreLeft h t o d q (g b)
+left_after {h = h} {t = t} {p = p} {q = q} {x = x} {b = b} g run of left = part_left g run (after_part h p q t x g b left.due of run) left
 
-  pub either_of : {A : Type 0} (b : Bool) (x y : StepTree A) → AreOf t x → AreOf t y → AreOf t (cond b x y)
-  either_of true x y one two = one
-  either_of false x y one two = two
+-- the part that comes first is due, and what was made was made, in other words
+pub due_as : {A B : Type 0} {h : HeapSeen} {t : HeapCall} {o p : PassSeen} {d : StepTree A} {x y : StepTree B} (g : B → StepTree A)
+    → AreLeft h t o d p (x >>= g) → y ≡ x → IsDueOn h p t y
+due_as {h = h} {t = t} {p = p} g left same = subst (IsDueOn h p t) (sym same) (part_of g left)
 
-  pub all_of : (i n : ℕ) (f : ℕ → StepTree (Unit {0})) → ((j : ℕ) → AreOf t (f j)) → AreOf t (all_from i n f)
-  all_of i zero f each = tt
-  all_of i (suc n) f each = then_of (f i) (λ _. all_from (i + 1) n f) (each i) (λ _. all_of (i + 1) n f each)
-
-  pub each_of : {A : Type 0} (i n : ℕ) (f : ℕ → StepTree A) → ((j : ℕ) → AreOf t (f j)) → AreOf t (each_from i n f)
-  each_of i zero f each = tt
-  each_of i (suc n) f each =
-      then_of (f i) (λ first. each_from (i + 1) n f >>= (λ others. done (first ∷ others))) (each i) (λ first.
-      then_of (each_from (i + 1) n f) (λ others. done (first ∷ others)) (each_of (i + 1) n f each) (λ others. tt))
-
--- the part in front is due
-pub front_due : {A B : Type 0} (h : HeapSeen) (p : PassSeen) (t : HeapCall) (d : StepTree A) (g : A → StepTree B) → IsDueOn h p t (d >>= g) → IsDueOn h p t d
-front_due h p t d g due = part_due h.heap.shape h.heap.start h.heap.biasing p.known t d g due
+pub made_as : {A : Type 0} {h : HeapSeen} {p q : PassSeen} {a : A} {x y : StepTree A} → HasMadeSteps h x p q a → x ≡ y → HasMadeSteps h y p q a
+made_as {h = h} {p = p} {q = q} {a = a} run same = subst (λ d. HasMadeSteps h d p q a) same run
 
 -- after a run the pass is one of the same thread
 runs_by : {A : Type 0} (s : Shape) (start : ℕ) (d : StepTree A) (k l : ThreadView) (a : A) → Runs s start d k l a → l.thread ≡ k.thread
@@ -60,8 +44,5 @@ runs_by s start (done b) k l a run = ap (λ (x : ThreadView). x.thread) run.0
 runs_by s start unreachable k l a run = absurd run
 runs_by s start (step p f) k l a run = runs_by s start (f run.0) (known_after s start p run.0 k) l a run.1 ∙ same_thread s start p run.0 k
 
-pub same_runner : {A : Type 0} (h : HeapSeen) (d : StepTree A) (p q : PassSeen) (a : A) → HasMadeSteps h d p q a → q.known.thread ≡ p.known.thread
-same_runner h d p q a run = runs_by h.heap.shape h.heap.start d p.known q.known a run.ran.by
-
-pub same_stepper : (h : HeapSeen) (p q : PassSeen) (plan : StepPlan) (n : ℕ) → HasStepped h p q plan n → q.known.thread ≡ p.known.thread
-same_stepper h p q plan n s = ap (λ (x : ThreadView). x.thread) s.known ∙ same_thread h.heap.shape h.heap.start plan n p.known
+pub same_runner : {A : Type 0} {h : HeapSeen} {d : StepTree A} {p q : PassSeen} {a : A} → HasMadeSteps h d p q a → q.known.thread ≡ p.known.thread
+same_runner {h = h} {d = d} {p = p} {q = q} {a = a} run = runs_by h.heap.shape h.heap.start d p.known q.known a run.ran.by

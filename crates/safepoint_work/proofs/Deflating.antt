@@ -1,6 +1,6 @@
--- The steps that give idle monitors back: all are of the call for which they are made, and they leave what a call takes of its thread's knowledge at its
+-- The steps that give idle monitors back: they are of the call for which they are made, and leave what a call takes of its thread's knowledge at its
 -- beginning; and the object word of a monitor is a number of 32 bits.
-use Rattle.std.proofs.Common.{◌≡◌, ◌≢◌, ℕ, ◌<◌, ◌≤◌, ◌^◌, ◌==◌, if◌then◌else◌, Bool, true, false, List, length, refl, sym, subst, arith}
+use Rattle.std.proofs.Common.{◌≡◌, ◌≢◌, ℕ, zero, suc, ◌<◌, ◌≤◌, ◌^◌, ◌==◌, if◌then◌else◌, Bool, true, false, List, length, refl, sym, subst, arith}
 use Rattle.std.specs.List.{list_all}
 use Rattle.std.proofs.lemmas.Bool.Decides.{nat_tests}
 use Rattle.plain_monitor.specs.Limits.{most_in_all}
@@ -19,33 +19,19 @@ use Rattle.heap_table.specs.Seen.{HeapSeen, PassSeen, IsOf}
 use Rattle.heap_table.specs.Stepping.{HasStepped}
 use Rattle.heap_table.proofs.Aside.{AreAside, either_aside, then_aside, all_aside, each_aside}
 use Rattle.heap_table.proofs.Loops.{binds}
-use Rattle.safepoint_work.specs.inner.DeflateParts.{clean_steps, untouched_steps}
-use Rattle.safepoint_work.proofs.After.{AreOf, then_of, either_of, each_of}
+use Rattle.safepoint_work.specs.inner.DeflateParts.{untouched_steps}
+use Rattle.safepoint_work.proofs.After.{IsOfTask}
 use Rattle.heap_table.proofs.Forms.{sound_forms, in_limits}
 
 module _ (s : Shape) (e : CallContext) (stage : Stage) where
   abbrev looks : StepTree (List ℕ)
   looks = each_from 0 s.threads (λ t. look_at e stage (Waiting t))
 
-  -- OF THEIR CALL
-  gives_of : (o m : ℕ) → AreOf e.task (give_back_steps s e stage o m)
-  gives_of o m = (refl, λ header. (refl, λ end. (refl, λ _. (refl, λ _. (refl, λ _. (refl, λ _. (refl, λ _. (refl, λ _. (refl, λ _. tt)))))))))
-
-  looks_of : AreOf e.task looks
-  looks_of = each_of e.task 0 s.threads (λ t. look_at e stage (Waiting t)) (λ t. (refl, λ n. tt))
-
-  pub untouched_of : (o : ℕ) → AreOf e.task (untouched_steps s e stage o)
-  untouched_of o = then_of e.task looks (λ words. done (list_all (λ w. is_untouched o w) words)) looks_of (λ words. tt)
-
-  free_of : (o m : ℕ) → AreOf e.task (deflate_free s e stage o m)
-  free_of o m = then_of e.task looks _ looks_of
-      (λ words. either_of e.task (list_all (λ w. is_untouched o w) words) (give_back_steps s e stage o m) (done tt) (gives_of o m) tt)
-
-  named_of : (o m : ℕ) → AreOf e.task (deflate_named s e stage o m)
-  named_of o m = (refl, λ owner. either_of e.task (owner == owner_of Free) (deflate_free s e stage o m) (done tt) (free_of o m) tt)
-
-  pub deflate_of : (m : ℕ) → AreOf e.task (deflate_monitor s e stage m)
-  deflate_of m = (refl, λ o. (refl, λ mark. either_of e.task (names_monitor (monitor_in mark) m) (deflate_named s e stage o m) (done tt) (named_of o m) tt))
+  -- THE FIRST of the looks, if there is one, is of their call
+  pub untouched_of : (o n : ℕ) → IsOfTask e.task
+      (each_from 0 n (λ t. look_at e stage (Waiting t)) >>= (λ words. done (list_all (λ w. is_untouched o w) words)))
+  untouched_of o zero = tt
+  untouched_of o (suc n) = refl
 
   -- a free monitor is given back by the answer of all waiting words
   abbrev pub freed : ℕ → ℕ → Bool → StepTree (Unit {0})
@@ -99,9 +85,6 @@ module _ (s : Shape) (e : CallContext) (stage : Stage) where
   pub deflate_aside : AreAside (deflate_steps s e stage)
   deflate_aside = either_aside (length s.objects == 0) (done tt) (all_from 0 (monitor_count s) (λ m. deflate_monitor s e stage m)) tt
       (all_aside 0 (monitor_count s) (λ m. deflate_monitor s e stage m) monitor_aside)
-
-pub clean_of : (e : CallContext) (stage : Stage) (m : ℕ) → AreOf e.task (clean_steps e stage m)
-clean_of e stage m = (refl, λ _. (refl, λ _. (refl, λ _. (refl, λ _. tt))))
 
 -- THE OBJECT WORD of a monitor, which is 0 or names an object
 few_objects : (n many : ℕ) → (n ≢ 0 → n < many) → many ≤ most_in_all → n < 2 ^ 32

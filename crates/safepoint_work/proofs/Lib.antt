@@ -2,5 +2,4 @@ mod After
 mod Rounds
 mod RevokeSteps
 mod RevokeWords
-mod UntouchedLoop
 pub mod Deflating

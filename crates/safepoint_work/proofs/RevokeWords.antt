@@ -3,7 +3,7 @@ use Rattle.std.proofs.Common.{◌≡◌, ℕ, ◌<◌, ◌≤◌, ◌==◌, Bool
 use Rattle.std.proofs.lemmas.Bool.Decides.{nat_tests}
 use Rattle.plain_monitor.specs.Limits.{most_holds}
 use Rattle.mark_word.specs.declared.mark.MarkForm.{MarkForm}
-use Rattle.mark_word.specs.declared.mark.MarkForm.TheVariants.{Inflating, Neutral, Anonymous, Biased, Locked, Inflated, Marked}
+use Rattle.mark_word.specs.declared.mark.MarkForm.TheVariants.{Anonymous, Biased, Locked}
 use Rattle.mark_word.specs.Mark.{mark_of, read_mark}
 use Rattle.mark_word.proofs.ReadingMarks.{read_mark-spells}
 use Rattle.core_world.specs.declared.word_id.WordId.TheVariants.{Mark}
@@ -74,13 +74,7 @@ held_there s (Some (Holds object depth)) o formed e =
 -- PROTOTYPES. Without an epoch no bias to it is valid, and an epoch is in its range.
 pub no_bias : (f : Option MarkForm) (n : ℕ) → epoch_in n ≡ None → is_valid_bias f n ≡ false
 no_bias (Some (Biased thread epoch age)) n none = ap (λ (x : Option ℕ). has_epoch x epoch) none
-no_bias None n none = refl
-no_bias (Some Inflating) n none = refl
-no_bias (Some (Neutral hash age)) n none = refl
-no_bias (Some (Anonymous epoch age)) n none = refl
-no_bias (Some (Locked t p)) n none = refl
-no_bias (Some (Inflated m)) n none = refl
-no_bias (Some Marked) n none = refl
+no_bias _ n none = refl
 
 pub epoch_range : (n epoch : ℕ) → epoch_in n ≡ Some epoch → epoch < 4
 epoch_range n epoch is = cases (read_mark n) refl
@@ -90,10 +84,4 @@ epoch_range n epoch is = cases (read_mark n) refl
         let range = (read_mark-spells n (Anonymous other age) m).0 in
         let same : other ≡ epoch = ap or_zero (sym (ap epoch_form m) ∙ is) in
         subst (λ (x : ℕ). x < 4) same range.0
-    cases None m = absurd (cc (is, ap epoch_form m))
-    cases (Some Inflating) m = absurd (cc (is, ap epoch_form m))
-    cases (Some (Neutral hash age)) m = absurd (cc (is, ap epoch_form m))
-    cases (Some (Biased t other age)) m = absurd (cc (is, ap epoch_form m))
-    cases (Some (Locked t p)) m = absurd (cc (is, ap epoch_form m))
-    cases (Some (Inflated k)) m = absurd (cc (is, ap epoch_form m))
-    cases (Some Marked) m = absurd (cc (is, ap epoch_form m))
+    cases _ m = absurd (cc (is, ap epoch_form m))

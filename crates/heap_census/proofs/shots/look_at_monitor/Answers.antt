@@ -5,10 +5,9 @@ use Rattle.core_world.specs.declared.word_id.WordId.TheVariants.{Owner}
 use Rattle.core_world.specs.Clauses.WordForms.{IsOwner}
 use Rattle.core_world.specs.Locks.{owner_lock}
 use Rattle.core_world.specs.Trees.LookSteps.{look_at_owner}
-use Rattle.core_world.specs.Trees.Plans.{load}
 use Rattle.heap_table.proofs.Forms.{found_formed}
 use Rattle.heap_table.proofs.StepsLeft.{AreLeft, all_left, can_make, step_made, left_as}
-use Rattle.heap_census.specs.inner.ShotParts.{cell_by, look_at_monitor}
+use Rattle.heap_census.specs.inner.ShotParts.{IsLater, cell_by, look_at_monitor}
 use Rattle.heap_census.proofs.Later.{load_later, load_settled, later_than}
 use Rattle.heap_census.proofs.shots.look_at_monitor.Goals as goal
 use Rattle.heap_census.proofs.shots.look_at_monitor.Goals.{In-Some}
@@ -29,36 +28,26 @@ loaded c = left_as (step_made (all_left c.requires.heap c.requires.due) refl ref
 pub look_at_owner-requires-clause-due : goal.look_at_owner-requires-clause-due
 look_at_owner-requires-clause-due c = (loaded (goal.at.look_at_owner-requires-clause-due c).In-Some).due
 
+later : (c : In-Some) → IsLater c.args.pass.now.known c.load-owner.new.pass.known
+later c = load_later c.args.call.now (Owner c.args.monitor) c.requires.heap c.requires.reached c.load-owner.ensures
+
 pub look_at_owner-requires-clause-reached : goal.look_at_owner-requires-clause-reached
-look_at_owner-requires-clause-reached c =
-    let a = c.args in
-    (load_later a.heap.now a.pass.now c.load-owner.new.pass a.call.now
-    (Owner a.monitor) c.load-owner.result c.requires.heap c.requires.reached c.load-owner.ensures).reached ∙ c.requires.reached
+look_at_owner-requires-clause-reached c = (later (goal.at.look_at_owner-requires-clause-reached c).In-Some).reached ∙ c.requires.reached
 
 pub unreachable-requires : goal.unreachable-requires
 unreachable-requires c =
-    let a = c.args in
-    let h = a.heap.now in
-    subst (IsOwner h.heap.shape) (sym c.owner_of_word.ensures ∙ c.in-None.is)
-    (found_formed h a.pass.now c.load-owner.new.pass (load a.call.now (Owner a.monitor)) c.load-owner.result c.load-owner.ensures)
+    subst (IsOwner c.args.heap.now.heap.shape) (sym c.owner_of_word.ensures ∙ c.in-None.is) (found_formed _ _ _ _ _ c.load-owner.ensures)
 
 pub returns-clause-run : goal.returns-clause-run
 returns-clause-run c = (loaded (goal.at.returns-clause-run c).In-Some).whole _ _ c.look_at_owner.ensures.run
 
 pub returns-clause-later : goal.returns-clause-later
-returns-clause-later c =
-    let a = c.args in
-    later_than a.pass.now.known c.load-owner.new.pass.known c.look_at_owner.new.pass.known
-    (load_later a.heap.now a.pass.now c.load-owner.new.pass a.call.now
-    (Owner a.monitor) c.load-owner.result c.requires.heap c.requires.reached c.load-owner.ensures)
-    c.look_at_owner.ensures.later
+returns-clause-later c = later_than (later (goal.at.returns-clause-later c).In-Some) c.look_at_owner.ensures.later
 
 pub returns-clause-cell : goal.returns-clause-cell
-returns-clause-cell c = λ l later.
+returns-clause-cell c = λ l since.
     let a = c.args in
-    let q = c.load-owner.new.pass in
-    let n = c.load-owner.result in
-    let now = later_than q.known c.look_at_owner.new.pass.known l c.look_at_owner.ensures.later later in
-    let word = load_settled a.heap.now a.pass.now q a.call.now (Owner a.monitor) n c.requires.heap c.requires.reached c.load-owner.ensures l now in
+    let now = later_than c.look_at_owner.ensures.later since in
+    let word = load_settled a.call.now (Owner a.monitor) c.requires.heap c.requires.reached c.load-owner.ensures l now in
     ap (λ (f : Option OwnerForm). cell_by (owner_lock f) a.object l) (ap read_owner word ∙ form (goal.at.returns-clause-cell c).In-Some)
-    ∙ c.look_at_owner.ensures.cell l later
+    ∙ c.look_at_owner.ensures.cell l since

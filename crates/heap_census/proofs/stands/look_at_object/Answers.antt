@@ -1,9 +1,7 @@
 use Rattle.std.proofs.Common.{Option, Some, refl, sym, ap, ◌∙◌, subst}
 use Rattle.mark_word.specs.declared.mark.MarkForm.{MarkForm}
-use Rattle.core_world.specs.declared.word_id.WordId.TheVariants.{Mark}
 use Rattle.core_world.specs.Clauses.WordForms.{IsMark}
 use Rattle.core_world.specs.Trees.LookSteps.{look_at_object, look_at_monitor}
-use Rattle.core_world.specs.Trees.Plans.{load}
 use Rattle.heap_table.proofs.Forms.{found_formed}
 use Rattle.heap_table.proofs.StepsLeft.{AreLeft, all_left, can_make, step_made, left_as}
 use Rattle.heap_census.proofs.stands.look_at_object.Goals as goal
@@ -23,10 +21,7 @@ look_at_monitor-requires-clause-due c = (loaded (goal.at.look_at_monitor-require
 
 pub unreachable-requires : goal.unreachable-requires
 unreachable-requires c =
-    let a = c.args in
-    let h = a.heap.now in
-    subst (IsMark h.heap.shape) (sym c.mark_of_word.ensures ∙ c.in-None.is)
-    (found_formed h a.pass.now c.load-mark.new.pass (load a.call.now (Mark a.object)) c.load-mark.result c.load-mark.ensures)
+    subst (IsMark c.args.heap.now.heap.shape) (sym c.mark_of_word.ensures ∙ c.in-None.is) (found_formed _ _ _ _ _ c.load-mark.ensures)
 
 pub returns : goal.returns
 returns c = (loaded (goal.at.returns c).In-Some).whole _ _ c.look_at_monitor.ensures

@@ -1,9 +1,7 @@
 use Rattle.std.proofs.Common.{Option, Some, refl, sym, ap, ◌∙◌, subst}
 use Rattle.mark_word.specs.declared.wait.WaitForm.{WaitForm}
-use Rattle.core_world.specs.declared.word_id.WordId.TheVariants.{Waiting}
 use Rattle.core_world.specs.Clauses.WordForms.{IsWait}
 use Rattle.core_world.specs.Trees.LookSteps.{look_at_wait}
-use Rattle.core_world.specs.Trees.Plans.{load}
 use Rattle.heap_table.proofs.Forms.{found_formed}
 use Rattle.heap_table.proofs.StepsLeft.{AreLeft, all_left, can_make, step_made, left_as}
 use Rattle.heap_census.specs.inner.StandParts.{look_at_thread}
@@ -24,10 +22,7 @@ look_at_wait-requires-clause-due c = (loaded (goal.at.look_at_wait-requires-clau
 
 pub unreachable-requires : goal.unreachable-requires
 unreachable-requires c =
-    let a = c.args in
-    let h = a.heap.now in
-    subst (IsWait h.heap.shape) (sym c.wait_of_word.ensures ∙ c.in-None.is)
-    (found_formed h a.pass.now c.load-word.new.pass (load a.call.now (Waiting a.thread)) c.load-word.result c.load-word.ensures)
+    subst (IsWait c.args.heap.now.heap.shape) (sym c.wait_of_word.ensures ∙ c.in-None.is) (found_formed _ _ _ _ _ c.load-word.ensures)
 
 pub returns : goal.returns
 returns c = (loaded (goal.at.returns c).In-Some).whole _ _ c.look_at_wait.ensures

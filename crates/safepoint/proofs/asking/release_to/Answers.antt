@@ -1,11 +1,9 @@
-use Rattle.std.proofs.Common.{◌==◌, false, refl, sym, ap, ◌∙◌, subst}
+use Rattle.std.proofs.Common.{refl, ap, ◌∙◌}
 use Rattle.core_world.specs.declared.word_id.WordId.TheVariants.{Safepoint}
-use Rattle.core_world.specs.declared.plan.StepPlan.{StepPlan}
-use Rattle.core_world.specs.Trees.SafepointSteps.{reached_word, released_word, release_plan}
-use Rattle.core_world.specs.Trees.StepTree.{done, unreachable}
-use Rattle.heap_table.specs.Stepping.{CanStep, HasStepped}
-use Rattle.heap_table.proofs.Parts.{can, last_step, passes}
-use Rattle.safepoint.proofs.Forms.{picks}
+use Rattle.core_world.specs.Trees.SafepointSteps.{reached_word, released_word}
+use Rattle.core_world.specs.Trees.StepTree.{done}
+use Rattle.heap_table.proofs.Ruled.{chosen}
+use Rattle.heap_table.proofs.StepsLeft.{all_left, can_make, step_made, left_then, all_made}
 use Rattle.safepoint.proofs.Swaps.{same_swap}
 use Rattle.safepoint.proofs.asking.release_to.Goals as goal
 
@@ -14,23 +12,13 @@ exchange-requires c =
     let same = c.thread-thread.ensures.same in
     let expected = c.reached_word-expected.ensures ∙ ap reached_word same in
     let word = c.released_word-word.ensures ∙ ap released_word same in
-    let plan = same_swap c.args.stage Safepoint c.unchecked.ensures expected word in
-    subst (λ (x : StepPlan). CanStep c.args.heap.now c.args.pass.now x) (sym plan)
-    (can _ _ _ _ _ c.requires.due refl c.requires.heap tt refl)
+    can_make (all_left c.requires.heap c.requires.due) (same_swap c.args.stage Safepoint c.unchecked.ensures expected word) refl refl tt
 
 pub returns : goal.returns
 returns c =
-    let e = c.args.call.now in
-    let h = c.args.heap.now in
-    let p = c.args.pass.now in
-    let q = c.exchange.new.pass in
-    let t = p.known.thread in
-    let found = c.exchange.result in
     let same = c.thread-thread.ensures.same in
     let expected = c.reached_word-expected.ensures ∙ ap reached_word same in
     let word = c.released_word-word.ensures ∙ ap released_word same in
     let plan = same_swap c.args.stage Safepoint c.unchecked.ensures expected word in
-    let made = subst (λ (x : StepPlan). HasStepped h p q x found) plan c.exchange.ensures in
-    let releases = release_plan (record e { check = false }) c.args.stage t in
-    let hit = passes h p q e.task releases (λ n. n == reached_word t) (λ n. done tt) found c.requires.due refl made in
-    last_step h p q releases _ found _ made refl (picks (done tt) unreachable hit)
+    let left = step_made (all_left c.requires.heap c.requires.due) plan refl refl c.exchange.ensures in
+    all_made (left_then _ _ _ left (chosen _ _ _ _ (done tt) left.heap left.due))

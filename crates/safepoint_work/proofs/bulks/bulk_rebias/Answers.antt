@@ -1,56 +1,33 @@
-use Rattle.std.proofs.Common.{◌≡◌, ◌∷◌, [], ℕ, sym, ap, subst}
+use Rattle.std.proofs.Common.{◌∷◌, [], Some, refl, sym}
 use Rattle.core_world.specs.declared.word_id.WordId.TheVariants.{LastBulk}
 use Rattle.core_world.specs.RevocationRules.{write}
-use Rattle.core_world.specs.Threads.Stages.{Revocation}
-use Rattle.core_world.specs.Trees.RevocationSteps.{store_steps}
-use Rattle.core_world.specs.Trees.StepTree.{StepTree}
-use Rattle.heap_table.specs.Parts.{IsDueOn, HasMadeSteps}
-use Rattle.heap_table.proofs.Parts.{in_turn}
+use Rattle.core_world.specs.Trees.RevocationSteps.{store_steps, bulk_rebias_steps}
+use Rattle.heap_table.proofs.StepsLeft.{AreLeft, all_left, left_as}
 use Rattle.safepoint_work.specs.inner.RevokeParts.{raised_steps}
-use Rattle.safepoint_work.proofs.After.{front_due, after_part, same_runner}
-use Rattle.safepoint_work.proofs.RevokeSteps.{stores_of}
+use Rattle.safepoint_work.proofs.After.{made_as, due_as, left_after, same_runner}
 use Rattle.safepoint_work.proofs.bulks.bulk_rebias.Goals as goal
+use Rattle.safepoint_work.proofs.bulks.bulk_rebias.Goals.{After-store_one}
 
 pub store_one-requires-clause-due : goal.store_one-requires-clause-due
 store_one-requires-clause-due c =
     let a = c.args in
-    let h = a.heap.now in
-    let p = a.pass.now in
-    let e = a.call.now in
-    let b = a.revocation.now in
-    let moment : c.revocation.inside.moment ≡ b.now = ap (λ (r : Revocation). r.now) c.revocation.view_is in
-    subst (λ (w : ℕ). IsDueOn h p e.task (store_steps e b (write (LastBulk a.class) w ∷ []))) (sym moment)
-    (front_due h p e.task (store_steps e b (write (LastBulk a.class) b.now ∷ []))
-    (λ u. raised_steps h.heap.shape p.known.thread a.class e b a.epoch) c.requires.due)
+    due_as (λ _. raised_steps a.heap.now.heap.shape a.pass.now.known.thread a.class a.call.now a.revocation.now a.epoch)
+    (all_left c.requires.heap c.requires.due)
+    (λ i. store_steps a.call.now a.revocation.now (write (LastBulk a.class) (c.revocation.view_is i).now ∷ []))
+
+-- the moment is stored, and the thread is the same
+stored : (c : After-store_one) → AreLeft c.args.heap.now c.args.call.now.task c.args.pass.now (bulk_rebias_steps c.args.heap.now.heap.shape
+    c.args.pass.now.known.thread c.args.class c.args.call.now c.args.revocation.now (Some c.args.epoch)) c.store_one.new.pass
+    (raised_steps c.args.heap.now.heap.shape c.store_one.new.pass.known.thread c.args.class c.args.call.now c.args.revocation.now c.args.epoch)
+stored c =
+    let a = c.args in
+    left_as (left_after (λ _. raised_steps a.heap.now.heap.shape a.pass.now.known.thread a.class a.call.now a.revocation.now a.epoch)
+    (made_as c.store_one.ensures (λ i. store_steps a.call.now a.revocation.now (write (LastBulk a.class) (c.revocation.view_is i).now ∷ []))) refl
+    (all_left c.requires.heap c.requires.due))
+    (λ i. raised_steps a.heap.now.heap.shape (sym (same_runner c.store_one.ensures) i) a.class a.call.now a.revocation.now a.epoch)
 
 pub raise_epoch-requires-clause-due : goal.raise_epoch-requires-clause-due
-raise_epoch-requires-clause-due c =
-    let a = c.args in
-    let h = a.heap.now in
-    let p = a.pass.now in
-    let e = a.call.now in
-    let b = a.revocation.now in
-    let moment : c.revocation.inside.moment ≡ b.now = ap (λ (r : Revocation). r.now) c.revocation.view_is in
-    let q = c.store_one.new.pass in
-    let d : StepTree (Unit {0}) = store_steps e b (write (LastBulk a.class) b.now ∷ []) in
-    let run = subst (λ (w : ℕ). HasMadeSteps h (store_steps e b (write (LastBulk a.class) w ∷ [])) p q tt) moment c.store_one.ensures in
-    let due = after_part h p q e.task d (λ u. raised_steps h.heap.shape p.known.thread a.class e b a.epoch) tt c.requires.due
-    (stores_of e b (write (LastBulk a.class) b.now ∷ [])) run in
-    subst (λ (t : ℕ). IsDueOn h q e.task (raised_steps h.heap.shape t a.class e b a.epoch)) (sym (same_runner h d p q tt run)) due
+raise_epoch-requires-clause-due c = (stored (goal.at.raise_epoch-requires-clause-due c).After-store_one).due
 
 pub returns : goal.returns
-returns c =
-    let a = c.args in
-    let h = a.heap.now in
-    let p = a.pass.now in
-    let e = a.call.now in
-    let b = a.revocation.now in
-    let moment : c.revocation.inside.moment ≡ b.now = ap (λ (r : Revocation). r.now) c.revocation.view_is in
-    let q = c.store_one.new.pass in
-    let r = c.raise_epoch.new.pass in
-    let took = c.raise_epoch.result in
-    let d : StepTree (Unit {0}) = store_steps e b (write (LastBulk a.class) b.now ∷ []) in
-    let run = subst (λ (w : ℕ). HasMadeSteps h (store_steps e b (write (LastBulk a.class) w ∷ [])) p q tt) moment c.store_one.ensures in
-    let rest = subst (λ (t : ℕ). HasMadeSteps h (raised_steps h.heap.shape t a.class e b a.epoch) q r took)
-    (same_runner h d p q tt run) c.raise_epoch.ensures in
-    in_turn h p q r d (λ u. raised_steps h.heap.shape p.known.thread a.class e b a.epoch) tt took run rest
+returns c = (stored (goal.at.returns c).After-store_one).whole _ _ c.raise_epoch.ensures

@@ -1,50 +1,31 @@
-use Rattle.std.proofs.Common.{◌≡◌, ◌∷◌, [], ℕ, sym, ap, subst}
+use Rattle.std.proofs.Common.{◌∷◌, [], refl}
 use Rattle.core_world.specs.declared.word_id.WordId.TheVariants.{LastBulk}
 use Rattle.core_world.specs.RevocationRules.{write}
-use Rattle.core_world.specs.Threads.Stages.{Revocation}
-use Rattle.core_world.specs.Trees.RevocationSteps.{store_steps}
-use Rattle.core_world.specs.Trees.StepTree.{StepTree}
-use Rattle.heap_table.specs.Parts.{IsDueOn, HasMadeSteps}
-use Rattle.heap_table.proofs.Parts.{in_turn}
+use Rattle.core_world.specs.Trees.RevocationSteps.{store_steps, bulk_revoke_steps}
+use Rattle.heap_table.proofs.StepsLeft.{AreLeft, all_left}
 use Rattle.safepoint_work.specs.inner.RevokeParts.{neutral_steps}
-use Rattle.safepoint_work.proofs.After.{front_due, after_part}
-use Rattle.safepoint_work.proofs.RevokeSteps.{stores_of}
+use Rattle.safepoint_work.proofs.After.{made_as, due_as, left_after}
 use Rattle.safepoint_work.proofs.bulks.bulk_revoke.Goals as goal
+use Rattle.safepoint_work.proofs.bulks.bulk_revoke.Goals.{After-store_one}
 
 pub store_one-requires-clause-due : goal.store_one-requires-clause-due
 store_one-requires-clause-due c =
     let a = c.args in
-    let h = a.heap.now in
-    let p = a.pass.now in
-    let e = a.call.now in
-    let b = a.revocation.now in
-    let moment : c.revocation.inside.moment ≡ b.now = ap (λ (r : Revocation). r.now) c.revocation.view_is in
-    subst (λ (w : ℕ). IsDueOn h p e.task (store_steps e b (write (LastBulk a.class) w ∷ []))) (sym moment)
-    (front_due h p e.task (store_steps e b (write (LastBulk a.class) b.now ∷ [])) (λ u. neutral_steps h.heap.shape a.class e b) c.requires.due)
+    due_as (λ _. neutral_steps a.heap.now.heap.shape a.class a.call.now a.revocation.now) (all_left c.requires.heap c.requires.due)
+    (λ i. store_steps a.call.now a.revocation.now (write (LastBulk a.class) (c.revocation.view_is i).now ∷ []))
+
+-- the moment is stored
+stored : (c : After-store_one) → AreLeft c.args.heap.now c.args.call.now.task c.args.pass.now
+    (bulk_revoke_steps c.args.heap.now.heap.shape c.args.class c.args.call.now c.args.revocation.now)
+    c.store_one.new.pass (neutral_steps c.args.heap.now.heap.shape c.args.class c.args.call.now c.args.revocation.now)
+stored c =
+    let a = c.args in
+    left_after (λ _. neutral_steps a.heap.now.heap.shape a.class a.call.now a.revocation.now)
+    (made_as c.store_one.ensures (λ i. store_steps a.call.now a.revocation.now (write (LastBulk a.class) (c.revocation.view_is i).now ∷ []))) refl
+    (all_left c.requires.heap c.requires.due)
 
 pub end_epochs-requires-clause-due : goal.end_epochs-requires-clause-due
-end_epochs-requires-clause-due c =
-    let a = c.args in
-    let h = a.heap.now in
-    let p = a.pass.now in
-    let e = a.call.now in
-    let b = a.revocation.now in
-    let moment : c.revocation.inside.moment ≡ b.now = ap (λ (r : Revocation). r.now) c.revocation.view_is in
-    let q = c.store_one.new.pass in
-    let d : StepTree (Unit {0}) = store_steps e b (write (LastBulk a.class) b.now ∷ []) in
-    let run = subst (λ (w : ℕ). HasMadeSteps h (store_steps e b (write (LastBulk a.class) w ∷ [])) p q tt) moment c.store_one.ensures in
-    after_part h p q e.task d (λ u. neutral_steps h.heap.shape a.class e b) tt c.requires.due (stores_of e b (write (LastBulk a.class) b.now ∷ [])) run
+end_epochs-requires-clause-due c = (stored (goal.at.end_epochs-requires-clause-due c).After-store_one).due
 
 pub returns : goal.returns
-returns c =
-    let a = c.args in
-    let h = a.heap.now in
-    let p = a.pass.now in
-    let e = a.call.now in
-    let b = a.revocation.now in
-    let moment : c.revocation.inside.moment ≡ b.now = ap (λ (r : Revocation). r.now) c.revocation.view_is in
-    let q = c.store_one.new.pass in
-    let r = c.end_epochs.new.pass in
-    let d : StepTree (Unit {0}) = store_steps e b (write (LastBulk a.class) b.now ∷ []) in
-    let run = subst (λ (w : ℕ). HasMadeSteps h (store_steps e b (write (LastBulk a.class) w ∷ [])) p q tt) moment c.store_one.ensures in
-    in_turn h p q r d (λ u. neutral_steps h.heap.shape a.class e b) tt tt run c.end_epochs.ensures
+returns c = (stored (goal.at.returns c).After-store_one).whole _ _ c.end_epochs.ensures

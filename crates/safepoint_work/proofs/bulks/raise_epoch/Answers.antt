@@ -1,57 +1,33 @@
-use Rattle.std.proofs.Common.{◌+◌, ◌%◌, ◌∷◌, [], ℕ, sym, subst}
-use Rattle.mark_word.specs.declared.mark.MarkForm.TheVariants.{Anonymous}
-use Rattle.mark_word.specs.Mark.{mark_of}
+use Rattle.std.proofs.Common.{◌+◌, ◌%◌, ◌∷◌, [], refl, sym}
 use Rattle.core_world.specs.declared.word_id.WordId.TheVariants.{Prototype}
 use Rattle.core_world.specs.RevocationRules.{write}
 use Rattle.core_world.specs.Trees.RevocationSteps.{store_steps}
-use Rattle.core_world.specs.Trees.StepTree.{StepTree}
-use Rattle.heap_table.specs.Parts.{IsDueOn, HasMadeSteps}
-use Rattle.heap_table.proofs.Parts.{in_turn}
-use Rattle.safepoint_work.specs.inner.RevokeParts.{renewed_steps}
-use Rattle.safepoint_work.proofs.After.{front_due, after_part, same_runner}
-use Rattle.safepoint_work.proofs.RevokeSteps.{stores_of}
+use Rattle.heap_table.proofs.StepsLeft.{AreLeft, all_left, left_as}
+use Rattle.safepoint_work.specs.inner.RevokeParts.{raised_steps, renewed_steps}
+use Rattle.safepoint_work.proofs.After.{made_as, due_as, left_after, same_runner}
 use Rattle.safepoint_work.proofs.bulks.raise_epoch.Goals as goal
+use Rattle.safepoint_work.proofs.bulks.raise_epoch.Goals.{After-store_one}
 
 pub store_one-requires-clause-due : goal.store_one-requires-clause-due
 store_one-requires-clause-due c =
     let a = c.args in
-    let h = a.heap.now in
-    let p = a.pass.now in
-    let e = a.call.now in
-    let b = a.revocation.now in
-    let word = mark_of (Anonymous ((a.epoch + 1) % 4) 0) in
-    subst (λ (w : ℕ). IsDueOn h p e.task (store_steps e b (write (Prototype a.class) w ∷ []))) (sym c.encode-prototype.ensures)
-    (front_due h p e.task (store_steps e b (write (Prototype a.class) word ∷ []))
-    (λ u. renewed_steps h.heap.shape p.known.thread a.class e b ((a.epoch + 1) % 4)) c.requires.due)
+    due_as (λ _. renewed_steps a.heap.now.heap.shape a.pass.now.known.thread a.class a.call.now a.revocation.now ((a.epoch + 1) % 4))
+    (all_left c.requires.heap c.requires.due)
+    (λ i. store_steps a.call.now a.revocation.now (write (Prototype a.class) (c.encode-prototype.ensures i) ∷ []))
+
+-- the next epoch is stored, and the thread is the same
+stored : (c : After-store_one) → AreLeft c.args.heap.now c.args.call.now.task c.args.pass.now (raised_steps c.args.heap.now.heap.shape
+    c.args.pass.now.known.thread c.args.class c.args.call.now c.args.revocation.now c.args.epoch) c.store_one.new.pass (renewed_steps
+    c.args.heap.now.heap.shape c.store_one.new.pass.known.thread c.args.class c.args.call.now c.args.revocation.now ((c.args.epoch + 1) % 4))
+stored c =
+    let a = c.args in
+    left_as (left_after (λ _. renewed_steps a.heap.now.heap.shape a.pass.now.known.thread a.class a.call.now a.revocation.now ((a.epoch + 1) % 4))
+    (made_as c.store_one.ensures (λ i. store_steps a.call.now a.revocation.now (write (Prototype a.class) (c.encode-prototype.ensures i) ∷ []))) refl
+    (all_left c.requires.heap c.requires.due))
+    (λ i. renewed_steps a.heap.now.heap.shape (sym (same_runner c.store_one.ensures) i) a.class a.call.now a.revocation.now ((a.epoch + 1) % 4))
 
 pub renew_class-requires-clause-due : goal.renew_class-requires-clause-due
-renew_class-requires-clause-due c =
-    let a = c.args in
-    let h = a.heap.now in
-    let p = a.pass.now in
-    let e = a.call.now in
-    let b = a.revocation.now in
-    let word = mark_of (Anonymous ((a.epoch + 1) % 4) 0) in
-    let q = c.store_one.new.pass in
-    let d : StepTree (Unit {0}) = store_steps e b (write (Prototype a.class) word ∷ []) in
-    let run = subst (λ (w : ℕ). HasMadeSteps h (store_steps e b (write (Prototype a.class) w ∷ [])) p q tt) c.encode-prototype.ensures c.store_one.ensures in
-    let due = after_part h p q e.task d (λ u. renewed_steps h.heap.shape p.known.thread a.class e b ((a.epoch + 1) % 4)) tt c.requires.due
-    (stores_of e b (write (Prototype a.class) word ∷ [])) run in
-    subst (λ (t : ℕ). IsDueOn h q e.task (renewed_steps h.heap.shape t a.class e b ((a.epoch + 1) % 4))) (sym (same_runner h d p q tt run)) due
+renew_class-requires-clause-due c = (stored (goal.at.renew_class-requires-clause-due c).After-store_one).due
 
 pub returns : goal.returns
-returns c =
-    let a = c.args in
-    let h = a.heap.now in
-    let p = a.pass.now in
-    let e = a.call.now in
-    let b = a.revocation.now in
-    let word = mark_of (Anonymous ((a.epoch + 1) % 4) 0) in
-    let q = c.store_one.new.pass in
-    let r = c.renew_class.new.pass in
-    let took = c.renew_class.result in
-    let d : StepTree (Unit {0}) = store_steps e b (write (Prototype a.class) word ∷ []) in
-    let run = subst (λ (w : ℕ). HasMadeSteps h (store_steps e b (write (Prototype a.class) w ∷ [])) p q tt) c.encode-prototype.ensures c.store_one.ensures in
-    let rest = subst (λ (t : ℕ). HasMadeSteps h (renewed_steps h.heap.shape t a.class e b ((a.epoch + 1) % 4)) q r took)
-    (same_runner h d p q tt run) c.renew_class.ensures in
-    in_turn h p q r d (λ u. renewed_steps h.heap.shape p.known.thread a.class e b ((a.epoch + 1) % 4)) tt took run rest
+returns c = (stored (goal.at.returns c).After-store_one).whole _ _ c.renew_class.ensures

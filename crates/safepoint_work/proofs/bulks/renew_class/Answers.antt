@@ -1,47 +1,30 @@
-use Rattle.std.proofs.Common.{ℕ, sym, subst}
-use Rattle.core_world.specs.Trees.RevocationSteps.{walk_steps}
-use Rattle.core_world.specs.Trees.StepTree.{StepTree}
-use Rattle.heap_table.specs.Parts.{IsDueOn, HasMadeSteps}
-use Rattle.heap_table.proofs.Parts.{in_turn}
+use Rattle.std.proofs.Common.{sym}
+use Rattle.heap_table.proofs.StepsLeft.{AreLeft, all_left, left_as, part_of}
 use Rattle.safepoint_work.specs.declared.visit.Visit.TheVariants.{Renew}
-use Rattle.safepoint_work.specs.inner.RevokeParts.{visit_by, rebiased_steps}
-use Rattle.safepoint_work.proofs.After.{front_due, after_part, same_runner}
+use Rattle.safepoint_work.specs.inner.RevokeParts.{renewed_steps, rebiased_steps}
+use Rattle.safepoint_work.proofs.After.{left_after, same_runner}
 use Rattle.safepoint_work.proofs.RevokeSteps.{walk_of}
 use Rattle.safepoint_work.proofs.bulks.renew_class.Goals as goal
+use Rattle.safepoint_work.proofs.bulks.renew_class.Goals.{After-walk}
 
 pub walk-requires-clause-due : goal.walk-requires-clause-due
 walk-requires-clause-due c =
+    part_of (λ _. rebiased_steps c.args.call.now c.args.revocation.now c.args.epoch c.args.pass.now.known.thread)
+    (all_left c.requires.heap c.requires.due)
+
+-- the marks are renewed, and the thread is the same
+renewed : (c : After-walk) → AreLeft c.args.heap.now c.args.call.now.task c.args.pass.now
+    (renewed_steps c.args.heap.now.heap.shape c.args.pass.now.known.thread c.args.class c.args.call.now c.args.revocation.now c.args.epoch)
+    c.walk.new.pass (rebiased_steps c.args.call.now c.args.revocation.now c.args.epoch c.walk.new.pass.known.thread)
+renewed c =
     let a = c.args in
-    let h = a.heap.now in
-    let p = a.pass.now in
-    let e = a.call.now in
-    let b = a.revocation.now in
-    let d : StepTree (Unit {0}) = walk_steps h.heap.shape a.class e b (visit_by (Renew a.epoch) e b) in
-    front_due h p e.task d (λ u. rebiased_steps e b a.epoch p.known.thread) c.requires.due
+    left_as (left_after (λ _. rebiased_steps a.call.now a.revocation.now a.epoch a.pass.now.known.thread) c.walk.ensures
+    (walk_of a.call.now a.revocation.now a.heap.now.heap.shape a.class (Renew a.epoch) a.heap.now.heap.shape.threads)
+    (all_left c.requires.heap c.requires.due))
+    (λ i. rebiased_steps a.call.now a.revocation.now a.epoch (sym (same_runner c.walk.ensures) i))
 
 pub rebias-requires-clause-due : goal.rebias-requires-clause-due
-rebias-requires-clause-due c =
-    let a = c.args in
-    let h = a.heap.now in
-    let p = a.pass.now in
-    let e = a.call.now in
-    let b = a.revocation.now in
-    let d : StepTree (Unit {0}) = walk_steps h.heap.shape a.class e b (visit_by (Renew a.epoch) e b) in
-    let q = c.walk.new.pass in
-    let due = after_part h p q e.task d (λ u. rebiased_steps e b a.epoch p.known.thread) tt c.requires.due
-    (walk_of e b h.heap.shape a.class (Renew a.epoch)) c.walk.ensures in
-    subst (λ (u : ℕ). IsDueOn h q e.task (rebiased_steps e b a.epoch u)) (sym (same_runner h d p q tt c.walk.ensures)) due
+rebias-requires-clause-due c = (renewed (goal.at.rebias-requires-clause-due c).After-walk).due
 
 pub returns : goal.returns
-returns c =
-    let a = c.args in
-    let h = a.heap.now in
-    let p = a.pass.now in
-    let e = a.call.now in
-    let b = a.revocation.now in
-    let d : StepTree (Unit {0}) = walk_steps h.heap.shape a.class e b (visit_by (Renew a.epoch) e b) in
-    let q = c.walk.new.pass in
-    let r = c.rebias.new.pass in
-    let took = c.rebias.result in
-    let rest = subst (λ (u : ℕ). HasMadeSteps h (rebiased_steps e b a.epoch u) q r took) (same_runner h d p q tt c.walk.ensures) c.rebias.ensures in
-    in_turn h p q r d (λ u. rebiased_steps e b a.epoch p.known.thread) tt took c.walk.ensures rest
+returns c = (renewed (goal.at.returns c).After-walk).whole _ _ c.rebias.ensures

@@ -1,47 +1,30 @@
-use Rattle.std.proofs.Common.{◌≡◌, ℕ, false, sym, ap, subst}
-use Rattle.core_world.specs.Threads.Stages.{Revocation}
-use Rattle.core_world.specs.Trees.RevocationSteps.{walk_steps, revoke_steps}
-use Rattle.core_world.specs.Trees.StepTree.{StepTree}
-use Rattle.heap_table.specs.Parts.{IsDueOn, HasMadeSteps}
-use Rattle.heap_table.proofs.Parts.{in_turn}
+use Rattle.std.proofs.Common.{false, sym}
+use Rattle.core_world.specs.Trees.RevocationSteps.{revoke_steps}
+use Rattle.heap_table.proofs.StepsLeft.{AreLeft, all_left, left_as, part_of}
 use Rattle.safepoint_work.specs.declared.visit.Visit.TheVariants.{Revoke}
-use Rattle.safepoint_work.specs.inner.RevokeParts.{visit_by}
-use Rattle.safepoint_work.proofs.After.{front_due, after_part}
+use Rattle.safepoint_work.specs.inner.RevokeParts.{unbiased_steps}
+use Rattle.safepoint_work.proofs.After.{left_after}
 use Rattle.safepoint_work.proofs.RevokeSteps.{walk_of}
 use Rattle.safepoint_work.proofs.bulks.unbias_class.Goals as goal
+use Rattle.safepoint_work.proofs.bulks.unbias_class.Goals.{After-revocation}
 
 pub walk-requires-clause-due : goal.walk-requires-clause-due
 walk-requires-clause-due c =
+    part_of (λ _. revoke_steps c.args.call.now c.args.revocation.now c.args.revocation.now.object false) (all_left c.requires.heap c.requires.due)
+
+-- the objects that records name are revoked, and then this one
+walked : (c : After-revocation) → AreLeft c.args.heap.now c.args.call.now.task c.args.pass.now
+    (unbiased_steps c.args.heap.now.heap.shape c.args.class c.args.call.now c.args.revocation.now)
+    c.walk.new.pass (revoke_steps c.args.call.now c.args.revocation.now c.revocation.inside.object false)
+walked c =
     let a = c.args in
-    let h = a.heap.now in
-    let e = a.call.now in
-    let b = a.revocation.now in
-    let d : StepTree (Unit {0}) = walk_steps h.heap.shape a.class e b (visit_by Revoke e b) in
-    front_due h a.pass.now e.task d (λ u. revoke_steps e b b.object false) c.requires.due
+    left_as (left_after (λ _. revoke_steps a.call.now a.revocation.now a.revocation.now.object false) c.walk.ensures
+    (walk_of a.call.now a.revocation.now a.heap.now.heap.shape a.class Revoke a.heap.now.heap.shape.threads)
+    (all_left c.requires.heap c.requires.due))
+    (λ i. revoke_steps a.call.now a.revocation.now (sym c.revocation.view_is i).object false)
 
 pub revoke-requires-clause-due : goal.revoke-requires-clause-due
-revoke-requires-clause-due c =
-    let a = c.args in
-    let h = a.heap.now in
-    let p = a.pass.now in
-    let e = a.call.now in
-    let b = a.revocation.now in
-    let object : c.revocation.inside.object ≡ b.object = ap (λ (r : Revocation). r.object) c.revocation.view_is in
-    let d : StepTree (Unit {0}) = walk_steps h.heap.shape a.class e b (visit_by Revoke e b) in
-    let q = c.walk.new.pass in
-    subst (λ (o : ℕ). IsDueOn h q e.task (revoke_steps e b o false)) (sym object)
-    (after_part h p q e.task d (λ u. revoke_steps e b b.object false) tt c.requires.due (walk_of e b h.heap.shape a.class Revoke) c.walk.ensures)
+revoke-requires-clause-due c = (walked (goal.at.revoke-requires-clause-due c).After-revocation).due
 
 pub returns : goal.returns
-returns c =
-    let a = c.args in
-    let h = a.heap.now in
-    let p = a.pass.now in
-    let e = a.call.now in
-    let b = a.revocation.now in
-    let object : c.revocation.inside.object ≡ b.object = ap (λ (r : Revocation). r.object) c.revocation.view_is in
-    let d : StepTree (Unit {0}) = walk_steps h.heap.shape a.class e b (visit_by Revoke e b) in
-    let q = c.walk.new.pass in
-    let r = c.revoke.new.pass in
-    in_turn h p q r d (λ u. revoke_steps e b b.object false) tt tt c.walk.ensures
-    (subst (λ (o : ℕ). HasMadeSteps h (revoke_steps e b o false) q r tt) object c.revoke.ensures)
+returns c = (walked (goal.at.returns c).After-revocation).whole _ _ c.revoke.ensures

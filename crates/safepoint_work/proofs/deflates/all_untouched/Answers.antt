@@ -1,65 +1,48 @@
-use Rattle.std.proofs.Common.{◌≡◌, suc, ◌-◌, ◌&&◌, Bool, refl, sym, ap, ◌∙◌, subst, arith}
-use Rattle.core_world.specs.declared.word_id.WordId.TheVariants.{Waiting}
+use Rattle.std.proofs.Common.{◌≡◌, ◌<◌, ◌&&◌, Bool, true, false, refl, sym, ap, ◌∙◌, arith}
+use Rattle.std.specs.List.{list_all}
 use Rattle.core_world.specs.Trees.DeflateSteps.{is_untouched}
-use Rattle.core_world.specs.Trees.Plans.{load_plan}
-use Rattle.heap_table.specs.Parts.{IsDueOn}
-use Rattle.heap_table.proofs.Loops.{HasCome}
-use Rattle.heap_table.proofs.Parts.{can}
-use Rattle.safepoint_work.specs.inner.DeflateParts.{untouched_steps, untouched_from}
-use Rattle.safepoint_work.proofs.UntouchedLoop.{all_seen, one_due, others_due, others_come}
+use Rattle.core_world.specs.Trees.StepTree.{done}
+use Rattle.core_world.specs.Words.Shape.{Shape}
+use Rattle.heap_table.proofs.StepsLeft.{all_left, can_make, step_made, left_as, all_made}
+use Rattle.safepoint_work.proofs.Rounds.{no_answer, answer_due, answered, all_answers}
 use Rattle.safepoint_work.proofs.deflates.all_untouched.Goals.{then-untouched, else-untouched}
 use Rattle.safepoint_work.proofs.deflates.all_untouched.Goals as goal
 
+and_each : (a b c : Bool) → (a && (b && c)) ≡ ((a && b) && c)
+and_each true b c = refl
+and_each false b c = refl
+
+and_true : (b : Bool) → (b && true) ≡ b
+and_true true = refl
+and_true false = refl
+
+pub loop-thread-init : goal.loop-thread-init
+loop-thread-init c = no_answer (all_left c.requires.heap c.requires.due)
+
 pub load-word-requires : goal.load-word-requires
 load-word-requires c =
-    let a = c.args in
-    let h = a.heap.now in
-    let e = a.call.now in
     let l = c.loop-thread in
-    let left = l.invariant.left in
-    let more : left.0 ≡ suc (left.0 - 1) = omega (arith, left.1, c.loop-thread-test.true) in
-    let due = subst (λ m. IsDueOn h l.pass e.task (untouched_from e a.stage a.object l.thread m l.untouched)) more left.2 in
-    can h l.pass e.task (load_plan e a.stage (Waiting l.thread)) _
-    (one_due h a.pass.now l.pass e a.stage
-    (untouched_steps h.heap.shape e a.stage a.object) a.object l.thread (left.0 - 1) l.untouched due) refl l.invariant.heap tt refl
+    let threads = c.threads-thread-end.ensures.same ∙ ap (λ (x : Shape). x.threads) c.shape.ensures in
+    can_make (all_left l.invariant.left.heap (answer_due l.invariant (omega (arith, threads, c.loop-thread-test.true)))) refl refl refl tt
 
 pub loop-thread-preserved : goal.loop-thread-preserved
 loop-thread-preserved c =
-    let a = c.args in
-    let h = a.heap.now in
-    let e = a.call.now in
-    let r = a.pass.now in
     let l = c.loop-thread in
-    let left = l.invariant.left in
-    let more : left.0 ≡ suc (left.0 - 1) = omega (arith, left.1, c.loop-thread-test.true) in
-    let d = untouched_steps h.heap.shape e a.stage a.object in
-    let due = subst (λ m. IsDueOn h l.pass e.task (untouched_from e a.stage a.object l.thread m l.untouched)) more left.2 in
-    let come = subst (λ m. HasCome h d r (untouched_from e a.stage a.object l.thread m l.untouched) l.pass) more left.3 in
-    let q = c.load-word.new.pass in
+    let o = c.args.object in
     let word = c.load-word.result in
-    let step = c.load-word.ensures in
-    let now : Bool = c.if-untouched.untouched in
-    let same : now ≡ (l.untouched && is_untouched a.object word) = elim c.if-untouched.branch [
-      | then-untouched w ↦ w.untouched-is ∙ w.is_untouched-untouched.ensures ∙ ap (λ b. b && is_untouched a.object word) (sym w.if-untouched.true)
-      | else-untouched w ↦ w.untouched-is ∙ w.if-untouched.false ∙ ap (λ b. b && is_untouched a.object word) (sym w.if-untouched.false)
+    let threads = c.threads-thread-end.ensures.same ∙ ap (λ (x : Shape). x.threads) c.shape.ensures in
+    let less : l.thread < c.args.heap.now.heap.shape.threads = omega (arith, threads, c.loop-thread-test.true) in
+    let same : c.if-untouched.untouched ≡ (l.untouched && is_untouched o word) = elim c.if-untouched.branch [
+      | then-untouched w ↦ w.untouched-is ∙ w.is_untouched-untouched.ensures ∙ ap (λ b. b && is_untouched o word) (sym w.if-untouched.true)
+      | else-untouched w ↦ w.untouched-is ∙ w.if-untouched.false ∙ ap (λ b. b && is_untouched o word) (sym w.if-untouched.false)
     ] in
-    record {
-      heap = step.heap;
-      all = l.invariant.all;
-      left = (
-        left.0 - 1,
-        omega (arith, left.1, more),
-        others_due h r l.pass e a.stage d a.object l.thread (left.0 - 1) l.untouched due q word step now same,
-        others_come h r l.pass e a.stage d a.object l.thread (left.0 - 1) l.untouched due q word step now same come,
-      );
-    }
+    answered l.invariant less
+    (all_made (step_made (all_left l.invariant.left.heap (answer_due l.invariant less)) refl refl refl c.load-word.ensures)) refl
+    (λ others. ap done (and_each l.untouched (is_untouched o word) (list_all (λ w. is_untouched o w) others)
+    ∙ ap (λ b. b && list_all (λ w. is_untouched o w) others) (sym same)))
 
 pub returns : goal.returns
 returns c =
-    let a = c.args in
-    let h = a.heap.now in
-    let e = a.call.now in
-    let l = c.loop-thread in
-    let left = l.invariant.left in
-    let none : left.0 ≡ 0 = omega (arith, left.1, c.loop-thread-test.false) in
-    all_seen h a.pass.now l.pass e a.stage (untouched_steps h.heap.shape e a.stage a.object) a.object l.thread left.0 l.untouched none l.invariant.heap left.3
+    let threads = c.threads-thread-end.ensures.same ∙ ap (λ (x : Shape). x.threads) c.shape.ensures in
+    all_made (left_as (all_answers c.loop-thread.invariant (omega (arith, threads, c.loop-thread-test.false)))
+    (ap done (and_true c.loop-thread.untouched)))

@@ -1,52 +1,35 @@
-use Rattle.std.proofs.Common.{sym, subst}
-use Rattle.core_world.specs.Trees.StepTree.{StepTree}
-use Rattle.heap_table.specs.Parts.{IsDueOn, HasMadeSteps}
-use Rattle.heap_table.proofs.Parts.{in_turn, ends}
-use Rattle.safepoint_work.specs.inner.DeflateParts.{untouched_steps}
-use Rattle.safepoint_work.proofs.After.{front_due, after_part}
+use Rattle.std.proofs.Common.{◌≡◌, Bool, ap}
+use Rattle.core_world.specs.Trees.DeflateSteps.{deflate_free}
+use Rattle.heap_table.proofs.StepsLeft.{AreLeft, all_left, left_as, part_of, all_made}
+use Rattle.safepoint_work.proofs.After.{left_after}
 use Rattle.safepoint_work.proofs.Deflating.{free_as, freed, untouched_of}
 use Rattle.safepoint_work.proofs.deflates.deflate_free.Goals as goal
+use Rattle.safepoint_work.proofs.deflates.deflate_free.Goals.{After-all_untouched}
 
 pub all_untouched-requires-clause-due : goal.all_untouched-requires-clause-due
 all_untouched-requires-clause-due c =
     let a = c.args in
-    let h = a.heap.now in
-    let e = a.call.now in
-    let s = h.heap.shape in
-    front_due h a.pass.now e.task (untouched_steps s e a.stage a.object) (freed s e a.stage a.object a.monitor)
-    (subst (IsDueOn h a.pass.now e.task) (free_as s e a.stage a.object a.monitor) c.requires.due)
+    let s = a.heap.now.heap.shape in
+    part_of (freed s a.call.now a.stage a.object a.monitor)
+    (left_as (all_left c.requires.heap c.requires.due) (free_as s a.call.now a.stage a.object a.monitor))
+
+-- all waiting words are looked at
+looked : (c : After-all_untouched) (b : Bool) → c.all_untouched.result ≡ b → AreLeft c.args.heap.now c.args.call.now.task c.args.pass.now
+    (deflate_free c.args.heap.now.heap.shape c.args.call.now c.args.stage c.args.object c.args.monitor) c.all_untouched.new.pass
+    (freed c.args.heap.now.heap.shape c.args.call.now c.args.stage c.args.object c.args.monitor b)
+looked c b is =
+    let a = c.args in
+    let s = a.heap.now.heap.shape in
+    left_as (left_after (freed s a.call.now a.stage a.object a.monitor) c.all_untouched.ensures (untouched_of s a.call.now a.stage a.object s.threads)
+    (left_as (all_left c.requires.heap c.requires.due) (free_as s a.call.now a.stage a.object a.monitor)))
+    (ap (freed s a.call.now a.stage a.object a.monitor) is)
 
 pub give_back-requires-clause-due : goal.give_back-requires-clause-due
-give_back-requires-clause-due c =
-    let a = c.args in
-    let h = a.heap.now in
-    let e = a.call.now in
-    let s = h.heap.shape in
-    let q = c.all_untouched.new.pass in
-    let due = subst (IsDueOn h a.pass.now e.task) (free_as s e a.stage a.object a.monitor) c.requires.due in
-    let rest = after_part h a.pass.now q e.task (untouched_steps s e a.stage a.object)
-    (freed s e a.stage a.object a.monitor) c.all_untouched.result due (untouched_of s e a.stage a.object) c.all_untouched.ensures in
-    subst (λ b. IsDueOn h q e.task (freed s e a.stage a.object a.monitor b)) c.if-all_untouched.true rest
+give_back-requires-clause-due c = (looked (goal.at.give_back-requires-clause-due c).After-all_untouched _ c.if-all_untouched.true).due
 
 pub returns-then-all_untouched : goal.returns-then-all_untouched
 returns-then-all_untouched c =
-    let a = c.args in
-    let h = a.heap.now in
-    let e = a.call.now in
-    let s = h.heap.shape in
-    let q = c.all_untouched.new.pass in
-    let r = c.give_back.new.pass in
-    subst (λ (d : StepTree (Unit {0})). HasMadeSteps h d a.pass.now r tt) (sym (free_as s e a.stage a.object a.monitor))
-    (in_turn h a.pass.now q r (untouched_steps s e a.stage a.object) (freed s e a.stage a.object a.monitor) c.all_untouched.result tt c.all_untouched.ensures
-    (subst (λ b. HasMadeSteps h (freed s e a.stage a.object a.monitor b) q r tt) (sym c.if-all_untouched.true) c.give_back.ensures))
+    (looked (goal.at.returns-then-all_untouched c).After-all_untouched _ c.if-all_untouched.true).whole _ _ c.give_back.ensures
 
 pub returns-else-all_untouched : goal.returns-else-all_untouched
-returns-else-all_untouched c =
-    let a = c.args in
-    let h = a.heap.now in
-    let e = a.call.now in
-    let s = h.heap.shape in
-    let q = c.all_untouched.new.pass in
-    subst (λ (d : StepTree (Unit {0})). HasMadeSteps h d a.pass.now q tt) (sym (free_as s e a.stage a.object a.monitor))
-    (in_turn h a.pass.now q q (untouched_steps s e a.stage a.object) (freed s e a.stage a.object a.monitor) c.all_untouched.result tt c.all_untouched.ensures
-    (subst (λ b. HasMadeSteps h (freed s e a.stage a.object a.monitor b) q q tt) (sym c.if-all_untouched.false) (ends h q tt c.all_untouched.ensures.heap)))
+returns-else-all_untouched c = all_made (looked (goal.at.returns-else-all_untouched c).After-all_untouched _ c.if-all_untouched.false)

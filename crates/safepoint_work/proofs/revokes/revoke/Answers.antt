@@ -1,50 +1,30 @@
-use Rattle.std.proofs.Common.{◌≡◌, Option, Some, refl, sym, ◌∙◌, subst}
+use Rattle.std.proofs.Common.{Option, Some, refl, sym, ap, ◌∙◌, subst}
 use Rattle.mark_word.specs.declared.mark.MarkForm.{MarkForm}
-use Rattle.mark_word.specs.Mark.{read_mark}
-use Rattle.core_world.specs.declared.word_id.WordId.TheVariants.{Mark}
 use Rattle.core_world.specs.Clauses.WordForms.{IsMark}
-use Rattle.core_world.specs.Trees.Plans.{load_plan}
-use Rattle.core_world.specs.Trees.RevocationSteps.{revocation_stage, revoke_at}
-use Rattle.heap_table.specs.Parts.{IsDueOn, HasMadeSteps}
-use Rattle.heap_table.proofs.Parts.{can, rest_due, stepped}
+use Rattle.core_world.specs.Trees.RevocationSteps.{revoke_at, revoke_steps}
 use Rattle.heap_table.proofs.Forms.{found_formed}
+use Rattle.heap_table.proofs.StepsLeft.{AreLeft, all_left, can_make, step_made, left_as}
 use Rattle.safepoint_work.proofs.revokes.revoke.Goals as goal
+use Rattle.safepoint_work.proofs.revokes.revoke.Goals.{In-Some}
 
 pub look-mark-requires : goal.look-mark-requires
-look-mark-requires c =
-    let a = c.args in
-    let e = a.call.now in
-    let plan = load_plan e (revocation_stage a.revocation.now) (Mark a.object) in
-    can a.heap.now a.pass.now e.task plan _ c.requires.due refl c.requires.heap tt refl
+look-mark-requires c = can_make (all_left c.requires.heap c.requires.due) refl refl refl tt
+
+-- the mark is loaded, and has a form
+loaded : (c : In-Some) → AreLeft c.args.heap.now c.args.call.now.task c.args.pass.now
+    (revoke_steps c.args.call.now c.args.revocation.now c.args.object c.args.allowed) c.look-mark.new.pass
+    (revoke_at (Some c.in-Some.form) c.args.call.now c.args.revocation.now c.args.object c.args.allowed)
+loaded c =
+    left_as (step_made (all_left c.requires.heap c.requires.due) refl refl refl c.look-mark.ensures)
+    (ap (λ (f : Option MarkForm). revoke_at f c.args.call.now c.args.revocation.now c.args.object c.args.allowed)
+    (sym c.mark_of_word.ensures ∙ c.in-Some.is))
 
 pub revoke_form-requires-clause-form : goal.revoke_form-requires-clause-form
 revoke_form-requires-clause-form c =
-    let a = c.args in
-    let plan = load_plan a.call.now (revocation_stage a.revocation.now) (Mark a.object) in
-    let form : read_mark c.look-mark.result ≡ Some c.in-Some.form = sym c.mark_of_word.ensures ∙ c.in-Some.is in
-    subst (IsMark a.heap.now.heap.shape) form (found_formed a.heap.now a.pass.now c.look-mark.new.pass plan c.look-mark.result c.look-mark.ensures)
+    subst (IsMark c.args.heap.now.heap.shape) (sym c.mark_of_word.ensures ∙ c.in-Some.is) (found_formed _ _ _ _ _ c.look-mark.ensures)
 
 pub revoke_form-requires-clause-due : goal.revoke_form-requires-clause-due
-revoke_form-requires-clause-due c =
-    let a = c.args in
-    let h = a.heap.now in
-    let e = a.call.now in
-    let b = a.revocation.now in
-    let plan = load_plan e (revocation_stage b) (Mark a.object) in
-    let q = c.look-mark.new.pass in
-    let form : read_mark c.look-mark.result ≡ Some c.in-Some.form = sym c.mark_of_word.ensures ∙ c.in-Some.is in
-    subst (λ (f : Option MarkForm). IsDueOn h q e.task (revoke_at f e b a.object a.allowed)) form
-    (rest_due h a.pass.now e.task plan _ c.requires.due refl q c.look-mark.result c.look-mark.ensures)
+revoke_form-requires-clause-due c = (loaded (goal.at.revoke_form-requires-clause-due c).In-Some).due
 
 pub returns-in-Some : goal.returns-in-Some
-returns-in-Some c =
-    let a = c.args in
-    let h = a.heap.now in
-    let e = a.call.now in
-    let b = a.revocation.now in
-    let plan = load_plan e (revocation_stage b) (Mark a.object) in
-    let q = c.look-mark.new.pass in
-    let r = c.revoke_form.new.pass in
-    let form : read_mark c.look-mark.result ≡ Some c.in-Some.form = sym c.mark_of_word.ensures ∙ c.in-Some.is in
-    stepped h a.pass.now q r plan _ c.look-mark.result tt c.look-mark.ensures refl
-    (subst (λ (f : Option MarkForm). HasMadeSteps h (revoke_at f e b a.object a.allowed) q r tt) (sym form) c.revoke_form.ensures)
+returns-in-Some c = (loaded (goal.at.returns-in-Some c).In-Some).whole _ _ c.revoke_form.ensures
