@@ -177,11 +177,8 @@ module _ (w : World) (at : WordId) (v t : ℕ) (l : ThreadView) (law : BiasLawHo
 -- an act that misses leaves its word
 missed : (a : Act) (n : ℕ) → hits a n ≡ false → word_after a n ≡ n
 missed act.Load n h = refl
-missed (act.Store word) n h = absurd (cc h)
 missed (act.CompareExchange expected word) n h = ap (λ (b : Bool). cond b word n) h
-missed (act.FetchMax word) n h = absurd (cc h)
-missed (act.FetchAnd bits) n h = absurd (cc h)
-missed act.FetchAdd n h = absurd (cc h)
+missed _ n h = absurd (cc h)
 
 -- THE STEP OF A PLAN
 module _ (w : World) (t : ℕ) (p : StepPlan) (law : BiasLawHolds w) where

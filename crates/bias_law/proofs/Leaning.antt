@@ -34,17 +34,13 @@ LeansTo m prototype u = (epoch age : ℕ) × (m ≡ Some (Biased u epoch age)) �
 
 leans_form : (m : Option MarkForm) (prototype : ℕ) (owners : ℕ → ℕ) (i : Option Inflation) (u : ℕ)
     → lock_form m prototype owners i ≡ BiasedTo u → LeansTo m prototype u
-leans_form None p f i u e = absurd (cc e)
 leans_form (Some Inflating) p f None u e = absurd (cc e)
 leans_form (Some Inflating) p f (Some i) u e = absurd (cc e)
-leans_form (Some (Neutral h a)) p f i u e = absurd (cc e)
-leans_form (Some (Anonymous d a)) p f i u e = absurd (cc e)
 leans_form (Some (Biased t d a)) p f i u e = by_test (has_epoch (epoch_in p) d) refl e
   where
     by_test : (b : Bool) → has_epoch (epoch_in p) d ≡ b → cond b (BiasedTo t) Open ≡ BiasedTo u → LeansTo (Some (Biased t d a)) p u
     by_test true h g = let same : t ≡ u = cc g in (d, a, ap (λ z. Some (Biased z d a)) same, h)
     by_test false h g = absurd (cc g)
-leans_form (Some (Locked t q)) p f i u e = absurd (cc e)
 leans_form (Some (Inflated m)) p f i u e = absurd (by_owner (read_owner (f m)) e)
   where
     by_owner : (a : Option OwnerForm) → owner_lock a ≡ BiasedTo u → ⊥
@@ -52,7 +48,7 @@ leans_form (Some (Inflated m)) p f i u e = absurd (by_owner (read_owner (f m)) e
     by_owner (Some Free) g = absurd (cc g)
     by_owner (Some (ByThread t)) g = absurd (cc g)
     by_owner (Some (ByRecord t q)) g = absurd (cc g)
-leans_form (Some Marked) p f i u e = absurd (cc e)
+leans_form _ p f i u e = absurd (cc e)
 
 pub leans_to : (w : World) (o u : ℕ) → lock w o ≡ BiasedTo u → LeansTo (read_mark (marks w o)) (prototype_of w o) u
 leans_to w o u e = leans_form (read_mark (marks w o)) _ _ _ u e
@@ -90,18 +86,13 @@ not_anonymous n h = by_test (is_anonymous n) refl
 had_form : (m : Option MarkForm) (prototype : ℕ) (owners : ℕ → ℕ) (i : Option Inflation)
     → (lock_form m prototype owners i ≡ Open → ⊥) → ((u : ℕ) → lock_form m prototype owners i ≡ BiasedTo u → ⊥)
     → is_biased_form m ≡ false
-had_form None p f i a b = refl
-had_form (Some Inflating) p f i a b = refl
-had_form (Some (Neutral h g)) p f i a b = refl
 had_form (Some (Anonymous d g)) p f i a b = absurd (a refl)
 had_form (Some (Biased t d g)) p f i a b = absurd (by_test (has_epoch (epoch_in p) d) a (b t))
   where
     by_test : (c : Bool) → (cond c (BiasedTo t) Open ≡ Open → ⊥) → (cond c (BiasedTo t) Open ≡ BiasedTo t → ⊥) → ⊥
     by_test true a b = b refl
     by_test false a b = a refl
-had_form (Some (Locked t q)) p f i a b = refl
-had_form (Some (Inflated m)) p f i a b = refl
-had_form (Some Marked) p f i a b = refl
+had_form _ p f i a b = refl
 
 pub rests_unbiased : (w : World) (o t p : ℕ) → lock w o ≡ OnRecord t p → is_biased (marks w o) ≡ false
 rests_unbiased w o t p h = had_form (read_mark (marks w o)) (prototype_of w o) (λ m. w.words (Owner m)) (inflations w o) (λ e. cc (h, e)) (λ u e. cc (h, e))

@@ -49,21 +49,14 @@ hash_of None = 0
 hash_of (Some u) = u.object
 
 is_its_hash : (e : Entry) (i : ℕ) → operation_of e ≡ Some (record { op = op.Hash; object = i }) → is_hash i e ≡ true
-is_its_hash (entry.Enter o p) i h = absurd (cc (ap op_of h))
-is_its_hash (entry.Exit o) i h = absurd (cc (ap op_of h))
 is_its_hash (entry.Get o s u) i h = absurd (cc h)
 is_its_hash (entry.Put o s u) i h = absurd (cc h)
-is_its_hash (entry.Wait o) i h = absurd (cc (ap op_of h))
-is_its_hash (entry.Resume o) i h = absurd (cc (ap op_of h))
-is_its_hash (entry.Notify o u) i h = absurd (cc (ap op_of h))
-is_its_hash (entry.NotifyAll o u) i h = absurd (cc (ap op_of h))
 is_its_hash (entry.Hash o u d) i h = let same = ap hash_of h in eq-eqb o i same
-is_its_hash (entry.New o c) i h = absurd (cc (ap op_of h))
 is_its_hash (entry.Print u) i h = absurd (cc h)
-is_its_hash (entry.Dump u) i h = absurd (cc (ap op_of h))
 is_its_hash (entry.Trap f j) i h = absurd (cc h)
 is_its_hash entry.Spent i h = absurd (cc h)
 is_its_hash entry.Done i h = absurd (cc h)
+is_its_hash _ i h = absurd (cc (ap op_of h))
 
 not_by : (b : Bool) → not b ≡ true → b ≡ false
 not_by true e = absurd (cc e)
@@ -76,21 +69,10 @@ unbiased_still w P t o v runs saw = v.seen.unbiased t o saw.0 saw.1 (inl runs) s
 
 -- so an entry that ends a bias comes where there is none
 pub none_by_sight : (w : World) (P : List PlainObject) (t : ℕ) (e : Entry) → Fits w P → (w.known t).running ≡ true → SawNone (w.known t) e → HasNone w e
-none_by_sight w P t (entry.Enter o p) v runs saw = tt
-none_by_sight w P t (entry.Exit o) v runs saw = tt
-none_by_sight w P t (entry.Get o s u) v runs saw = tt
-none_by_sight w P t (entry.Put o s u) v runs saw = tt
 none_by_sight w P t (entry.Wait o) v runs saw = unbiased_still w P t o v runs saw
-none_by_sight w P t (entry.Resume o) v runs saw = tt
 none_by_sight w P t (entry.Notify o u) v runs saw = unbiased_still w P t o v runs saw
 none_by_sight w P t (entry.NotifyAll o u) v runs saw = unbiased_still w P t o v runs saw
-none_by_sight w P t (entry.Hash o u d) v runs saw = tt
-none_by_sight w P t (entry.New o c) v runs saw = tt
-none_by_sight w P t (entry.Print u) v runs saw = tt
-none_by_sight w P t (entry.Dump u) v runs saw = tt
-none_by_sight w P t (entry.Trap f j) v runs saw = tt
-none_by_sight w P t entry.Spent v runs saw = tt
-none_by_sight w P t entry.Done v runs saw = tt
+none_by_sight w P t _ v runs saw = tt
 
 module _ (w : World) (P : List PlainObject) (at : WordId) (n t : ℕ) (y : Logged)
     (l : ThreadView) (a : LogsBeside w at n t y l) (v : Fits w P) (law : BiasLawHolds w) where
@@ -120,20 +102,10 @@ module _ (w : World) (P : List PlainObject) (at : WordId) (n t : ℕ) (y : Logge
       → (i : ℕ) → is_same_object (bound_to e) (Some i) ≡ true → ends_bias e ≡ true → is_biased (marks w i) ≡ false
   ends (entry.Enter o p) saw enters i same over = let is = eqb-true o i same in
       subst (λ j. is_biased (marks w j) ≡ false) is (law.marks.unbiased t o p (enters o p refl) (not_by (is_by_bias p) over))
-  ends (entry.Exit o) saw enters i same over = absurd (cc over)
-  ends (entry.Get o s u) saw enters i same over = absurd (cc over)
-  ends (entry.Put o s u) saw enters i same over = absurd (cc over)
   ends (entry.Wait o) saw enters i same over = subst (λ j. is_biased (marks w j) ≡ false) (eqb-true o i same) saw
-  ends (entry.Resume o) saw enters i same over = absurd (cc over)
   ends (entry.Notify o u) saw enters i same over = subst (λ j. is_biased (marks w j) ≡ false) (eqb-true o i same) saw
   ends (entry.NotifyAll o u) saw enters i same over = subst (λ j. is_biased (marks w j) ≡ false) (eqb-true o i same) saw
-  ends (entry.Hash o u d) saw enters i same over = absurd (cc over)
-  ends (entry.New o c) saw enters i same over = absurd (cc over)
-  ends (entry.Print u) saw enters i same over = absurd (cc over)
-  ends (entry.Dump u) saw enters i same over = absurd (cc over)
-  ends (entry.Trap f j) saw enters i same over = absurd (cc over)
-  ends entry.Spent saw enters i same over = absurd (cc over)
-  ends entry.Done saw enters i same over = absurd (cc over)
+  ends _ saw enters i same over = absurd (cc over)
 
   entry_is : LogsEntry t y (marks w) (λ i. entries_on i (order (logs w))) (λ u. (w.known u).log) (λ u. (w.known u).stage) (λ u. (w.known u).unfinished)
       (λ i. entries_on i (order (logs x))) (λ u. (x.known u).log) (λ u. (x.known u).stage) (λ u. (x.known u).unfinished)

@@ -187,38 +187,13 @@ notifies_all e o u n w P t within may v law =
 -- PUBLISHING
 told_other : (s : Shape) (k : ThreadView) (e : Entry) → MayTell s k e → is_taking e ≡ false
 told_other s k (entry.Enter o p) h = absurd h
-told_other s k (entry.Exit o) h = refl
-told_other s k (entry.Get o i u) h = refl
-told_other s k (entry.Put o i u) h = refl
-told_other s k (entry.Wait o) h = refl
 told_other s k (entry.Resume o) h = absurd h
-told_other s k (entry.Notify o None) h = refl
-told_other s k (entry.Notify o (Some u)) h = refl
-told_other s k (entry.NotifyAll o u) h = refl
-told_other s k (entry.Hash o u d) h = refl
 told_other s k (entry.New o c) h = absurd h
-told_other s k (entry.Print u) h = refl
-told_other s k (entry.Dump u) h = refl
-told_other s k (entry.Trap f j) h = refl
-told_other s k entry.Spent h = refl
-told_other s k entry.Done h = refl
+told_other s k _ h = refl
 
 told_makes_none : (s : Shape) (k : ThreadView) (e : Entry) → MayTell s k e → creates e ≡ None
 told_makes_none s k (entry.New o c) h = absurd h
-told_makes_none s k (entry.Enter o p) h = refl
-told_makes_none s k (entry.Exit o) h = refl
-told_makes_none s k (entry.Get o i u) h = refl
-told_makes_none s k (entry.Put o i u) h = refl
-told_makes_none s k (entry.Wait o) h = refl
-told_makes_none s k (entry.Resume o) h = refl
-told_makes_none s k (entry.Notify o u) h = refl
-told_makes_none s k (entry.NotifyAll o u) h = refl
-told_makes_none s k (entry.Hash o u d) h = refl
-told_makes_none s k (entry.Print u) h = refl
-told_makes_none s k (entry.Dump u) h = refl
-told_makes_none s k (entry.Trap f j) h = refl
-told_makes_none s k entry.Spent h = refl
-told_makes_none s k entry.Done h = refl
+told_makes_none s k _ h = refl
 
 pub publishes : (e : CallContext) (entry : Entry) → KeepsBiases (λ w t. MayPublish w.shape (w.known t) entry × SawNone (w.known t) entry)
     (λ w t. publish_plan e t entry (length (w.known t).log + 1))

@@ -28,20 +28,7 @@ paths_push held (x ∷ log) y h e = (h.0, paths_push (held_after x.entry held) l
 -- an entry's path fits where it does if the entry is an enter
 fits_if_enter : (held : ℕ → ℕ) (e : Entry) → ((i : ℕ) (path : Path) → e ≡ entry.Enter i path → PathFits held (entry.Enter i path)) → PathFits held e
 fits_if_enter held (entry.Enter o p) h = h o p refl
-fits_if_enter held (entry.Exit o) h = tt
-fits_if_enter held (entry.Get o i v) h = tt
-fits_if_enter held (entry.Put o i v) h = tt
-fits_if_enter held (entry.Wait o) h = tt
-fits_if_enter held (entry.Resume o) h = tt
-fits_if_enter held (entry.Notify o w) h = tt
-fits_if_enter held (entry.NotifyAll o w) h = tt
-fits_if_enter held (entry.Hash o v d) h = tt
-fits_if_enter held (entry.New o c) h = tt
-fits_if_enter held (entry.Print v) h = tt
-fits_if_enter held (entry.Dump n) h = tt
-fits_if_enter held (entry.Trap f i) h = tt
-fits_if_enter held entry.Spent h = tt
-fits_if_enter held entry.Done h = tt
+fits_if_enter held _ h = tt
 
 pub entry_keeps_paths : (log : ℕ → List Logged) (stage : ℕ → Stage) (log2 : ℕ → List Logged) (stage2 : ℕ → Stage) (t : ℕ) (y : Logged) → PathsFitHolds log stage
     → ((u : ℕ) → u ≢ t → log2 u ≡ log u) → ((u : ℕ) → u ≢ t → stage2 u ≡ stage u) → log2 t ≡ log t ++ y ∷ [] → ((i : ℕ) → path_into (stage2 t) i ≡ None)

@@ -39,13 +39,7 @@ by_owner (entry.Put i s u) o n b = let same : i ≡ o = cc b in eq-eqb i o same
 by_owner (entry.Wait i) o n b = let same : i ≡ o = cc b in eq-eqb i o same
 by_owner (entry.Notify i u) o n b = let same : i ≡ o = cc b in eq-eqb i o same
 by_owner (entry.NotifyAll i u) o n b = let same : i ≡ o = cc b in eq-eqb i o same
-by_owner (entry.Hash i u d) o n b = absurd (cc b)
-by_owner (entry.New i c) o n b = absurd (cc b)
-by_owner (entry.Print u) o n b = absurd (cc b)
-by_owner (entry.Dump u) o n b = absurd (cc b)
-by_owner (entry.Trap f j) o n b = absurd (cc b)
-by_owner entry.Spent o n b = absurd (cc b)
-by_owner entry.Done o n b = absurd (cc b)
+by_owner _ o n b = absurd (cc b)
 
 -- such an entry may be appended with the thread's next stamp
 takes_appends : (w : World) (P Q : List PlainObject) (t : ℕ) (y : Logged) → Fits w P

@@ -4,7 +4,7 @@ use Rattle.std.proofs.Common.{◌++◌, Option, Some, refl, sym, ap, ◌∙◌, 
 use Rattle.plain_monitor.specs.declared.entry.Entry.{Entry}
 use Rattle.plain_monitor.specs.declared.entry.Entry.TheVariants as entry
 use Rattle.plain_monitor.specs.declared.entry.Logged.{Logged}
-use Rattle.plain_monitor.specs.declared.entry.Path.TheVariants.{BiasOwn, BiasTaken, StackFirst, StackAgain, MonitorFirst, MonitorAgain}
+use Rattle.plain_monitor.specs.declared.entry.Path.TheVariants.{BiasTaken}
 use Rattle.plain_history.specs.Tied.{bound_to, is_same_object}
 use Rattle.core_world.specs.declared.stage.Stage.{Stage}
 use Rattle.core_world.specs.declared.heap_call.Unfinished.{Unfinished}
@@ -24,25 +24,7 @@ times_push o (x ∷ es) e = let a = times_push o es e in omega (arith, a)
 -- an entry that takes the bias of o is an enter of it
 takes_it : (o : ℕ) (e : Entry) → takes_bias o e ≡ true → e ≡ entry.Enter o BiasTaken
 takes_it o (entry.Enter i BiasTaken) h = ap (λ j. entry.Enter j BiasTaken) (eqb-true i o h)
-takes_it o (entry.Enter i BiasOwn) h = absurd (cc h)
-takes_it o (entry.Enter i StackFirst) h = absurd (cc h)
-takes_it o (entry.Enter i StackAgain) h = absurd (cc h)
-takes_it o (entry.Enter i MonitorFirst) h = absurd (cc h)
-takes_it o (entry.Enter i MonitorAgain) h = absurd (cc h)
-takes_it o (entry.Exit i) h = absurd (cc h)
-takes_it o (entry.Get i s v) h = absurd (cc h)
-takes_it o (entry.Put i s v) h = absurd (cc h)
-takes_it o (entry.Wait i) h = absurd (cc h)
-takes_it o (entry.Resume i) h = absurd (cc h)
-takes_it o (entry.Notify i w) h = absurd (cc h)
-takes_it o (entry.NotifyAll i w) h = absurd (cc h)
-takes_it o (entry.Hash i v d) h = absurd (cc h)
-takes_it o (entry.New i c) h = absurd (cc h)
-takes_it o (entry.Print v) h = absurd (cc h)
-takes_it o (entry.Dump n) h = absurd (cc h)
-takes_it o (entry.Trap f i) h = absurd (cc h)
-takes_it o entry.Spent h = absurd (cc h)
-takes_it o entry.Done h = absurd (cc h)
+takes_it o _ h = absurd (cc h)
 
 -- AN ENTRY, by a step that leaves the biases: with it the bias that its thread was taking is taken once more, and is valid.
 module _ (class mark : ℕ → ℕ) (lock : ℕ → Lock) (entries : ℕ → List Entry) (log : ℕ → List Logged)

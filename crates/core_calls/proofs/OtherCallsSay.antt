@@ -4,6 +4,7 @@ use Rattle.mark_word.specs.Mark.{read_mark}
 use Rattle.plain_monitor.specs.declared.entry.Entry.TheVariants as entry
 use Rattle.plain_monitor.specs.declared.entry.Ending.{Ending}
 use Rattle.plain_monitor.specs.declared.entry.Value.{Value}
+use Rattle.plain_monitor.specs.Endings.{ending_entry}
 use Rattle.core_world.specs.declared.heap_call.Operation.TheVariants as op
 use Rattle.core_world.specs.declared.heap_call.HeapCall.TheVariants as task
 use Rattle.core_world.specs.declared.stage.Stage.TheVariants.{Settled}
@@ -20,17 +21,19 @@ use Rattle.core_world.specs.Trees.SafepointSteps.{stop_steps, resume_steps, poll
 use Rattle.core_world.specs.Trees.DeflateSteps.{deflate_steps}
 use Rattle.core_world.specs.Trees.LookSteps.{take_shot_steps, stands_still_steps}
 use Rattle.core_world.specs.Trees.WaitSteps.{publish_steps}
-use Rattle.plain_monitor.specs.Endings.{ending_entry}
 use Rattle.core_world.specs.Trees.Operations.{and_then, answer, lone_context, get_steps, put_steps, print_steps}
 use Rattle.core_world.specs.Trees.Operations.{finish_steps, dump_going, dump_steps, check_ending, check_steps}
 use Rattle.core_world.specs.Trees.Calls.{side_context}
+use Rattle.core_world.specs.declared.answer.TooManyDumps.{TooManyDumps}
 use Rattle.core_calls.specs.Paths.{Always, Says, Leaves}
 use Rattle.core_calls.specs.Causes.{Caused, CausedUnder, Overtaken, is_stopping, of_requests, of_safepoints}
 use Rattle.core_calls.specs.CallsSay.{unfinished_on, GetSays, PutSays, PrintSays, FinishSays, DumpProgressSays, DumpSays, PollSays, StopSays}
 use Rattle.core_calls.specs.CallsSay.{ResumeSays, CheckSays, IsGiven, StackEnterSays, StackExitSays, RequestSays, ReachedSays, ReleaseSays}
-use Rattle.core_calls.proofs.Paths.{always_then, always_so, either_way, Silent, Still, still, still_logged, now_logged}
-use Rattle.core_calls.proofs.Spends.{spend_quietly}
-use Rattle.core_calls.proofs.enter_exit.LocksSay.{stack_enter_says, stack_exit_says}
+use Rattle.core_calls.specs.CallsSay.{ResultSays}
+use Rattle.core_calls.proofs.Paths.{missed_loaded, missed_seen, always_then, always_so, either_way, Silent, Still, still, still_logged}
+use Rattle.core_calls.proofs.Paths.{now_logged}
+use Rattle.core_calls.proofs.Spends.{spend_quietly, spend_so}
+use Rattle.core_calls.proofs.enter_exit.LocksSay.{OutTells, stack_enter_says, stack_exit_says}
 use Rattle.core_calls.proofs.wait.WaitsSay.{publish_says}
 use Rattle.core_calls.proofs.safepoint.SafepointsSay.{Polled, poll_says, stop_says, resume_says, SafeProgress, Asked, request_says}
 use Rattle.core_calls.proofs.safepoint.SafepointsSay.{reached_says, safepoint_says, Released, release_says, halt_says}
@@ -38,6 +41,7 @@ use Rattle.core_calls.proofs.safepoint.LookSpends.{shot_spends, still_spends}
 use Rattle.core_calls.proofs.deflation.DeflationSpends.{deflate_spends}
 use Rattle.core_calls.proofs.OperationsSay.{then_says, working, no_check}
 use Rattle.core_calls.proofs.enter_exit.EntersSay.{nothing_yet}
+use Rattle.core_calls.proofs.Reasons.{Seeing, ProgressSees, ResultSees, result_said, result_seen}
 
 pub get_says : (k : Start) (o slot : ℕ) → Says (get_steps k o slot) (GetSays k o slot)
 get_says k o slot =
@@ -64,13 +68,13 @@ finish_says k ending = record {
 
 -- what a safepoint of a dump or of a check is pending for
 safely : (e : CallContext) (k : Start) (ms : List StepMade) → Still ms
-    → Always (SafeProgress e k.local.thread (CausedUnder of_safepoints k.requesting k.local.thread 0)) ms
+    → Always (SafeProgress e k.local.thread (Seeing (CausedUnder of_safepoints k.requesting k.local.thread 0))) ms
     (safepoint_steps e k.local.thread k.requesting)
 safely e k ms h =
-    safepoint_says e k.local.thread (CausedUnder of_safepoints k.requesting k.local.thread 0) k.requesting
-    (λ word ms moves loaded stands. (record { among = refl; cause = (moves, loaded) }, stands))
-    (λ none expected found ms missed. (record { among = ap not none; cause = missed }, tt))
-    (λ none word ms other there. (record { among = ap not none; cause = (other, there) }, tt)) ms h
+    safepoint_says e k.local.thread (Seeing (CausedUnder of_safepoints k.requesting k.local.thread 0)) k.requesting
+    (λ word ms moves loaded stands. ((record { among = refl; cause = (moves, loaded) }, stands), tt))
+    (λ none expected found ms missed. ((record { among = ap not none; cause = missed_loaded ms missed }, tt), missed_seen ms missed))
+    (λ none word ms other there. ((record { among = ap not none; cause = (other, there) }, tt), tt)) ms h
 
 -- DUMP
 module _ (s : Shape) (k : Start) where
@@ -78,21 +82,24 @@ module _ (s : Shape) (k : Start) where
   dumping = working task.Dump (unfinished_on op.Dump 0)
 
   abbrev Reaching : List StepMade → Progress (Unit {0}) → Type 0
-  Reaching = SafeProgress dumping k.local.thread (CausedUnder of_safepoints k.requesting k.local.thread 0)
+  Reaching = SafeProgress dumping k.local.thread (Seeing (CausedUnder of_safepoints k.requesting k.local.thread 0))
 
-  dump_going_says : Always (DumpProgressSays k) [] (dump_going s dumping k)
+  abbrev DumpTells : List StepMade → Progress ℕ → Type 0
+  DumpTells ms progress = DumpProgressSays k ms progress × ProgressSees ms progress
+
+  dump_going_says : Always DumpTells [] (dump_going s dumping k)
   dump_going_says =
-      always_then Reaching (DumpProgressSays k) (safepoint_steps dumping k.local.thread k.requesting) (λ progress. and_then progress shoots) []
+      always_then Reaching DumpTells (safepoint_steps dumping k.local.thread k.requesting) (λ progress. and_then progress shoots) []
       (safely dumping k [] nothing_yet)
-      (λ ms progress so. then_says Reaching (DumpProgressSays k) progress shoots ms so
-      (λ _ reached. always_then (λ ms _. Silent dumping ms) (DumpProgressSays k)
+      (λ ms progress so. then_says Reaching DumpTells progress shoots ms so
+      (λ _ reached. always_then (λ ms _. Silent dumping ms) DumpTells
       (take_shot_steps dumping s) (λ _. deflates) ms (spend_quietly ms (shot_spends dumping s) reached.0)
-      (λ ms _ silent. always_then (λ ms _. Silent dumping ms) (DumpProgressSays k) (deflate_steps s dumping Settled)
+      (λ ms _ silent. always_then (λ ms _. Silent dumping ms) DumpTells (deflate_steps s dumping Settled)
       (λ _. releases) ms (spend_quietly ms (deflate_spends dumping s Settled) silent)
-      (λ ms _ silent. always_then (Released dumping k.local.thread (released_word k.local.thread)) (DumpProgressSays k)
+      (λ ms _ silent. always_then (Released dumping k.local.thread (released_word k.local.thread)) DumpTells
       (release_safepoint dumping k.local.thread) (λ _. tells) ms (release_says dumping k.local.thread Settled ms (still silent))
-      (λ ms _ so n. (refl, now_logged (entry.Dump (k.shots + 1)) None false _ n ms refl refl refl refl (still so.0), inr so.1)))))
-      (λ why so. (no_check why so.0, so.1)))
+      (λ ms _ so n. ((refl, now_logged (entry.Dump (k.shots + 1)) None false _ n ms refl refl refl refl (still so.0), inr so.1), tt)))))
+      (λ why so. ((no_check why so.0, so.1.0), so.1.1)))
     where
       tells : StepTree (Progress ℕ)
       tells = publish_steps (entry.Dump (k.shots + 1)) dumping k.local >>= λ _. done_with (k.shots + 1)
@@ -106,12 +113,22 @@ module _ (s : Shape) (k : Start) where
       shoots : Unit {0} → StepTree (Progress ℕ)
       shoots _ = take_shot_steps dumping s >>= λ _. deflates
 
+  dump_tells : Always (ResultSays (k.shots == 4) DumpTells) [] (dump_steps s k)
+  dump_tells =
+      either_way (ResultSays (k.shots == 4) DumpTells) [] (k.shots == 4) _ _
+      (λ many. (many, refl))
+      (λ room. always_then DumpTells (ResultSays (k.shots == 4) DumpTells) (dump_going s dumping k) answer [] dump_going_says
+      (λ ms progress so. (room, so)))
+
   pub dump_says : Says (dump_steps s k) (DumpSays k)
   dump_says = record {
-    by = either_way (DumpSays k) [] (k.shots == 4) _ _
-        (λ many. (many, refl))
-        (λ room. always_then (DumpProgressSays k) (DumpSays k) (dump_going s dumping k) answer [] dump_going_says (λ ms progress so. (room, so)));
+    by = always_so (ResultSays (k.shots == 4) DumpTells) (DumpSays k) (dump_steps s k) [] dump_tells
+        (result_said (k.shots == 4) DumpTells (DumpProgressSays k) (λ ms a h. h.0));
   }
+
+  pub dump_sees : Always (ResultSees {A = ℕ} {E = TooManyDumps}) [] (dump_steps s k)
+  dump_sees = always_so (ResultSays (k.shots == 4) DumpTells) (ResultSees {A = ℕ} {E = TooManyDumps}) (dump_steps s k) [] dump_tells
+      (result_seen (k.shots == 4) DumpTells (λ ms a h. h.1))
 
 -- POLL, STOP, RESUME
 module _ (k : Start) where
@@ -138,28 +155,29 @@ module _ (s : Shape) (k : Start) where
   checking = record { task = task.Check; unfinished = k.unfinished; check = true }
 
   abbrev Halting : List StepMade → Progress (Unit {0}) → Type 0
-  Halting = SafeProgress checking k.local.thread (CausedUnder of_safepoints k.requesting k.local.thread 0)
+  Halting = SafeProgress checking k.local.thread (Seeing (CausedUnder of_safepoints k.requesting k.local.thread 0))
 
-  ending_says : (stuck : Bool) (ms : List StepMade) → Still ms → Always (CheckSays k) ms (check_ending stuck checking k.local.thread)
-  ending_says true ms h = always_then (Released checking k.local.thread halted_word) (CheckSays k)
-      (halt_steps checking k.local.thread) (λ _. done_with true) ms (halt_says checking k.local.thread ms h) (λ ms _ so. so)
+  abbrev CheckTells : List StepMade → Progress Bool → Type 0
+  CheckTells ms progress = CheckSays k ms progress × ProgressSees ms progress
+
+  ending_says : (stuck : Bool) (ms : List StepMade) → Still ms → Always CheckTells ms (check_ending stuck checking k.local.thread)
+  ending_says true ms h = always_then (Released checking k.local.thread halted_word) CheckTells
+      (halt_steps checking k.local.thread) (λ _. done_with true) ms (halt_says checking k.local.thread ms h) (λ ms _ so. (so, tt))
   ending_says false ms h =
-      always_then (Released checking k.local.thread (released_word k.local.thread)) (CheckSays k) (release_safepoint checking k.local.thread)
-      (λ _. done_with false) ms (release_says checking k.local.thread Settled ms h) (λ ms _ so. so)
+      always_then (Released checking k.local.thread (released_word k.local.thread)) CheckTells (release_safepoint checking k.local.thread)
+      (λ _. done_with false) ms (release_says checking k.local.thread Settled ms h) (λ ms _ so. (so, tt))
 
-  pub check_says : Says (check_steps s k) (CheckSays k)
-  check_says = record {
-    by =
-        always_then Halting (CheckSays k) (safepoint_steps checking k.local.thread k.requesting) (λ progress. and_then progress looks) []
-        (safely checking k [] nothing_yet)
-        (λ ms progress so. then_says Halting (CheckSays k) progress looks ms so
-        (λ _ reached. always_then (λ ms _. Silent checking ms) (CheckSays k) (stands_still_steps checking s) deflates ms
-        (spend_quietly ms (still_spends checking s) reached.0)
-        (λ ms stuck silent. always_then (λ ms _. Silent checking ms) (CheckSays k)
-        (deflate_steps s checking Settled) (λ _. check_ending stuck checking k.local.thread) ms
-        (spend_quietly ms (deflate_spends checking s Settled) silent) (λ ms _ silent. ending_says stuck ms (still silent))))
-        (λ why so. (flag (is_stopping why) so.0, so.1)));
-  }
+  check_tells : Always CheckTells [] (check_steps s k)
+  check_tells =
+      always_then Halting CheckTells (safepoint_steps checking k.local.thread k.requesting) (λ progress. and_then progress looks) []
+      (safely checking k [] nothing_yet)
+      (λ ms progress so. then_says Halting CheckTells progress looks ms so
+      (λ _ reached. always_then (λ ms _. Silent checking ms) CheckTells (stands_still_steps checking s) deflates ms
+      (spend_quietly ms (spend_so (λ p look. look.tame) (still_spends checking s)) reached.0)
+      (λ ms stuck silent. always_then (λ ms _. Silent checking ms) CheckTells
+      (deflate_steps s checking Settled) (λ _. check_ending stuck checking k.local.thread) ms
+      (spend_quietly ms (deflate_spends checking s Settled) silent) (λ ms _ silent. ending_says stuck ms (still silent))))
+      (λ why so. ((flag (is_stopping why) so.0, so.1.0), so.1.1)))
     where
       deflates : Bool → StepTree (Progress Bool)
       deflates stuck = deflate_steps s checking Settled >>= λ _. check_ending stuck checking k.local.thread
@@ -171,28 +189,44 @@ module _ (s : Shape) (k : Start) where
       flag true h = h
       flag false h = h
 
+  pub check_says : Says (check_steps s k) (CheckSays k)
+  check_says = record { by = always_so CheckTells (CheckSays k) (check_steps s k) [] check_tells (λ ms a h. h.0) }
+
+  pub check_sees : Always (ProgressSees {A = Bool}) [] (check_steps s k)
+  check_sees = always_so CheckTells (ProgressSees {A = Bool}) (check_steps s k) [] check_tells (λ ms a h. h.1)
+
 -- THE PARTS
 pub stack_enter_call_says : (k : Start) (o mark : ℕ) → Says (stack_enter_steps (lone_context (task.StackEnter o mark)) k.local o mark) (StackEnterSays o mark)
 stack_enter_call_says k o mark = record {
   by = stack_enter_says (lone_context (task.StackEnter o mark)) k.local o (Overtaken (IsGiven o mark)) (IsGiven o mark)
-      (λ m word ms given. given) (λ expected found ms missed. missed) (read_mark mark) mark [] (refl, refl) nothing_yet;
+      (λ m word ms other given. given) (λ expected found ms missed. missed) (read_mark mark) mark [] (refl, refl) nothing_yet;
 }
 
 pub stack_exit_call_says : (k : Start) (o : ℕ) → Says (stack_exit_steps (call_context (task.StackExit o) op.Exit o) k.local o) (StackExitSays k o)
-stack_exit_call_says k o = record { by = stack_exit_says (call_context (task.StackExit o) op.Exit o) k.local o [] nothing_yet }
+stack_exit_call_says k o = record {
+  by = always_so (OutTells (call_context (task.StackExit o) op.Exit o) k.local o) (StackExitSays k o)
+      (stack_exit_steps (call_context (task.StackExit o) op.Exit o) k.local o) []
+      (stack_exit_says (call_context (task.StackExit o) op.Exit o) k.local o [] nothing_yet) (λ ms out h. h.0);
+}
 
 -- no check is unfinished
+module _ (k : Start) where
+  abbrev Requesting : List StepMade → Progress (Unit {0}) → Type 0
+  Requesting = Asked (lone_context task.Request) k.local.thread (Seeing (Caused of_requests k.local.thread 0))
+
+  request_tells : Always Requesting [] (request_steps (lone_context task.Request) k.local.thread)
+  request_tells =
+      request_says (lone_context task.Request) k.local.thread (Seeing (Caused of_requests k.local.thread 0))
+      (λ expected found ms missed. (record { among = refl; cause = missed_loaded ms missed }, missed_seen ms missed))
+      (λ word ms other there. (record { among = refl; cause = (other, there) }, tt)) [] nothing_yet
+
 request_aside : (k : Start) → Always (RequestSays k) [] (request_steps (lone_context task.Request) k.local.thread)
 request_aside k =
-    always_so (Asked (lone_context task.Request) k.local.thread (λ why ms. Caused of_requests k.local.thread 0 why ms))
-    (RequestSays k) (request_steps (lone_context task.Request) k.local.thread) []
-    (request_says (lone_context task.Request) k.local.thread (λ why ms. Caused of_requests k.local.thread 0 why ms) (λ expected found ms missed.
-    record { among = refl; cause = missed }) (λ word ms other there. record { among = refl; cause = (other, there) }) [] nothing_yet) by_progress
+    always_so (Requesting k) (RequestSays k) (request_steps (lone_context task.Request) k.local.thread) [] (request_tells k) by_progress
   where
-    by_progress : (ms : List StepMade) (progress : Progress (Unit {0})) → Asked (lone_context task.Request) k.local.thread
-        (λ why ms. Caused of_requests k.local.thread 0 why ms) ms progress → RequestSays k ms progress
+    by_progress : (ms : List StepMade) (progress : Progress (Unit {0})) → Requesting k ms progress → RequestSays k ms progress
     by_progress ms (Done x) so = so
-    by_progress ms (Pending why) so = (no_check why so.0, so.1)
+    by_progress ms (Pending why) so = (no_check why so.0, so.1.0)
 
 reached_aside : (k : Start) → Always (ReachedSays k) [] (reached_steps (lone_context task.Reached))
 reached_aside k =

@@ -1,23 +1,27 @@
 -- How what is said of paths goes from step to step and from part to part.
-use Rattle.std.proofs.Common.{◌≡◌, ℕ, ◌==◌, cond, Bool, true, false, List, [], ◌∷◌, ◌++◌, Option, refl}
-use Rattle.std.proofs.Common.{sym, ap, ◌∙◌, inl, append-nil, true≢false, eq-eqb, eqb-true, ◌-◌, nat_lt}
+use Rattle.std.proofs.Common.{◌≡◌, ℕ, ◌==◌, cond, Bool, true, false, List, [], ◌∷◌, ◌++◌, Option, Some, refl}
+use Rattle.std.proofs.Common.{sym, ap, ◌∙◌, inl, inr, append-nil, true≢false, eq-eqb, eqb-true, ◌-◌, nat_lt}
 use Rattle.plain_monitor.specs.declared.entry.Entry.{Entry}
-use Rattle.core_world.specs.declared.act.Act.TheVariants.{CompareExchange}
+use Rattle.core_world.specs.declared.act.Act.TheVariants.{Load, CompareExchange}
 use Rattle.core_world.specs.declared.word_id.WordId.{WordId}
 use Rattle.core_world.specs.declared.plan.LogEffect.{LogEffect}
 use Rattle.core_world.specs.declared.plan.LogEffect.TheVariants.{Quiet, Log}
 use Rattle.core_world.specs.declared.plan.StepPlan.{StepPlan}
 use Rattle.core_world.specs.declared.heap_call.Unfinished.{Unfinished}
-use Rattle.core_world.specs.Words.Acts.{hits}
-use Rattle.core_world.specs.Threads.ThreadView.{StepMade}
+use Rattle.core_world.specs.Words.Acts.{hits, word_after}
+use Rattle.core_world.specs.Threads.ThreadView.{StepMade, last_seen}
 use Rattle.core_world.specs.Trees.Plans.{CallContext, load_plan, class_steps}
 use Rattle.core_world.specs.Steps.{unfinished_after}
 use Rattle.core_world.specs.Trees.StepTree.{StepTree, done, unreachable, step, ◌>>=◌}
-use Rattle.core_calls.specs.Paths.{made, Always, noted, entries_of, left_unfinished, left_checking, Leaves}
-use Rattle.core_calls.specs.Causes.{Missed, Put}
+use Rattle.core_world.specs.declared.act.Act.{Act}
 use Rattle.core_world.specs.Words.Shape.{Shape, class_in_shape}
 use Rattle.core_world.specs.declared.stage.Stage.{Stage}
 use Rattle.core_world.specs.declared.word_id.WordId.TheVariants.{Class}
+use Rattle.core_world.proofs.Naming.{same_as_itself}
+use Rattle.core_calls.specs.Paths.{made, Always, noted, entries_of, left_unfinished, left_checking, Leaves}
+use Rattle.core_calls.specs.Causes.{Missed, Put, Loaded, AmongAfter}
+use Rattle.core_calls.specs.Moments.{IsPlanOf}
+use Rattle.core_calls.proofs.Stays.{IsApart}
 
 -- FROM PART TO PART
 pub always_then : {A B : Type 0} (P : List StepMade → A → Type 0) (Q : List StepMade → B → Type 0) (d : StepTree A) (g : A → StepTree B)
@@ -148,8 +152,49 @@ pub put_last : (p : StepPlan) (n : ℕ) (ms : List StepMade) (expected word : �
     → p.act ≡ CompareExchange expected word → (n == expected) ≡ true → Put p.at word (made p n ∷ ms)
 put_last p n ms expected word act hit = inl (refl, act ∙ ap (λ (old : ℕ). CompareExchange old word) (sym (eqb-true n expected hit)))
 
--- QUIET TREES: each step logs nothing and leaves these unfinished.
-pub record IsQuiet (e : CallContext) (p : StepPlan) : Type 0 where
+-- WORDS THAT WERE SEEN LAST: by a load, or by an exchange that put them there; and still after a step on another word.
+abbrev pub LastSeen : WordId → ℕ → List StepMade → Type 0
+LastSeen at word ms = last_seen at ms ≡ Some word
+
+abbrev pub Saw : WordId → ℕ → List StepMade → Type 0
+Saw at word ms = Loaded at word ms × LastSeen at word ms
+
+last_left : (p : StepPlan) (n : ℕ) (ms : List StepMade) → LastSeen p.at (word_after p.act n) (made p n ∷ ms)
+last_left p n ms = ap (λ (b : Bool). cond b (Some (word_after p.act n)) (last_seen p.at ms)) (same_as_itself p.at)
+
+pub saw_load : (p : StepPlan) (n : ℕ) (ms : List StepMade) → p.act ≡ Load → Saw p.at n (made p n ∷ ms)
+saw_load p n ms act = (inl (refl, act, refl), last_left p n ms ∙ ap (λ (a : Act). Some (word_after a n)) act)
+
+pub saw_put : (p : StepPlan) (n : ℕ) (ms : List StepMade) (expected word : ℕ)
+    → p.act ≡ CompareExchange expected word → (n == expected) ≡ true → LastSeen p.at word (made p n ∷ ms)
+saw_put p n ms expected word act hit =
+    last_left p n ms ∙ ap (λ (a : Act). Some (word_after a n)) act ∙ ap (λ (b : Bool). Some (cond b word n)) hit
+
+among_so : {P Q : StepMade → List StepMade → Type 0} (ms : List StepMade) → ((m : StepMade) (before : List StepMade) → P m before → Q m before)
+    → AmongAfter P ms → AmongAfter Q ms
+among_so [] so h = h
+among_so (m ∷ ms) so (inl h) = inl (so m ms h)
+among_so (m ∷ ms) so (inr h) = inr (among_so ms so h)
+
+pub missed_so : {Had Has : WordId → ℕ → List StepMade → Type 0} {expected found : ℕ} (ms : List StepMade)
+    → ((at : WordId) (word : ℕ) (before : List StepMade) → Had at word before → Has at word before) → Missed Had expected found ms
+    → Missed Has expected found ms
+missed_so {expected = expected} ms so h =
+    record { differ = h.differ; at = h.at; among = among_so ms (λ m before x. (x.0, x.1, x.2, x.3, so h.at expected before x.4)) h.among }
+
+pub missed_loaded : {expected found : ℕ} (ms : List StepMade) → Missed Saw expected found ms → Missed Loaded expected found ms
+missed_loaded ms h = missed_so ms (λ at word before x. x.0) h
+
+pub missed_seen : {expected found : ℕ} (ms : List StepMade) → Missed Saw expected found ms → Missed LastSeen expected found ms
+missed_seen ms h = missed_so ms (λ at word before x. x.1) h
+
+-- QUIET TREES: each step logs nothing, leaves these unfinished and passes the test T; and it is of the call, if G holds.
+pub record IsQuietIf (G : Type 0) (T : WordId → Act → Type 0) (e : CallContext) (p : StepPlan) : Type 0 where
   pub note : p.note ≡ Quiet
   pub unfinished : p.after ≡ e.unfinished
   pub check : p.check ≡ e.check
+  pub passes : T p.at p.act
+  pub of : G → IsPlanOf e.task p
+
+abbrev pub IsQuiet : CallContext → StepPlan → Type 0
+IsQuiet e p = IsQuietIf (Unit {0}) IsApart e p

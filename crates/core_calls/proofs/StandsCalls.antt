@@ -1,8 +1,5 @@
 -- How a thread stands after each call.
-use Rattle.std.proofs.Common.{◌≡◌, ℕ, ◌+◌, ◌<◌, ◌==◌, nat_lt, cond, not, Bool, true, false, List, [], Option, Some, None, Result, Err, refl, ap}
-use Rattle.mark_word.specs.declared.mark.MarkForm.{MarkForm}
-use Rattle.mark_word.specs.declared.mark.MarkForm.TheVariants.{Inflating, Neutral, Locked, Inflated}
-use Rattle.mark_word.specs.Mark.{read_mark}
+use Rattle.std.proofs.Common.{arith, ◌≡◌, ℕ, ◌+◌, ◌<◌, ◌==◌, nat_lt, cond, not, Bool, true, false, List, [], Result, Err, refl, ap}
 use Rattle.plain_monitor.specs.Limits.{most_holds, most_made}
 use Rattle.plain_monitor.specs.declared.entry.Ending.{Ending}
 use Rattle.plain_monitor.specs.declared.entry.Entry.TheVariants as entry
@@ -10,12 +7,9 @@ use Rattle.plain_monitor.specs.declared.entry.Path.{Path}
 use Rattle.plain_monitor.specs.declared.entry.Value.{Value}
 use Rattle.core_world.specs.declared.answer.BiasTry.{BiasTry}
 use Rattle.core_world.specs.declared.answer.BiasTry.TheVariants.{Took, Unbiased, Valid, Raced}
-use Rattle.core_world.specs.declared.answer.StackOut.{StackOut}
-use Rattle.core_world.specs.declared.answer.StackOut.TheVariants.{Left, Monitor, Not}
 use Rattle.core_world.specs.declared.answer.Progress.{Progress}
-use Rattle.core_world.specs.declared.answer.Progress.TheVariants.{Done, Pending}
+use Rattle.core_world.specs.declared.answer.Progress.TheVariants.{Pending}
 use Rattle.core_world.specs.declared.answer.PendingCause.{PendingCause}
-use Rattle.core_world.specs.declared.word_id.WordId.TheVariants.{Mark}
 use Rattle.core_world.specs.declared.stage.Stage.TheVariants.{Settled}
 use Rattle.core_world.specs.declared.heap_call.Operation.TheVariants as op
 use Rattle.core_world.specs.declared.heap_call.HeapCall.TheVariants as task
@@ -29,99 +23,28 @@ use Rattle.core_world.specs.Trees.Calls.{side_context}
 use Rattle.core_world.specs.Trees.CreateSteps.{count_made}
 use Rattle.core_world.specs.Trees.DeflateSteps.{deflate_steps}
 use Rattle.core_world.specs.Trees.LookSteps.{take_shot_steps, stands_still_steps}
-use Rattle.core_world.specs.Trees.MonitorSteps.{inflate_steps, monitor_enter_steps}
-use Rattle.core_world.specs.Trees.Operations.{and_then, answer, goes_on_with, revocation_steps, enter_monitor_steps, enter_at, enter_unbiased}
-use Rattle.core_world.specs.Trees.Operations.{enter_revoked, enter_tried, enter_going, enter_steps, exit_at, exit_going, exit_steps, revoked_steps}
-use Rattle.core_world.specs.Trees.Operations.{unbias_tried, unbias_steps, no_bias, wait_going, wait_steps, notify_at, notify_going, notify_steps}
-use Rattle.core_world.specs.Trees.Operations.{notify_all_at, notify_all_going, notify_all_steps, hash_steps, get_steps, put_steps, print_steps}
+use Rattle.core_world.specs.Trees.Operations.{and_then, answer, goes_on_with, revocation_steps, enter_unbiased}
+use Rattle.core_world.specs.Trees.Operations.{enter_revoked, enter_tried, enter_going, enter_steps, exit_going, exit_steps, revoked_steps}
+use Rattle.core_world.specs.Trees.Operations.{unbias_tried, unbias_steps, no_bias, wait_going, wait_steps, notify_going, notify_steps}
+use Rattle.core_world.specs.Trees.Operations.{notify_all_going, notify_all_steps, hash_steps, get_steps, put_steps, print_steps}
 use Rattle.core_world.specs.Trees.Operations.{finish_steps, dump_going, dump_steps, create_steps, check_ending, check_steps}
-use Rattle.core_world.specs.Trees.Plans.{CallContext, call_context, load, done_with, free_place}
+use Rattle.core_world.specs.Trees.Plans.{CallContext, call_context, done_with, free_place}
 use Rattle.core_world.specs.Trees.RevocationSteps.{RevocationOutcome, revoke_at_safepoint_steps}
 use Rattle.core_world.specs.Trees.SafepointSteps.{stop_steps, resume_steps, poll_steps, safepoint_steps, release_to, release_safepoint, halt_steps}
-use Rattle.core_world.specs.Trees.StepTree.{StepTree, done, ◌>>=◌, ask}
-use Rattle.core_world.specs.Trees.WaitSteps.{monitor_wait_steps, monitor_resume_steps, publish_steps}
+use Rattle.core_world.specs.Trees.StepTree.{StepTree, done, ◌>>=◌}
+use Rattle.core_world.specs.Trees.WaitSteps.{monitor_resume_steps, publish_steps}
 use Rattle.core_calls.specs.Paths.{Always}
 use Rattle.core_calls.specs.Stands.{IsGoing, IsOff, IsHeld, FoundTrue, stand_after_steps, ThreadStandsAlong, ProgressStands}
 use Rattle.core_calls.specs.Stands.{ResultStands, RunsAfter, PollStands, ResumeStands, CheckStands, begun, stopped}
 use Rattle.core_calls.proofs.Paths.{always_then, always_so, either_way}
 use Rattle.core_calls.proofs.OperationsSay.{then_says}
-use Rattle.core_calls.proofs.Stays.{Stay, Whatever, Aside, OutAside, Known, stay_done, stay_never}
-use Rattle.core_calls.proofs.Stays.{stay_step, stay_either, stay_then, stay_next, stay_so, aside_stands}
-use Rattle.core_calls.proofs.enter_exit.StaysLocks.{stack_enter_stays, stack_exit_stays, bias_enter_stays, bias_exit_stays, bias_drop_stays}
-use Rattle.core_calls.proofs.enter_exit.StaysLocks.{bias_after_stays, inflate_stays, monitor_enter_stays, monitor_exit_stays}
+use Rattle.core_calls.proofs.CallsSpend.{unbiased_spends, again_spends, exit_going_spends, waits_spends, notify_looks_spends}
+use Rattle.core_calls.proofs.CallsSpend.{notify_all_looks_spends}
+use Rattle.core_calls.proofs.PartsSpend.{bias_drop_spends, bias_enter_spends, monitor_resume_spends, hash_header_spends}
+use Rattle.core_calls.proofs.Spends.{spend_stays}
+use Rattle.core_calls.proofs.Stays.{Stay, Whatever, Aside, Known, stay_so, aside_stands}
 use Rattle.core_calls.proofs.safepoint.StaysLooks.{shot_stays, still_stays, revocation_stays, deflation_stays}
-use Rattle.core_calls.proofs.wait.StaysWaits.{monitor_wait_stays, publish_stays, notify_stays, notify_all_stays, monitor_resume_stays, hash_header_stays}
 use Rattle.core_calls.proofs.safepoint.StandsSafe.{So, SafeStands, safepoint_stands, release_stands, halt_stands, poll_stands, stop_stands, resume_stands}
-
--- A part that is done goes on with what leaves the safepoint word alone.
-on_aside : {A B : Type 0} (progress : Progress A) (f : A → StepTree (Progress B))
-    → Aside progress → ((a : A) → Stay Aside (f a)) → Stay Aside (and_then progress f)
-on_aside (Done a) f h go = go a
-on_aside (Pending why) f h go = stay_done h
-
--- WHAT LEAVES THE SAFEPOINT WORD ALONE: an enter that revokes no bias,
-module _ (e : CallContext) (k : Start) (o : ℕ) where
-  by_monitor_stays : (s : Shape) → Stay Aside (enter_monitor_steps s e k o)
-  by_monitor_stays s =
-      stay_then (inflate_stays e o s k.kept) (λ progress aside. on_aside progress (λ m. monitor_enter_steps e k.local o m) aside
-      (monitor_enter_stays e k.local o))
-
-  enter_at_stays : (form : Option MarkForm) (s : Shape) (mark : ℕ) → Stay Aside (enter_at form s e k o mark)
-  enter_at_stays (Some Inflating) s mark = stay_done tt
-  enter_at_stays (Some (Neutral hash age)) s mark = stack_enter_stays e k.local o mark
-  enter_at_stays (Some (Locked thread place)) s mark = stay_either (thread == k.local.thread) (stack_enter_stays e k.local o mark) (by_monitor_stays s)
-  enter_at_stays (Some (Inflated monitor)) s mark = monitor_enter_stays e k.local o monitor
-  enter_at_stays _ s mark = stay_never
-
-  unbiased_stays : (s : Shape) (tried : BiasTry) → Stay Aside (enter_unbiased tried s e k o)
-  unbiased_stays s (Took path) = stay_done tt
-  unbiased_stays s (Unbiased mark) = enter_at_stays (read_mark mark) s mark
-  unbiased_stays s (Valid mark) = stay_never
-  unbiased_stays s (Raced expected found) = stay_done tt
-
-  again_stays : (s : Shape) (took : Bool) → Stay Aside (bias_after_steps e k.local o took >>= λ tried. enter_unbiased tried s e k o)
-  again_stays s took = stay_then {d = bias_after_steps e k.local o took} (bias_after_stays e k.local o took) (λ tried _. unbiased_stays s tried)
-
-  -- an exit,
-  exit_at_stays : (out : StackOut) → OutAside out → Stay Aside (exit_at out e k.local o)
-  exit_at_stays Left h = stay_done tt
-  exit_at_stays (Not why) h = stay_done h
-  exit_at_stays (Monitor number) h = stay_next (monitor_exit_stays e k.local o number) (stay_done tt)
-
-  exit_going_stays : Stay Aside (exit_going e k.local o)
-  exit_going_stays =
-      stay_then (bias_exit_stays e k.local o) (λ biased _. stay_either biased (stay_done tt) (stay_then (stack_exit_stays e k.local o) exit_at_stays))
-
-  -- the end of a wait, and a wait that lets go,
-  let_go_stays : (m : ℕ) → Stay Aside (monitor_wait_steps e k.local o m >>= λ saved. monitor_resume_steps e k.local.thread saved o)
-  let_go_stays m =
-      stay_then {d = monitor_wait_steps e k.local o m} (monitor_wait_stays e k.local o m) (λ saved _. monitor_resume_stays e k.local.thread saved o)
-
-  abbrev lets : ℕ → StepTree (Progress (Unit {0}))
-  lets m = monitor_wait_steps e k.local o m >>= λ saved. monitor_resume_steps e k.local.thread saved o
-
-  waits_stays : (s : Shape) → Stay Aside (inflate_steps s e k.kept o >>= λ progress. and_then progress lets)
-  waits_stays s = stay_then {d = inflate_steps s e k.kept o} (inflate_stays e o s k.kept) (λ progress aside. on_aside progress lets aside let_go_stays)
-
-  -- and a notify
-  module _ (s : Shape) where
-    notify_at_stays : (form : Option MarkForm) → Stay Aside (notify_at form s e k.local o)
-    notify_at_stays (Some Inflating) = stay_done tt
-    notify_at_stays (Some (Locked thread place)) = stay_next (publish_stays e k.local o (entry.Notify o None)) (stay_done tt)
-    notify_at_stays (Some (Inflated monitor)) = stay_then (notify_stays e k.local o s.threads) (λ woken _. stay_done tt)
-    notify_at_stays _ = stay_never
-
-    notify_all_at_stays : (form : Option MarkForm) → Stay Aside (notify_all_at form s e k.local o)
-    notify_all_at_stays (Some Inflating) = stay_done tt
-    notify_all_at_stays (Some (Locked thread place)) = stay_next (publish_stays e k.local o (entry.NotifyAll o 0)) (stay_done tt)
-    notify_all_at_stays (Some (Inflated monitor)) = stay_then (notify_all_stays e k.local o s.threads) (λ woken _. stay_done tt)
-    notify_all_at_stays _ = stay_never
-
-    looks_stays : Stay Aside (ask (load e (Mark o)) >>= λ mark. notify_at (read_mark mark) s e k.local o)
-    looks_stays = stay_step tt (λ mark. notify_at_stays (read_mark mark))
-
-    looks_all_stays : Stay Aside (ask (load e (Mark o)) >>= λ mark. notify_all_at (read_mark mark) s e k.local o)
-    looks_all_stays = stay_step tt (λ mark. notify_all_at_stays (read_mark mark))
 
 -- OPERATIONS
 module _ (k : Start) (low : k.local.thread < 32) where
@@ -215,23 +138,24 @@ module _ (k : Start) (low : k.local.thread < 32) where
           always_then Turns Turns (revocation_steps s k.local.thread requesting e b) (λ progress. and_then progress goes_on) ms
           (revocation_stands requesting e b ms held going)
           (λ ms progress so. then_says Turns Turns progress goes_on ms so
-          (λ took go. aside_goes (goes_on took) ms (again_stays e k b.object s took) go) (λ why so. so))
+          (λ took go. aside_goes (goes_on took) ms (spend_stays (again_spends s e k b.object took)) go) (λ why so. so))
         where
           goes_on : Bool → StepTree (Progress Path)
           goes_on took = bias_after_steps e k.local b.object took >>= λ tried. enter_unbiased tried s e k b.object
 
       enter_tried_stands : (tried : BiasTry) (ms : List StepMade) → Goes ms → Always Turns ms (enter_tried tried s e k b)
       enter_tried_stands (Valid mark) ms going = enter_revoked_stands false ms (λ no. absurd (cc no)) (λ _. going)
-      enter_tried_stands (Took path) ms going = aside_goes _ ms (unbiased_stays e k b.object s (Took path)) going
-      enter_tried_stands (Unbiased mark) ms going = aside_goes _ ms (unbiased_stays e k b.object s (Unbiased mark)) going
-      enter_tried_stands (Raced expected found) ms going = aside_goes _ ms (unbiased_stays e k b.object s (Raced expected found)) going
+      enter_tried_stands (Took path) ms going = aside_goes _ ms (spend_stays (unbiased_spends s e k b.object 0 (Took path))) going
+      enter_tried_stands (Unbiased mark) ms going = aside_goes _ ms (spend_stays (unbiased_spends s e k b.object 0 (Unbiased mark))) going
+      enter_tried_stands (Raced expected found) ms going =
+          aside_goes _ ms (spend_stays (unbiased_spends s e k b.object 0 (Raced expected found))) going
 
       enter_going_stands : Always Turns [] (enter_going s e k b)
       enter_going_stands =
           either_way Turns [] k.requesting _ _
           (λ asks. enter_revoked_stands true [] (λ _. held_first asks) (λ no. absurd (cc no)))
           (λ none. after_stay Turns (bias_enter_steps s e k.local b.object) (λ tried. enter_tried tried s e k b) []
-          (bias_enter_stays e k.local b.object s) (going_first none)
+          (spend_stays (bias_enter_spends e k.local b.object 0 17 18 (omega arith) (omega arith) (omega arith) s)) (going_first none)
           (λ ms tried going. enter_tried_stands tried ms going))
 
       -- UNBIAS
@@ -253,7 +177,7 @@ module _ (k : Start) (low : k.local.thread < 32) where
           either_way Turns [] k.requesting _ _
           (λ asks. revoked_stands true [] (λ _. held_first asks) (λ no. absurd (cc no)))
           (λ none. after_stay Turns (bias_drop_steps s e b.object) (λ tried. unbias_tried tried s e k b) []
-          (bias_drop_stays e k.local b.object s) (going_first none)
+          (spend_stays (bias_drop_spends e b.object 1 (omega arith) s)) (going_first none)
           (λ ms tried going. unbias_tried_stands tried ms going))
 
       -- and what follows where it is done
@@ -283,9 +207,10 @@ module _ (k : Start) (low : k.local.thread < 32) where
     wait_stands o now gone = record {
       by = refused_or (hold_count o k.local.holds == 0) (record {}) (wait_going s e k o now)
           (either_way Turns [] (waits_on k.local.wait o) _ _
-          (λ waits. aside_goes (monitor_resume_steps e k.local.thread k.saved o) [] (monitor_resume_stays e k.local.thread k.saved o) (going_first
+          (λ waits. aside_goes (monitor_resume_steps e k.local.thread k.saved o) []
+          (spend_stays (monitor_resume_spends e k.local.thread k.saved o)) (going_first
           (gone waits)))
-          (λ _. unbiased_then e (no_bias o now) _ (waits_stays e k o s)));
+          (λ _. unbiased_then e (no_bias o now) _ (spend_stays (waits_spends e k o s))));
     }
       where
         e : CallContext
@@ -295,7 +220,7 @@ module _ (k : Start) (low : k.local.thread < 32) where
     notify_call_stands o now =
         record {
           by = refused_or (hold_count o k.local.holds == 0) (record {}) (notify_going s e k o now) (unbiased_then e (no_bias o now) _
-              (looks_stays e k o s));
+              (spend_stays (notify_looks_spends e k o s)));
         }
       where
         e : CallContext
@@ -305,7 +230,7 @@ module _ (k : Start) (low : k.local.thread < 32) where
     notify_all_call_stands o now =
         record {
           by = refused_or (hold_count o k.local.holds == 0) (record {}) (notify_all_going s e k o now) (unbiased_then e (no_bias o now) _
-              (looks_all_stays e k o s));
+              (spend_stays (notify_all_looks_spends e k o s)));
         }
       where
         e : CallContext
@@ -313,7 +238,10 @@ module _ (k : Start) (low : k.local.thread < 32) where
 
     pub hash_stands : (o now : ℕ) → ThreadStandsAlong k.local.thread (begun k) (hash_steps s k o now) (ProgressStands k.local.thread)
     hash_stands o now =
-        record { by = unbiased_then e (no_bias o now) _ (hash_header_stays s e (record { number = k.draws + 1; value = k.draw }) o k.local k.kept) }
+        record {
+          by = unbiased_then e (no_bias o now) _ (spend_stays
+              (hash_header_spends s e k.local (record { number = k.draws + 1; value = k.draw }) o k.kept));
+        }
       where
         e : CallContext
         e = call_context (task.Hash o now) op.Hash o
@@ -385,7 +313,7 @@ module _ (k : Start) (low : k.local.thread < 32) where
     exit_stands o =
         record {
           by = refused_or (hold_count o k.local.holds == 0) (record {}) (exit_going e k.local o) (aside_goes (exit_going e k.local o) []
-              (exit_going_stays e k o) (going_first none));
+              (spend_stays (exit_going_spends e k o)) (going_first none));
         }
       where
         e : CallContext

@@ -2,5 +2,3 @@
 pub mod LocksSay
 pub mod EntersSay
 pub mod ShortCalls
-pub mod StaysLocks
-pub mod NamedLocks

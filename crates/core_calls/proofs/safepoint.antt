@@ -6,5 +6,3 @@ pub mod Leaving
 pub mod StaysLooks
 pub mod Others
 pub mod StandsSafe
-pub mod NamedLooks
-pub mod NamedSafe

@@ -3,5 +3,3 @@ pub mod WaitsSay
 pub mod WaitCallsSay
 pub mod Waiters
 pub mod WhoIsWoken
-pub mod StaysWaits
-pub mod NamedWaits

@@ -33,13 +33,7 @@ use Rattle.core_made.proofs.Numbers.{first_is_declared}
 -- the making of an object is an operation on none that is there
 not_on_op : (op : Operation) (o made i : ℕ) → made_by_op op o ≡ Some made → (has_object op && (o == i)) ≡ false
 not_on_op op.Create o made i h = refl
-not_on_op op.Enter o made i h = absurd (cc h)
-not_on_op op.Exit o made i h = absurd (cc h)
-not_on_op op.Wait o made i h = absurd (cc h)
-not_on_op op.Notify o made i h = absurd (cc h)
-not_on_op op.NotifyAll o made i h = absurd (cc h)
-not_on_op op.Hash o made i h = absurd (cc h)
-not_on_op op.Dump o made i h = absurd (cc h)
+not_on_op _ o made i h = absurd (cc h)
 
 pub making_is_on_none : (u : Option Unfinished) (made i : ℕ) → making_in u ≡ Some made → is_on u i ≡ false
 making_is_on_none None made i h = refl

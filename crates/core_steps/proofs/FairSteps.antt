@@ -67,14 +67,6 @@ goes_making_none u now none goes = elim goes [ inl same ↦ ap making_in (sym sa
 
 entry_making_none : (e : Entry) → creates e ≡ None → making_in (operation_of e) ≡ None
 entry_making_none (entry.New o class) none = absurd (cc none)
-entry_making_none (entry.Enter o path) none = refl
-entry_making_none (entry.Exit o) none = refl
-entry_making_none (entry.Wait o) none = refl
-entry_making_none (entry.Resume o) none = refl
-entry_making_none (entry.Notify o woken) none = refl
-entry_making_none (entry.NotifyAll o woken) none = refl
-entry_making_none (entry.Hash o value drawn) none = refl
-entry_making_none (entry.Dump number) none = refl
 entry_making_none _ none = refl
 
 pub works_making_none : (k : ThreadView) (e : Entry) → creates e ≡ None → WorksFor k e → making_in k.unfinished ≡ None

@@ -1,7 +1,7 @@
 -- A check that is left alone answers whether the run stands still by the words that it begins with.
 use Rattle.std.proofs.Common.{◌≡◌, ℕ, zero, suc, ◌+◌, ◌<◌, ◌==◌, ◌&&◌, cond, Bool, true, false, ◌∷◌, Option, Some, None, refl, sym, ap, ◌∙◌, subst}
 use Rattle.mark_word.specs.declared.mark.MarkForm.{MarkForm}
-use Rattle.mark_word.specs.declared.mark.MarkForm.TheVariants.{Inflating, Neutral, Anonymous, Biased, Locked, Inflated, Marked}
+use Rattle.mark_word.specs.declared.mark.MarkForm.TheVariants.{Inflated}
 use Rattle.mark_word.specs.declared.wait.WaitForm.{WaitForm}
 use Rattle.mark_word.specs.declared.wait.WaitForm.TheVariants as wait
 use Rattle.mark_word.specs.Mark.{read_mark}
@@ -79,13 +79,7 @@ module _ (f : WordId → ℕ) where
     monitor_found : (form : Option MarkForm) (g : WordId → ℕ) → Away f g → Alone (Found (goes_by_owner form f t)) g (look_at_monitor form e t)
     monitor_found (Some (Inflated monitor)) g a =
         (away_load (Owner monitor) f g a, ap (λ n. Some (can_acquire (read_owner n) t)) (a.same (Owner monitor) refl))
-    monitor_found (Some Inflating) g a = tt
-    monitor_found (Some (Neutral hash age)) g a = tt
-    monitor_found (Some (Anonymous epoch age)) g a = tt
-    monitor_found (Some (Biased thread epoch age)) g a = tt
-    monitor_found (Some (Locked thread place)) g a = tt
-    monitor_found (Some Marked) g a = tt
-    monitor_found None g a = tt
+    monitor_found _ g a = tt
 
     object_found : (o : ℕ) (g : WordId → ℕ) → Away f g → Alone (Found (goes_by_owner (read_mark (f (Mark o))) f t)) g (look_at_object e t o)
     object_found o g a =
@@ -93,12 +87,10 @@ module _ (f : WordId → ℕ) where
         (sym (a.same (Mark o) refl)) (monitor_found (read_mark (f (Mark o))) _ (away_load (Mark o) f g a))
 
     wait_found : (form : Option WaitForm) (g : WordId → ℕ) → Away f g → Alone (Found (goes_by_wait form f t)) g (look_at_wait form e t)
-    wait_found (Some wait.Ready) g a = (a, refl)
     wait_found (Some (wait.Entering object)) g a = object_found object g a
-    wait_found (Some (wait.Waiting object stamp)) g a = (a, refl)
     wait_found (Some (wait.Notified object)) g a = object_found object g a
-    wait_found (Some wait.Ended) g a = (a, refl)
     wait_found None g a = tt
+    wait_found _ g a = (a, refl)
 
     thread_found : (g : WordId → ℕ) → Away f g
         → Alone (Found (goes_by_wait (read_wait (f (Waiting t))) f t)) g (ask (load e (Waiting t)) >>= λ word. look_at_wait (read_wait word) e t)

@@ -7,7 +7,7 @@ use Rattle.plain_monitor.specs.declared.entry.Path.{Path}
 use Rattle.plain_monitor.specs.declared.entry.Value.{Value}
 use Rattle.plain_monitor.specs.Monitor.{is_listed}
 use Rattle.core_world.specs.declared.answer.PendingCause.{PendingCause}
-use Rattle.core_world.specs.declared.answer.PendingCause.TheVariants.{Owned, NotNotified, Raced, Inflating, Stopping, Requested, Halted}
+use Rattle.core_world.specs.declared.answer.PendingCause.TheVariants.{Owned, Raced}
 use Rattle.core_world.specs.declared.answer.Progress.TheVariants.{Done, Pending}
 use Rattle.core_world.specs.declared.answer.StackOut.{StackOut}
 use Rattle.core_world.specs.declared.answer.TooMany.{TooMany}
@@ -89,12 +89,7 @@ opposed b h g = absurd (cc (h, g))
 
 pends_for : (b : Bool) (why : PendingCause) → PendsWhere {A = Path} b (Pending why) → b ≡ true
 pends_for b (Owned word) h = h
-pends_for b (NotNotified word) h = absurd h
-pends_for b (Raced expected found) h = absurd h
-pends_for b Inflating h = absurd h
-pends_for b (Stopping word) h = absurd h
-pends_for b (Requested word) h = absurd h
-pends_for b Halted h = absurd h
+pends_for b _ h = absurd h
 
 -- ANSWERS
 pub no_exit : (heap : Heap) (w : World) (objects : List PlainObject) (t o : ℕ) (why : PendingCause)

@@ -24,7 +24,8 @@ use Rattle.core_world.specs.Trees.DeflateSteps.{deflate_named, names_monitor, de
 use Rattle.core_world.specs.Trees.Plans.{CallContext}
 use Rattle.core_world.specs.Trees.RevocationSteps.{RevocationOutcome, decided_steps, revoke_at_safepoint_steps}
 use Rattle.core_world.specs.Trees.StepTree.{StepTree, done, unreachable, step, each_from}
-use Rattle.core_calls.proofs.Stays.{IsPlainMark, IsSparing, Passing, Passes, Whatever, stay_done, stay_step, stay_each}
+use Rattle.core_calls.proofs.Stays.{IsPlainMark, IsSparing, Passing, Passes, Whatever}
+use Rattle.core_calls.proofs.Spends.{spend_passes, spend_list, spend_step, spend_done}
 use Rattle.core_calls.proofs.safepoint.StaysLooks.{decided_spares}
 use Rattle.solo_progress.proofs.OneRun.{after, Alone, QuietAt, alone_then, alone_either, alone_class, alone_each, load_leaves}
 
@@ -114,7 +115,8 @@ module _ (s : Shape) (o safe : ℕ) (e : CallContext) (stage : Stage) where
   free_plain i m f other q =
       alone_then (λ g words. PlainAt o safe g) Left (each_from 0 s.threads (λ t. look_at e stage (Waiting t))) _ f
       (plain_alone o safe (each_from 0 s.threads (λ t. look_at e stage (Waiting t))) f
-      (stay_each 0 s.threads (λ t. stay_step tt (λ _. stay_done tt))) q)
+      (spend_passes (λ p x. x) (spend_list {Q = λ p. IsSparing p.at p.act} {n = 1} 0 s.threads
+      (λ t. spend_step {n = 0} tt (λ w. spend_done (omega arith))))) q)
       (λ g words q. alone_either Left g (list_all (λ w. is_untouched i w) words) _ _ (λ _. give_back_plain i m g other q) (λ _. q))
 
   named_plain : (i m : ℕ) (f : WordId → ℕ) → (o == i) ≡ false → PlainAt o safe f → Alone Left f (deflate_named s e stage i m)

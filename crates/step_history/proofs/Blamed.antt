@@ -1,20 +1,23 @@
 -- In a run of all threads, a thread whose exchange expects what it last saw of a word, and misses, was overtaken: another thread's step has changed the word.
 use Rattle.std.proofs.Common.{◌≡◌, ◌≢◌, ℕ, cond, Bool, true, false, List, [], ◌∷◌, ◌++◌, Some, refl, sym, ap, ◌∙◌, subst, eq-eqb, ne_eqb}
 use Rattle.std.proofs.lemmas.Option.{same_Some}
+use Rattle.std.proofs.Common.{inl, inr}
 use Rattle.core_world.specs.declared.word_id.WordId.{WordId}
 use Rattle.core_world.specs.Steps.{world_after}
 use Rattle.core_world.specs.Threads.ThreadView.{StepMade, last_seen, left_by}
 use Rattle.core_world.specs.Words.Acts.{word_after}
 use Rattle.core_world.specs.Words.Names.{same_name}
 use Rattle.core_world.specs.World.{World}
+use Rattle.core_world.specs.Trees.StepTree.{StepTree}
 use Rattle.core_world.proofs.KnowledgeParts.{by_equal}
 use Rattle.core_world.proofs.Naming.{same_named}
-use Rattle.core_world.specs.Trees.StepTree.{StepTree}
 use Rattle.core_calls.specs.Paths.{made, Always}
+use Rattle.core_calls.specs.Causes as causes
+use Rattle.core_calls.specs.Causes.{AmongAfter}
 use Rattle.core_calls.proofs.Runs.{on_path}
+use Rattle.core_calls.proofs.Paths.{LastSeen}
 use Rattle.step_history.specs.Leads.{Leads, stays, goes, steps_by}
 use Rattle.step_history.specs.Overtaken.{IsCallOf, WasOvertaken}
-use Rattle.step_history.proofs.Sights.{Sighted}
 
 abbrev Steps : Type 0
 Steps = List (ℕ × StepMade)
@@ -153,26 +156,37 @@ record Missed (w : World) (t : ℕ) (exchange : StepMade) (earlier : List StepMa
   pub leads : Leads w rest world
   pub finds : exchange.found ≡ world.words exchange.plan.at
 
-find_exchange : (w : World) (t : ℕ) (exchange : StepMade) (earlier : List StepMade) (xs : Steps) (v : World) → Leads w xs v
-    → steps_by t xs ≡ exchange ∷ earlier → Missed w t exchange earlier xs
-find_exchange w t exchange earlier xs v stays h = absurd (cc h)
-find_exchange w t exchange earlier xs v (goes ys x u p before within next) h =
-    by_equal u t (λ e. mine e) (λ d. others (find_exchange w t exchange earlier ys x before (sym (other_step t u (made p (x.words p.at)) ys d) ∙ h)))
+missed_further : (w : World) (t : ℕ) (exchange : StepMade) (earlier : List StepMade) (x : ℕ × StepMade) (xs : Steps)
+    → Missed w t exchange earlier xs → Missed w t exchange earlier (x ∷ xs)
+missed_further w t exchange earlier x xs r =
+    record {
+      after = x ∷ r.after;
+      rest = r.rest;
+      order = ap (λ zs. x ∷ zs) r.order;
+      own = r.own;
+      world = r.world;
+      leads = r.leads;
+      finds = r.finds;
+    }
+
+head_is : {m n : StepMade} {ms ns : List StepMade} → m ∷ ms ≡ n ∷ ns → m ≡ n
+head_is h = cc h
+
+tail_is : {m n : StepMade} {ms ns : List StepMade} → m ∷ ms ≡ n ∷ ns → ms ≡ ns
+tail_is h = cc h
+
+-- t's exchange stands before these later steps of its own
+find_exchange : (w : World) (t : ℕ) (later : List StepMade) (exchange : StepMade) (earlier : List StepMade) (xs : Steps) (v : World)
+    → Leads w xs v → steps_by t xs ≡ later ++ exchange ∷ earlier → Missed w t exchange earlier xs
+find_exchange w t [] exchange earlier xs v stays h = absurd (cc h)
+find_exchange w t (z ∷ zs) exchange earlier xs v stays h = absurd (cc h)
+find_exchange w t [] exchange earlier xs v (goes ys x u p before within next) h =
+    by_equal u t (λ e. mine e)
+    (λ d. missed_further w t exchange earlier (u, made p (x.words p.at)) ys
+    (find_exchange w t [] exchange earlier ys x before (sym (other_step t u (made p (x.words p.at)) ys d) ∙ h)))
   where
     m : StepMade
     m = made p (x.words p.at)
-
-    others : Missed w t exchange earlier ys → Missed w t exchange earlier ((u, made p (x.words p.at)) ∷ ys)
-    others r =
-        record {
-          after = (u, m) ∷ r.after;
-          rest = r.rest;
-          order = ap (λ zs. (u, m) ∷ zs) r.order;
-          own = r.own;
-          world = r.world;
-          leads = r.leads;
-          finds = r.finds;
-        }
 
     mine : u ≡ t → Missed w t exchange earlier ((u, made p (x.words p.at)) ∷ ys)
     mine e =
@@ -187,20 +201,38 @@ find_exchange w t exchange earlier xs v (goes ys x u p before within next) h =
           leads = before;
           finds = subst (λ (n : StepMade). n.found ≡ x.words n.plan.at) first refl;
         }
-      where
-        head_is : {m n : StepMade} {ms ns : List StepMade} → m ∷ ms ≡ n ∷ ns → m ≡ n
-        head_is h = cc h
+find_exchange w t (z ∷ zs) exchange earlier xs v (goes ys x u p before within next) h =
+    by_equal u t
+    (λ e. missed_further w t exchange earlier (u, made p (x.words p.at)) ys
+    (find_exchange w t zs exchange earlier ys x before (tail_is (sym (own_step t u (made p (x.words p.at)) ys e) ∙ h))))
+    (λ d. missed_further w t exchange earlier (u, made p (x.words p.at)) ys
+    (find_exchange w t (z ∷ zs) exchange earlier ys x before (sym (other_step t u (made p (x.words p.at)) ys d) ∙ h)))
 
-        tail_is : {m n : StepMade} {ms ns : List StepMade} → m ∷ ms ≡ n ∷ ns → ms ≡ ns
-        tail_is h = cc h
+-- one of these steps, with those before and after it
+record StandsAmong (Q : StepMade → List StepMade → Type 0) (ms : List StepMade) : Type 0 where
+  pub later : List StepMade
+  pub exchange : StepMade
+  pub earlier : List StepMade
+  pub is : ms ≡ later ++ exchange ∷ earlier
+  pub so : Q exchange earlier
 
-pub blamed : (w : World) (t : ℕ) (xs : Steps) (v : World) (expected found : ℕ) → Leads w xs v → Sighted expected found (steps_by t xs)
+find_among : (Q : StepMade → List StepMade → Type 0) (ms : List StepMade) → AmongAfter Q ms → StandsAmong Q ms
+find_among Q [] h = absurd h
+find_among Q (m ∷ ms) (inl h) = record { later = []; exchange = m; earlier = ms; is = refl; so = h }
+find_among Q (m ∷ ms) (inr h) =
+    let r = find_among Q ms h in
+    record { later = m ∷ r.later; exchange = r.exchange; earlier = r.earlier; is = ap (λ zs. m ∷ zs) r.is; so = r.so }
+
+pub blamed : (w : World) (t : ℕ) (xs : Steps) (v : World) (expected found : ℕ) → Leads w xs v
+    → causes.Missed LastSeen expected found (steps_by t xs)
     → WasOvertaken t expected found xs
-blamed w t xs v expected found leads s =
-    let r = find_exchange w t s.exchange s.earlier xs v leads s.is in
-    let at = s.exchange.plan.at in
-    let c = find_change w t at expected r.rest r.world r.leads (ap (last_seen at) r.own ∙ s.seen)
-    (λ e. s.missed (sym s.finds ∙ r.finds ∙ e)) in
+blamed w t xs v expected found leads h =
+    let s = find_among _ (steps_by t xs) h.among in
+    let r = find_exchange w t s.later s.exchange s.earlier xs v leads s.is in
+    let at = h.at in
+    let here : s.exchange.plan.at ≡ at = s.so.1 in
+    let c = find_change w t at expected r.rest r.world r.leads (ap (last_seen at) r.own ∙ s.so.4)
+    (λ e. h.differ (sym s.so.3 ∙ r.finds ∙ ap r.world.words here ∙ e)) in
     record {
       sight = c.seen.sight;
       other = c.other;
@@ -214,18 +246,19 @@ blamed w t xs v expected found leads s =
       at = at;
       seen_at = c.seen.seen_at;
       changed_at = c.changed_at;
-      exchanged_at = refl;
+      exchanged_at = here;
       saw = c.seen.saw;
       another = c.another;
       changed = c.changed;
-      word = s.word;
-      exchanges = s.exchanges;
-      finds = s.finds;
-      missed = s.missed;
+      word = s.so.0;
+      exchanges = s.so.2;
+      finds = s.so.3;
+      missed = h.differ;
     }
 
 -- so it is with a call of whose paths this is said
 pub call_blamed : {A : Type 0} (P : List StepMade → A → Type 0) (t : ℕ) (d : StepTree A) (xs : Steps) (a : A) (expected found : ℕ)
-    → ((ms : List StepMade) → P ms a → Sighted expected found ms) → Always P [] d → IsCallOf t d xs a → WasOvertaken t expected found xs
+    → ((ms : List StepMade) → P ms a → causes.Missed LastSeen expected found ms) → Always P [] d → IsCallOf t d xs a
+    → WasOvertaken t expected found xs
 call_blamed P t d xs a expected found says always h =
     blamed h.first t xs h.last expected found h.leads (says (steps_by t xs) (on_path P d [] (steps_by t xs) a always h.path))

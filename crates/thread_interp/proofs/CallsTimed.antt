@@ -1,8 +1,5 @@
 -- The calls around a turn take no moment: they leave their pass timed.
 use Rattle.std.proofs.Common.{ℕ, Bool, refl}
-use Rattle.core_calls.proofs.Called.{called}
-use Rattle.core_calls.proofs.NamedCalls.{check_named}
-use Rattle.core_calls.proofs.safepoint.NamedSafe.{poll_named, stop_named, resume_named}
 use Rattle.core_world.specs.declared.answer.Progress.{Progress}
 use Rattle.core_world.specs.declared.heap_call.HeapCall.TheVariants as task
 use Rattle.core_world.specs.Trees.Calls.{side_context}
@@ -11,6 +8,8 @@ use Rattle.core_world.specs.Trees.SafepointSteps.{poll_steps, stop_steps, resume
 use Rattle.heap_table.specs.Parts.{HasMadeSteps}
 use Rattle.heap_table.specs.Resting.{start_now}
 use Rattle.heap_table.specs.Seen.{HeapSeen, PassSeen}
+use Rattle.core_calls.proofs.Called.{called}
+use Rattle.core_calls.proofs.NamedCalls.{check_named, poll_named, stop_named, resume_named}
 use Rattle.thread_calls.specs.Timed.{StaysTimed}
 use Rattle.thread_calls.proofs.OnTime.{timed_still}
 

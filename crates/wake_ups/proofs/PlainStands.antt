@@ -153,12 +153,7 @@ module _ (x y : PlainObject) (u t : ℕ) where
   at_object (entry.Get o i v) s h = only_kept Same x x y _ refl refl h
   at_object (entry.Put o i v) s h = only_kept Same x (record x { slots = slice_set x.slots i v }) y _ refl refl h
   at_object (entry.Hash o v d) s h = hash_kept Same x y _ refl h
-  at_object (entry.New i c) s h = subst (λ (z : PlainObject). Same z.monitor) (same_Some x y h) refl
-  at_object (entry.Print v) s h = subst (λ (z : PlainObject). Same z.monitor) (same_Some x y h) refl
-  at_object (entry.Dump n) s h = subst (λ (z : PlainObject). Same z.monitor) (same_Some x y h) refl
-  at_object (entry.Trap f i) s h = subst (λ (z : PlainObject). Same z.monitor) (same_Some x y h) refl
-  at_object entry.Spent s h = subst (λ (z : PlainObject). Same z.monitor) (same_Some x y h) refl
-  at_object entry.Done s h = subst (λ (z : PlainObject). Same z.monitor) (same_Some x y h) refl
+  at_object _ s h = subst (λ (z : PlainObject). Same z.monitor) (same_Some x y h) refl
 
 module _ (t o : ℕ) where
   -- after any entry, and after these
@@ -227,17 +222,7 @@ module _ (t o : ℕ) where
         second = or_up s.1 r.1 (s.0 && is_thread w t) (r.0 && is_thread w t) h.second (and_up s.0 r.0 (is_thread w t) h.first);
       }
   here_ahead u (entry.NotifyAll i n) s r h = record { first = h.first; second = or_up s.1 r.1 s.0 r.0 h.second h.first }
-  here_ahead u (entry.Enter i p) s r h = h
-  here_ahead u (entry.Exit i) s r h = h
-  here_ahead u (entry.Get i j v) s r h = h
-  here_ahead u (entry.Put i j v) s r h = h
-  here_ahead u (entry.Hash i v d) s r h = h
-  here_ahead u (entry.New i c) s r h = h
-  here_ahead u (entry.Print v) s r h = h
-  here_ahead u (entry.Dump n) s r h = h
-  here_ahead u (entry.Trap f i) s r h = h
-  here_ahead u entry.Spent s r h = h
-  here_ahead u entry.Done s r h = h
+  here_ahead u _ s r h = h
 
   entry_ahead : (u : ℕ) (e : Entry) (a : Option ℕ) (s r : Standing) → Ahead s r → Ahead (after_entry u e a s) (after_entry u e a r)
   entry_ahead u e None s r h = h
@@ -266,17 +251,7 @@ module _ (t o : ℕ) where
       record { first = kept_with s.0 (u == t) not_mine; second = kept_with s.1 (u == t) not_mine }
   ahead_here u i (entry.Notify j w) s n same other = record { first = λ h. h; second = or_more s.1 (s.0 && is_thread w t) }
   ahead_here u i (entry.NotifyAll j k) s n same other = record { first = λ h. h; second = or_more s.1 s.0 }
-  ahead_here u i (entry.Enter j p) s n same other = record { first = λ h. h; second = λ h. h }
-  ahead_here u i (entry.Exit j) s n same other = record { first = λ h. h; second = λ h. h }
-  ahead_here u i (entry.Get j k v) s n same other = record { first = λ h. h; second = λ h. h }
-  ahead_here u i (entry.Put j k v) s n same other = record { first = λ h. h; second = λ h. h }
-  ahead_here u i (entry.Hash j v d) s n same other = record { first = λ h. h; second = λ h. h }
-  ahead_here u i (entry.New j c) s n same other = record { first = λ h. h; second = λ h. h }
-  ahead_here u i (entry.Print v) s n same other = record { first = λ h. h; second = λ h. h }
-  ahead_here u i (entry.Dump k) s n same other = record { first = λ h. h; second = λ h. h }
-  ahead_here u i (entry.Trap f j) s n same other = record { first = λ h. h; second = λ h. h }
-  ahead_here u i entry.Spent s n same other = record { first = λ h. h; second = λ h. h }
-  ahead_here u i entry.Done s n same other = record { first = λ h. h; second = λ h. h }
+  ahead_here u i _ s n same other = record { first = λ h. h; second = λ h. h }
 
   ahead_entry : (u : ℕ) (e : Entry) (s : Standing) → (is_resume o e && (u == t)) ≡ false → Ahead s (after_entry u e (named e) s)
   ahead_entry u e s other = by_name (named e) refl

@@ -4,7 +4,7 @@ use Rattle.std.proofs.Common.{List, [], ◌∷◌, ◌++◌, Option, Some, None,
 use Rattle.std.specs.List.{AllByRecursion}
 use Rattle.plain_monitor.specs.Limits.{most_holds}
 use Rattle.mark_word.specs.declared.mark.MarkForm.{MarkForm}
-use Rattle.mark_word.specs.declared.mark.MarkForm.TheVariants.{Inflating, Neutral, Anonymous, Biased, Locked, Inflated, Marked}
+use Rattle.mark_word.specs.declared.mark.MarkForm.TheVariants.{Neutral, Anonymous, Biased, Locked}
 use Rattle.mark_word.specs.Mark.{mark_of, read_mark}
 use Rattle.mark_word.specs.Hold.{read_hold}
 use Rattle.lock_policy.specs.declared.policy.Verdict.{Verdict}
@@ -68,12 +68,7 @@ module _ (E : WordId → Type 0) where
         by_test true = (d, tt)
         by_test false = both (record_writes j t 0 (holds_in g t))
             (write (Mark j) (mark_of (Locked t (first_place j (holds_in g t)))) ∷ []) (records_away j t 0 (holds_in g t)) (d, tt)
-    revoked_away j allowed None g d = tt
-    revoked_away j allowed (Some Inflating) g d = tt
-    revoked_away j allowed (Some (Neutral x a)) g d = tt
-    revoked_away j allowed (Some (Locked t p)) g d = tt
-    revoked_away j allowed (Some (Inflated m)) g d = tt
-    revoked_away j allowed (Some Marked) g d = tt
+    revoked_away j allowed _ g d = tt
 
   -- RULES
   abbrev IsElsewhere : Rule → Type 0

@@ -6,7 +6,7 @@ use Rattle.std.proofs.Math.Nat.{mod-lt}
 use Rattle.std.specs.List.{AllByRecursion}
 use Rattle.plain_monitor.specs.Limits.{most_holds}
 use Rattle.mark_word.specs.declared.mark.MarkForm.{MarkForm}
-use Rattle.mark_word.specs.declared.mark.MarkForm.TheVariants.{Inflating, Neutral, Anonymous, Biased, Locked, Inflated, Marked}
+use Rattle.mark_word.specs.declared.mark.MarkForm.TheVariants.{Neutral, Anonymous, Biased, Locked}
 use Rattle.mark_word.specs.Mark.{mark_of, read_mark}
 use Rattle.mark_word.specs.Hold.{read_hold}
 use Rattle.mark_word.proofs.ReadingMarks.{read_mark-mark_of, read_mark-spells}
@@ -92,14 +92,9 @@ module _ (f : WordId → ℕ) (o c u q : ℕ) where
   holds_same g k = let fs : ◌≡◌ {A = ℕ → ℕ} (λ p. g (Hold u p)) (λ p. f (Hold u p)) = λ i. λ p. k.holds u p i in ap (words_from 0 most_holds) fs
 
   none_revoked : (m : Option MarkForm) (allowed : Bool) (g : WordId → ℕ) → is_biased_form m ≡ false → revoke_form m o allowed g ≡ []
-  none_revoked None allowed g e = refl
-  none_revoked (Some Inflating) allowed g e = refl
-  none_revoked (Some (Neutral x a)) allowed g e = refl
   none_revoked (Some (Anonymous d a)) allowed g e = absurd (cc e)
   none_revoked (Some (Biased t d a)) allowed g e = absurd (cc e)
-  none_revoked (Some (Locked t p)) allowed g e = refl
-  none_revoked (Some (Inflated m)) allowed g e = refl
-  none_revoked (Some Marked) allowed g e = refl
+  none_revoked _ allowed g e = refl
 
   -- the words after a store of its mark
   here : (word : ℕ) (g : WordId → ℕ) → with_word (Mark o) word g (Mark o) ≡ word
@@ -161,14 +156,9 @@ module _ (f : WordId → ℕ) (o c u q : ℕ) where
 
   -- a mark gets its class's epoch
   no_epoch : (m : Option MarkForm) (e : Option ℕ) → is_biased_form m ≡ false → with_epoch m e ≡ None
-  no_epoch None e h = refl
-  no_epoch (Some Inflating) e h = refl
-  no_epoch (Some (Neutral x a)) e h = refl
   no_epoch (Some (Anonymous d a)) e h = absurd (cc h)
   no_epoch (Some (Biased t d a)) e h = absurd (cc h)
-  no_epoch (Some (Locked t p)) e h = refl
-  no_epoch (Some (Inflated m)) e h = refl
-  no_epoch (Some Marked) e h = refl
+  no_epoch _ e h = refl
 
   own_renewed : (d : ℕ) (g : WordId → ℕ) → Stands g → Stands (words_after (renew d o g) g)
   own_renewed d g k = elim k.mark [

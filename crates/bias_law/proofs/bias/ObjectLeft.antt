@@ -3,7 +3,7 @@
 use Rattle.std.proofs.Common.{◌≡◌, ℕ, ◌<◌, eq-eqb, true, List, [], ◌∷◌, ◌++◌, Option, Some, None, refl, sym, ap, ◌∙◌, subst, arith, inl, inr}
 use Rattle.std.proofs.lemmas.Bool.{cases_lt}
 use Rattle.mark_word.specs.declared.mark.MarkForm.{MarkForm}
-use Rattle.mark_word.specs.declared.mark.MarkForm.TheVariants.{Inflating, Neutral, Anonymous, Biased, Locked, Inflated, Marked}
+use Rattle.mark_word.specs.declared.mark.MarkForm.TheVariants.{Biased}
 use Rattle.mark_word.specs.Mark.{read_mark}
 use Rattle.plain_monitor.specs.Limits.{most_holds}
 use Rattle.plain_monitor.specs.Objects.{PlainObject}
@@ -30,14 +30,8 @@ use Rattle.lock_policy.specs.declared.policy.Verdict.TheVariants.{BulkRebias}
 
 -- a valid bias is one of a thread
 pub valid_leans : (m : Option MarkForm) (prototype : ℕ) → is_valid_bias m prototype ≡ true → (u : ℕ) × LeansTo m prototype u
-valid_leans None p h = absurd (cc h)
-valid_leans (Some Inflating) p h = absurd (cc h)
-valid_leans (Some (Neutral x a)) p h = absurd (cc h)
-valid_leans (Some (Anonymous e a)) p h = absurd (cc h)
 valid_leans (Some (Biased u e a)) p h = (u, (e, a, refl, h))
-valid_leans (Some (Locked u q)) p h = absurd (cc h)
-valid_leans (Some (Inflated m)) p h = absurd (cc h)
-valid_leans (Some Marked) p h = absurd (cc h)
+valid_leans _ p h = absurd (cc h)
 
 -- a prototype that has this epoch has one
 has_some : (m : Option ℕ) (e : ℕ) → has_epoch m e ≡ true → (n : ℕ) × (m ≡ Some n)

@@ -50,13 +50,7 @@ use Rattle.core_world.proofs.NoWordChanges.{one_requester}
 -- no dump revokes a bias
 revokes_no_dump : (a : Operation) (rebias : Bool) → RevokesWithin a rebias → a ≢ op.Dump
 revokes_no_dump op.Dump rebias allowed same = allowed
-revokes_no_dump op.Enter rebias allowed same = cc same
-revokes_no_dump op.Exit rebias allowed same = cc same
-revokes_no_dump op.Wait rebias allowed same = cc same
-revokes_no_dump op.Notify rebias allowed same = cc same
-revokes_no_dump op.NotifyAll rebias allowed same = cc same
-revokes_no_dump op.Hash rebias allowed same = cc same
-revokes_no_dump op.Create rebias allowed same = cc same
+revokes_no_dump _ rebias allowed same = cc same
 
 module _ (w : World) (P : List PlainObject) (s : IsRevoking w P) (leaner : ℕ)
     (leant : lock s.before s.revocation.object ≡ BiasedTo leaner) (law : BiasLawHolds s.before) (over : s.rest ≡ [])

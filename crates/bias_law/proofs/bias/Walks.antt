@@ -36,13 +36,7 @@ stored_append (x ∷ xs) ys f = stored_append xs ys (with_word x.at x.word f)
 -- an epoch that stands in a word is below 4
 pub epoch_small : (m : Option MarkForm) (n e : ℕ) → read_mark n ≡ m → epoch_form m ≡ Some e → e < 4
 epoch_small (Some (Anonymous d a)) n e h g = let r = (read_mark-spells n (Anonymous d a) h).0.0 in let s = same_Some d e g in omega (arith, r, s)
-epoch_small None n e h g = absurd (cc g)
-epoch_small (Some Inflating) n e h g = absurd (cc g)
-epoch_small (Some (Neutral x a)) n e h g = absurd (cc g)
-epoch_small (Some (Biased t d a)) n e h g = absurd (cc g)
-epoch_small (Some (Locked t p)) n e h g = absurd (cc g)
-epoch_small (Some (Inflated m)) n e h g = absurd (cc g)
-epoch_small (Some Marked) n e h g = absurd (cc g)
+epoch_small _ n e h g = absurd (cc g)
 
 -- a word with an even number has no bias pattern
 even_unbiased : (n m : ℕ) → n ≡ m * 8 → is_biased n ≡ false
@@ -158,12 +152,7 @@ module _ (own : ℕ) (Q : ℕ → Type 0) where
   by_form o false (Some (Anonymous e a)) f q h =
       mark_stored o _ f f (same f) (λ g. ap is_biased_form h) (λ u d g. absurd (let none = free_unowned false in cc (none, g))) (λ n. absurd (n q))
   by_form o allowed (Some (Biased t e a)) f q h = revoked o t allowed (holds_in f t) f q (ap is_biased_form h)
-  by_form o allowed None f q h = same f
-  by_form o allowed (Some Inflating) f q h = same f
-  by_form o allowed (Some (Neutral x a)) f q h = same f
-  by_form o allowed (Some (Locked t p)) f q h = same f
-  by_form o allowed (Some (Inflated m)) f q h = same f
-  by_form o allowed (Some Marked) f q h = same f
+  by_form o allowed _ f q h = same f
 
   revokes : (o : ℕ) (allowed : Bool) → Q o → Gentle (revoke o allowed)
   revokes o allowed q f = by_form o allowed (read_mark (f (Mark o))) f q refl

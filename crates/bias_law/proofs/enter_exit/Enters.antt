@@ -10,7 +10,7 @@ use Rattle.plain_monitor.specs.declared.entry.Entry.{Entry}
 use Rattle.plain_monitor.specs.declared.entry.Entry.TheVariants as entry
 use Rattle.plain_monitor.specs.declared.entry.Logged.{Logged}
 use Rattle.plain_monitor.specs.declared.entry.Path.{Path}
-use Rattle.plain_monitor.specs.declared.entry.Path.TheVariants.{BiasOwn, BiasTaken, StackFirst, StackAgain, MonitorFirst, MonitorAgain}
+use Rattle.plain_monitor.specs.declared.entry.Path.TheVariants.{BiasOwn, BiasTaken}
 use Rattle.plain_history.specs.Tied.{bound_to, is_same_object}
 use Rattle.core_world.specs.declared.stage.Stage.{Stage}
 use Rattle.core_world.specs.declared.heap_call.Unfinished.{Unfinished}
@@ -49,46 +49,17 @@ hash_push i = any_logged (λ z. is_hash i z.entry)
 kind_of : (path : Path) → (path ≡ BiasTaken) ⊎ ((path ≡ BiasOwn) ⊎ (is_by_bias path ≡ false))
 kind_of BiasOwn = inr (inl refl)
 kind_of BiasTaken = inl refl
-kind_of StackFirst = inr (inr refl)
-kind_of StackAgain = inr (inr refl)
-kind_of MonitorFirst = inr (inr refl)
-kind_of MonitorAgain = inr (inr refl)
+kind_of _ = inr (inr refl)
 
 -- an entry that is the first enter is one
 is_enter : (e : Entry) (path : Path) → first_path (e ∷ []) ≡ Some path → (i : ℕ) × (e ≡ entry.Enter i path)
 is_enter (entry.Enter o p) path h = (o, ap (entry.Enter o) (same_Some p path h))
-is_enter (entry.Exit o) path h = absurd (cc h)
-is_enter (entry.Get o i v) path h = absurd (cc h)
-is_enter (entry.Put o i v) path h = absurd (cc h)
-is_enter (entry.Wait o) path h = absurd (cc h)
-is_enter (entry.Resume o) path h = absurd (cc h)
-is_enter (entry.Notify o w) path h = absurd (cc h)
-is_enter (entry.NotifyAll o w) path h = absurd (cc h)
-is_enter (entry.Hash o v d) path h = absurd (cc h)
-is_enter (entry.New o c) path h = absurd (cc h)
-is_enter (entry.Print v) path h = absurd (cc h)
-is_enter (entry.Dump n) path h = absurd (cc h)
-is_enter (entry.Trap f i) path h = absurd (cc h)
-is_enter entry.Spent path h = absurd (cc h)
-is_enter entry.Done path h = absurd (cc h)
+is_enter _ path h = absurd (cc h)
 
 -- an entry that goes by a bias is an enter by one
 pub is_by : (e : Entry) → needs_bias e ≡ true → (i : ℕ) × (path : Path) × (e ≡ entry.Enter i path) × (is_by_bias path ≡ true)
 is_by (entry.Enter o p) h = (o, p, refl, h)
-is_by (entry.Exit o) h = absurd (cc h)
-is_by (entry.Get o i v) h = absurd (cc h)
-is_by (entry.Put o i v) h = absurd (cc h)
-is_by (entry.Wait o) h = absurd (cc h)
-is_by (entry.Resume o) h = absurd (cc h)
-is_by (entry.Notify o w) h = absurd (cc h)
-is_by (entry.NotifyAll o w) h = absurd (cc h)
-is_by (entry.Hash o v d) h = absurd (cc h)
-is_by (entry.New o c) h = absurd (cc h)
-is_by (entry.Print v) h = absurd (cc h)
-is_by (entry.Dump n) h = absurd (cc h)
-is_by (entry.Trap f i) h = absurd (cc h)
-is_by entry.Spent h = absurd (cc h)
-is_by entry.Done h = absurd (cc h)
+is_by _ h = absurd (cc h)
 
 leaning_one : (t u : ℕ) → BiasedTo t ≡ BiasedTo u → t ≡ u
 leaning_one t u e = cc e

@@ -1,7 +1,7 @@
 -- What the steps on a bias without a safepoint say.
 use Rattle.std.proofs.Common.{◌≡◌, ◌⊎◌, ℕ, ◌==◌, cond, Bool, true, false, List, ◌∷◌, Option, Some, None, refl, inl, inr}
 use Rattle.mark_word.specs.declared.mark.MarkForm.{MarkForm}
-use Rattle.mark_word.specs.declared.mark.MarkForm.TheVariants.{Inflating, Neutral, Anonymous, Biased, Locked, Inflated, Marked}
+use Rattle.mark_word.specs.declared.mark.MarkForm.TheVariants.{Inflating, Neutral, Anonymous, Biased}
 use Rattle.mark_word.specs.Mark.{read_mark}
 use Rattle.plain_monitor.specs.declared.entry.Path.{Path}
 use Rattle.plain_monitor.specs.declared.entry.Path.TheVariants.{BiasOwn, BiasTaken}
@@ -17,37 +17,33 @@ use Rattle.core_world.specs.Trees.LockSteps.{hold_steps, raise_steps, leave_step
 use Rattle.core_world.specs.Trees.BiasSteps.{took_steps, unbias_swap_steps, rebias_steps, bias_enter_at, bias_enter_by}
 use Rattle.core_world.specs.Trees.BiasSteps.{bias_enter_steps, bias_exit_steps, bias_drop_at, bias_drop_by}
 use Rattle.core_world.specs.Trees.BiasSteps.{bias_drop_steps, stage_after, bias_after_at, bias_after_steps}
+use Rattle.core_world.specs.declared.stage.Stage.TheVariants.{Settled}
 use Rattle.core_calls.specs.Paths.{made, Always}
 use Rattle.core_calls.specs.Causes.{Loaded, Put, Missed}
-use Rattle.core_calls.proofs.Paths.{always_then, either_way, Silent, Still, still, still_leaves, now_silent, missed_last, put_last, class_way}
+use Rattle.core_calls.proofs.Paths.{Saw, LastSeen, saw_load, saw_put, always_then, either_way, Silent, Still, still, still_leaves}
+use Rattle.core_calls.proofs.Paths.{now_silent, missed_last, put_last, class_way}
 use Rattle.core_calls.proofs.enter_exit.LocksSay.{zero_loaded, Entered, hold_says, raise_says, Exited, leave_says}
-use Rattle.core_world.specs.declared.stage.Stage.TheVariants.{Settled}
 
 -- the end of a bias without a safepoint logs nothing
 abbrev pub DropSays : CallContext → List StepMade → BiasTry → Type 0
-DropSays e ms (Raced expected found) = Silent e ms × Missed Loaded expected found ms
+DropSays e ms (Raced expected found) = Silent e ms × Missed Saw expected found ms
 DropSays e ms _ = Silent e ms
 
 module _ (e : CallContext) (o : ℕ) where
-  pub unbias_says : (mark neutral : ℕ) (ms : List StepMade) → Loaded (Mark o) mark ms
+  pub unbias_says : (mark neutral : ℕ) (ms : List StepMade) → Saw (Mark o) mark ms
       → Silent e ms → Always (DropSays e) ms (unbias_swap_steps e o mark neutral)
   unbias_says mark neutral ms loaded h = λ n.
       let silent = still_leaves _ n ms refl refl refl h in
       either_way (DropSays e) _ (n == mark) _ _ (λ hit. silent) (λ miss. (silent, missed_last _ n ms mark _ refl miss loaded))
 
   drop_at_says : (form : Option MarkForm) (epoch mark : ℕ) (ms : List StepMade)
-      → Loaded (Mark o) mark ms → Silent e ms → Always (DropSays e) ms (bias_drop_at form epoch e o mark)
+      → Saw (Mark o) mark ms → Silent e ms → Always (DropSays e) ms (bias_drop_at form epoch e o mark)
   drop_at_says (Some (Biased thread old age)) epoch mark ms loaded h =
       either_way (DropSays e) ms (old == epoch) _ _ (λ _. h) (λ _. unbias_says mark _ ms loaded h)
   drop_at_says (Some (Anonymous old age)) epoch mark ms loaded h = unbias_says mark _ ms loaded h
-  drop_at_says (Some Inflating) epoch mark ms loaded h = tt
-  drop_at_says (Some (Neutral hash age)) epoch mark ms loaded h = tt
-  drop_at_says (Some (Locked thread place)) epoch mark ms loaded h = tt
-  drop_at_says (Some (Inflated monitor)) epoch mark ms loaded h = tt
-  drop_at_says (Some Marked) epoch mark ms loaded h = tt
-  drop_at_says None epoch mark ms loaded h = tt
+  drop_at_says _ epoch mark ms loaded h = tt
 
-  drop_by_says : (epoch : Option ℕ) (mark prototype : ℕ) (ms : List StepMade) → Loaded (Mark o) mark ms
+  drop_by_says : (epoch : Option ℕ) (mark prototype : ℕ) (ms : List StepMade) → Saw (Mark o) mark ms
       → Silent e ms → Always (DropSays e) ms (bias_drop_by epoch e o mark prototype)
   drop_by_says None mark prototype ms loaded h = unbias_says mark prototype ms loaded h
   drop_by_says (Some epoch) mark prototype ms loaded h = drop_at_says (read_mark mark) epoch mark ms loaded h
@@ -57,8 +53,11 @@ module _ (e : CallContext) (o : ℕ) where
       let silent = now_silent e _ mark ms refl refl refl refl h in
       either_way (DropSays e) _ (is_biased mark) _ _
       (λ _. class_way (DropSays e) _ e Settled s o _
-      (λ class prototype. drop_by_says (epoch_in prototype) mark prototype _ (inr (inl (refl, refl, refl))) (still_leaves _ prototype _ refl refl refl silent))
-      (λ word prototype. drop_by_says (epoch_in prototype) mark prototype _ (inr (inr (inl (refl, refl, refl))))
+      (λ class prototype. drop_by_says (epoch_in prototype) mark prototype _
+      (inr (saw_load (load e (Mark o)) mark ms refl).0, (saw_load (load e (Mark o)) mark ms refl).1)
+      (still_leaves _ prototype _ refl refl refl silent))
+      (λ word prototype. drop_by_says (epoch_in prototype) mark prototype _
+      (inr (inr (saw_load (load e (Mark o)) mark ms refl).0), (saw_load (load e (Mark o)) mark ms refl).1)
       (still_leaves _ prototype _ refl refl refl (still_leaves _ word _ refl refl refl silent))))
       (λ _. silent)
 
@@ -67,53 +66,48 @@ module _ (e : CallContext) (k : Local) (o : ℕ) where
   -- inflated was loaded.
   abbrev pub TrySays : List StepMade → BiasTry → Type 0
   TrySays ms (Took path) = Entered e k o ms path
-  TrySays ms (Unbiased mark) = Silent e ms × (read_mark mark ≡ Some Inflating → Loaded (Mark o) 0 ms) × (Loaded (Mark o) mark ms ⊎ Put (Mark o) mark ms)
+  TrySays ms (Unbiased mark) =
+      Silent e ms × (read_mark mark ≡ Some Inflating → Loaded (Mark o) 0 ms)
+      × (Saw (Mark o) mark ms ⊎ (Put (Mark o) mark ms × LastSeen (Mark o) mark ms))
   TrySays ms (Valid mark) = Silent e ms
-  TrySays ms (Raced expected found) = Silent e ms × Missed Loaded expected found ms
+  TrySays ms (Raced expected found) = Silent e ms × Missed Saw expected found ms
 
   took_says : (by : Path) (ms : List StepMade) → Still ms → Always TrySays ms (took_steps e k o by)
   took_says by ms h = always_then (Entered e k o) TrySays (hold_steps e k o by) (λ path. done (Took path)) ms (hold_says e k o by ms h) (λ ms path so. so)
 
-  rebias_says : (mark epoch : ℕ) (ms : List StepMade) → Loaded (Mark o) mark ms → Silent e ms → Always TrySays ms (rebias_steps e k o mark epoch)
+  rebias_says : (mark epoch : ℕ) (ms : List StepMade) → Saw (Mark o) mark ms → Silent e ms → Always TrySays ms (rebias_steps e k o mark epoch)
   rebias_says mark epoch ms loaded h = λ n.
       let silent = still_leaves _ n ms refl refl refl h in
       either_way TrySays _ (n == mark) _ _ (λ hit. took_says BiasTaken _ (still silent)) (λ miss. (silent, missed_last _ n ms mark _ refl miss loaded))
 
   enter_at_says : (form : Option MarkForm) (epoch mark : ℕ) (ms : List StepMade)
-      → Loaded (Mark o) mark ms → Silent e ms → Always TrySays ms (bias_enter_at form epoch e k o mark)
+      → Saw (Mark o) mark ms → Silent e ms → Always TrySays ms (bias_enter_at form epoch e k o mark)
   enter_at_says (Some (Biased thread old age)) epoch mark ms loaded h =
       either_way TrySays ms (old == epoch) _ _
       (λ _. either_way TrySays ms (thread == k.thread) _ _ (λ _. took_says BiasOwn ms (still h)) (λ _. h))
       (λ _. rebias_says mark epoch ms loaded h)
   enter_at_says (Some (Anonymous old age)) epoch mark ms loaded h = rebias_says mark epoch ms loaded h
-  enter_at_says (Some Inflating) epoch mark ms loaded h = tt
-  enter_at_says (Some (Neutral hash age)) epoch mark ms loaded h = tt
-  enter_at_says (Some (Locked thread place)) epoch mark ms loaded h = tt
-  enter_at_says (Some (Inflated monitor)) epoch mark ms loaded h = tt
-  enter_at_says (Some Marked) epoch mark ms loaded h = tt
-  enter_at_says None epoch mark ms loaded h = tt
+  enter_at_says _ epoch mark ms loaded h = tt
 
   -- an exchange for a neutral prototype
   neutral_says : (hash age mark prototype : ℕ) (ms : List StepMade) → read_mark prototype ≡ Some (Neutral hash age)
-      → Loaded (Mark o) mark ms → Silent e ms → Always TrySays ms (unbias_swap_steps e o mark prototype)
+      → Saw (Mark o) mark ms → Silent e ms → Always TrySays ms (unbias_swap_steps e o mark prototype)
   neutral_says hash age mark prototype ms is loaded h = λ n.
       let silent = still_leaves _ n ms refl refl refl h in
       either_way TrySays _ (n == mark) _ _ (λ hit. (
         silent,
         λ inflating. absurd (cc (is, inflating)),
-        inr (put_last (swap e (Mark o) mark prototype) n ms mark prototype refl hit),
+        inr (
+          put_last (swap e (Mark o) mark prototype) n ms mark prototype refl hit,
+          saw_put (swap e (Mark o) mark prototype) n ms mark prototype refl hit,
+        ),
       )) (λ miss. (silent, missed_last _ n ms mark _ refl miss loaded))
 
   enter_by_says : (form : Option MarkForm) (mark prototype : ℕ) (ms : List StepMade) → read_mark prototype ≡ form
-      → Loaded (Mark o) mark ms → Silent e ms → Always TrySays ms (bias_enter_by form e k o mark prototype)
+      → Saw (Mark o) mark ms → Silent e ms → Always TrySays ms (bias_enter_by form e k o mark prototype)
   enter_by_says (Some (Neutral hash age)) mark prototype ms is loaded h = neutral_says hash age mark prototype ms is loaded h
   enter_by_says (Some (Anonymous epoch age)) mark prototype ms is loaded h = enter_at_says (read_mark mark) epoch mark ms loaded h
-  enter_by_says (Some Inflating) mark prototype ms is loaded h = tt
-  enter_by_says (Some (Biased thread epoch age)) mark prototype ms is loaded h = tt
-  enter_by_says (Some (Locked thread place)) mark prototype ms is loaded h = tt
-  enter_by_says (Some (Inflated monitor)) mark prototype ms is loaded h = tt
-  enter_by_says (Some Marked) mark prototype ms is loaded h = tt
-  enter_by_says None mark prototype ms is loaded h = tt
+  enter_by_says _ mark prototype ms is loaded h = tt
 
   pub bias_enter_says : (s : Shape) (ms : List StepMade) → Still ms → Always TrySays ms (bias_enter_steps s e k o)
   bias_enter_says s ms h = λ mark.
@@ -121,20 +115,20 @@ module _ (e : CallContext) (k : Local) (o : ℕ) where
       either_way TrySays _ (is_biased mark) _ _
       (λ _. class_way TrySays _ e Settled s o _
       (λ class prototype. enter_by_says (read_mark prototype) mark prototype _ refl
-      (inr (inl (refl, refl, refl))) (still_leaves _ prototype _ refl refl refl silent))
-      (λ word prototype. enter_by_says (read_mark prototype) mark prototype _ refl (inr (inr (inl (refl, refl, refl))))
+      (inr (saw_load (load e (Mark o)) mark ms refl).0, (saw_load (load e (Mark o)) mark ms refl).1)
+      (still_leaves _ prototype _ refl refl refl silent))
+      (λ word prototype. enter_by_says (read_mark prototype) mark prototype _ refl
+      (inr (inr (saw_load (load e (Mark o)) mark ms refl).0), (saw_load (load e (Mark o)) mark ms refl).1)
       (still_leaves _ prototype _ refl refl refl (still_leaves _ word _ refl refl refl silent))))
-      (λ _. (silent, λ is. zero_loaded (Mark o) (made (load e (Mark o)) mark ∷ ms) mark is (inl (refl, refl, refl)), inl (inl (refl, refl, refl))))
+      (λ _. (
+        silent,
+        λ is. zero_loaded (Mark o) (made (load e (Mark o)) mark ∷ ms) mark is (inl (refl, refl, refl)),
+        inl (saw_load (load e (Mark o)) mark ms refl),
+      ))
 
   after_at_says : (form : Option MarkForm) (ms : List StepMade) → Still ms → Always TrySays ms (bias_after_at form e k o)
   after_at_says (Some (Biased thread epoch age)) ms h = either_way TrySays ms (thread == k.thread) _ _ (λ _. took_says BiasTaken ms h) (λ _. tt)
-  after_at_says (Some (Anonymous epoch age)) ms h = tt
-  after_at_says (Some Inflating) ms h = tt
-  after_at_says (Some (Neutral hash age)) ms h = tt
-  after_at_says (Some (Locked thread place)) ms h = tt
-  after_at_says (Some (Inflated monitor)) ms h = tt
-  after_at_says (Some Marked) ms h = tt
-  after_at_says None ms h = tt
+  after_at_says _ ms h = tt
 
   pub bias_after_says : (took : Bool) (ms : List StepMade) → Silent e ms → Always TrySays ms (bias_after_steps e k o took)
   bias_after_says took ms h = λ mark.
@@ -144,7 +138,7 @@ module _ (e : CallContext) (k : Local) (o : ℕ) where
       (λ _. (
         silent,
         λ is. zero_loaded (Mark o) (made (with_stage (stage_after took o) (load e (Mark o))) mark ∷ ms) mark is (inl (refl, refl, refl)),
-        inl (inl (refl, refl, refl)),
+        inl (saw_load (with_stage (stage_after took o) (load e (Mark o))) mark ms refl),
       ))
 
   -- under a bias the Exit is logged; else nothing is

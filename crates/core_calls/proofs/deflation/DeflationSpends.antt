@@ -12,13 +12,16 @@ use Rattle.core_world.specs.Words.Shape.{Shape, monitor_count}
 use Rattle.core_world.specs.Trees.DeflateSteps.{detach_plan, clean_plan, enqueue_plan, advance_plan, look_at, give_back_steps, is_untouched}
 use Rattle.core_world.specs.Trees.DeflateSteps.{deflate_free, deflate_named, names_monitor, deflate_monitor, deflate_steps}
 use Rattle.core_world.specs.Trees.Plans.{CallContext, load_plan}
+use Rattle.core_world.specs.declared.act.Act.TheVariants.{Load, Store}
 use Rattle.core_calls.specs.Bounds.{a_deflation}
 use Rattle.core_calls.proofs.Paths.{IsQuiet}
-use Rattle.core_calls.proofs.Spends.{Spend, spend_done, spend_more, spend_step, spend_either, spend_both, spend_all, spend_list}
+use Rattle.core_calls.proofs.Stays.{IsApart, sparing_apart, load_spares}
+use Rattle.core_calls.proofs.Spends.{of_call, Spend, spend_done, spend_more, spend_step, spend_either, spend_both, spend_all, spend_list}
 
 -- each plan of a deflation is of this kind
 module _ {Q : StepPlan → Type 0} (s : Shape) (e : CallContext) (stage : Stage) (looks : (at : WordId) → Q (load_plan e stage at))
-    (detaches : (o m header : ℕ) → Q (detach_plan e stage o m header)) (cleans : (at : WordId) → Q (clean_plan e stage at))
+    (detaches : (o m header : ℕ) → Q (detach_plan e stage o m header)) (cleans : (at : WordId) → IsApart at (Store 0)
+    → Q (clean_plan e stage at))
     (enqueues : (end m : ℕ) → Q (enqueue_plan e stage s end m)) (advances : (end : ℕ) → Q (advance_plan e stage end)) where
   look_spends : (at : WordId) → Spend Q (λ _. 0) 1 (look_at e stage at)
   look_spends at = spend_step {n = 0} (looks at) (λ word. spend_done {a = word} (omega arith))
@@ -26,8 +29,8 @@ module _ {Q : StepPlan → Type 0} (s : Shape) (e : CallContext) (stage : Stage)
   give_back_spends : (o m : ℕ) → Spend Q (λ _. 0) 9 (give_back_steps s e stage o m)
   give_back_spends o m =
       spend_step {n = 8} (looks _) (λ header. spend_step {n = 7} (looks _) (λ end.
-      spend_step {n = 6} (detaches o m header) (λ _. spend_step {n = 5} (cleans _) (λ _. spend_step {n = 4} (cleans _) (λ _.
-      spend_step {n = 3} (cleans _) (λ _. spend_step {n = 2} (cleans _) (λ _.
+      spend_step {n = 6} (detaches o m header) (λ _. spend_step {n = 5} (cleans _ tt) (λ _. spend_step {n = 4} (cleans _ tt) (λ _.
+      spend_step {n = 3} (cleans _ tt) (λ _. spend_step {n = 2} (cleans _ tt) (λ _.
       spend_step {n = 1} (enqueues end m) (λ _. spend_step {n = 0} (advances end) (λ _. spend_done (omega arith))))))))))
 
   free_spends : (o m : ℕ) → Spend Q (λ _. 0) (s.threads + 9) (deflate_free s e stage o m)
@@ -54,6 +57,14 @@ module _ {Q : StepPlan → Type 0} (s : Shape) (e : CallContext) (stage : Stage)
 -- they are quiet
 pub deflate_spends : (e : CallContext) (s : Shape) (stage : Stage) → Spend (IsQuiet e) (λ _. 0) (a_deflation s) (deflate_steps s e stage)
 deflate_spends e s stage =
-    each_spends s e stage (λ at. record { note = refl; unfinished = refl; check = refl })
-    (λ o m header. record { note = refl; unfinished = refl; check = refl }) (λ at. record { note = refl; unfinished = refl; check = refl })
-    (λ end m. record { note = refl; unfinished = refl; check = refl }) (λ end. record { note = refl; unfinished = refl; check = refl })
+    each_spends s e stage (λ at. record {
+      note = refl;
+      unfinished = refl;
+      check = refl;
+      passes = sparing_apart at Load (load_spares at);
+      of = λ _. of_call refl tt;
+    })
+    (λ o m header. record { note = refl; unfinished = refl; check = refl; passes = tt; of = λ _. of_call refl tt })
+    (λ at apart. record { note = refl; unfinished = refl; check = refl; passes = apart; of = λ _. of_call refl tt })
+    (λ end m. record { note = refl; unfinished = refl; check = refl; passes = tt; of = λ _. of_call refl tt })
+    (λ end. record { note = refl; unfinished = refl; check = refl; passes = tt; of = λ _. of_call refl tt })

@@ -1,31 +1,34 @@
 -- What the steps of lock records say.
-use Rattle.std.proofs.Common.{◌≡◌, ℕ, ◌==◌, List, [], ◌∷◌, Option, Some, None, refl, subst, inl}
+use Rattle.std.proofs.Common.{false, ◌≡◌, ℕ, ◌==◌, List, [], ◌∷◌, Option, Some, None, refl, subst}
 use Rattle.mark_word.specs.declared.mark.MarkForm.{MarkForm}
-use Rattle.mark_word.specs.declared.mark.MarkForm.TheVariants.{Inflating, Neutral, Anonymous, Biased, Locked, Inflated, Marked}
+use Rattle.mark_word.specs.declared.mark.MarkForm.TheVariants.{Inflating, Neutral, Locked, Inflated}
 use Rattle.mark_word.specs.Mark.{read_mark}
 use Rattle.mark_word.proofs.ReadingMarks.{read_mark-spells}
 use Rattle.plain_monitor.specs.declared.entry.Entry.TheVariants as entry
 use Rattle.plain_monitor.specs.declared.entry.Path.{Path}
 use Rattle.plain_monitor.specs.declared.entry.Path.TheVariants.{StackFirst, StackAgain}
 use Rattle.core_world.specs.declared.word_id.WordId.{WordId}
-use Rattle.core_world.specs.declared.word_id.WordId.TheVariants.{Mark}
+use Rattle.core_world.specs.declared.word_id.WordId.TheVariants.{Displaced, Mark}
 use Rattle.core_world.specs.declared.answer.StackOut.{StackOut}
-use Rattle.core_world.specs.declared.answer.StackOut.TheVariants.{Left}
+use Rattle.core_world.specs.declared.answer.StackOut.TheVariants.{Left, Not}
 use Rattle.core_world.specs.declared.answer.Progress.{Progress}
 use Rattle.core_world.specs.declared.answer.PendingCause.{PendingCause}
 use Rattle.core_world.specs.declared.answer.PendingCause.TheVariants as why
 use Rattle.core_world.specs.Words.Forms.{is_entering}
 use Rattle.core_world.specs.Threads.ThreadView.{Local, StepMade}
 use Rattle.core_world.specs.Locks.{hold_count}
-use Rattle.core_world.specs.Trees.Plans.{CallContext, done_with}
+use Rattle.core_world.specs.Trees.Plans.{top_place, CallContext, load, done_with}
 use Rattle.core_world.specs.Trees.StepTree.{StepTree, done, ◌>>=◌}
 use Rattle.core_world.specs.Trees.LockSteps.{log_enter_steps, entered_steps, hold_steps, stack_enter_at, leave_steps, clear_steps}
 use Rattle.core_world.specs.Trees.LockSteps.{stack_exit_by, stack_exit_at, stack_exit_record, raise_steps, stack_exit_steps}
-use Rattle.core_calls.specs.Paths.{Always, Leaves}
+use Rattle.core_world.specs.Words.Names.{same_name}
+use Rattle.core_calls.specs.Paths.{made, Always, Leaves}
 use Rattle.core_calls.specs.Causes.{Loaded, Missed}
 use Rattle.core_calls.specs.CallsSay.{IsPendingBy, StackOutSays}
-use Rattle.core_calls.proofs.Paths.{always_then, either_way, Silent, Still, still, still_leaves, still_more}
+use Rattle.core_calls.proofs.Paths.{Saw, saw_load, missed_loaded, missed_seen, always_then, either_way, Silent, Still, still}
+use Rattle.core_calls.proofs.Paths.{still_leaves, still_more}
 use Rattle.core_calls.proofs.Paths.{now_silent, now_logged, still_logged, missed, missed_last}
+use Rattle.core_calls.proofs.Reasons.{Sees}
 
 -- a mark that was loaded and is being inflated is 0
 pub zero_loaded : (at : WordId) (ms : List StepMade) (mark : ℕ) → read_mark mark ≡ Some Inflating → Loaded at mark ms → Loaded at 0 ms
@@ -63,36 +66,47 @@ module _ (e : CallContext) (k : Local) (o : ℕ) where
   abbrev pub Out : List StepMade → StackOut → Type 0
   Out = StackOutSays k.thread o e.unfinished e.check
 
-  left_says : (d : StepTree (Unit {0})) (ms : List StepMade) → Always Exited ms d → Always Out ms (d >>= λ _. done Left)
-  left_says d ms h = always_then Exited Out d (λ _. done Left) ms h (λ ms x so. so)
+  -- and what a missed exchange expects was seen last
+  abbrev pub OutSees : List StepMade → StackOut → Type 0
+  OutSees ms (Not why) = Sees why ms
+  OutSees ms _ = Unit {0}
 
-  stack_exit_by_says : (header mark : ℕ) (ms : List StepMade) → Loaded (Mark o) mark ms → Silent e ms → Always Out ms (stack_exit_by e k o header mark)
+  abbrev pub OutTells : List StepMade → StackOut → Type 0
+  OutTells ms out = Out ms out × OutSees ms out
+
+  left_says : (d : StepTree (Unit {0})) (ms : List StepMade) → Always Exited ms d → Always OutTells ms (d >>= λ _. done Left)
+  left_says d ms h = always_then Exited OutTells d (λ _. done Left) ms h (λ ms x so. (so, tt))
+
+  stack_exit_by_says : (header mark : ℕ) (ms : List StepMade) → Saw (Mark o) mark ms → Silent e ms
+      → Always OutTells ms (stack_exit_by e k o header mark)
   stack_exit_by_says header mark ms loaded h = λ n.
-      either_way Out _ (n == mark) _ _
+      either_way OutTells _ (n == mark) _ _
       (λ hit. left_says (clear_steps e k o) _ (clear_says _ (now_logged (entry.Exit o) None e.check _ n ms hit refl refl refl (still h))))
-      (λ miss. (missed _ n ms miss h, record { among = refl; cause = missed_last _ n ms mark _ refl miss loaded }))
+      (λ miss.
+      let race = missed_last _ n ms mark _ refl miss loaded in
+      ((missed _ n ms miss h, record { among = refl; cause = missed_loaded _ race }), missed_seen _ race))
 
   stack_exit_at_says : (form : Option MarkForm) (header mark : ℕ) (ms : List StepMade) → read_mark mark ≡ form
-      → Loaded (Mark o) mark ms → Silent e ms → Always Out ms (stack_exit_at form e k o header mark)
-  stack_exit_at_says (Some Inflating) header mark ms is loaded h = (h, record { among = refl; cause = zero_loaded (Mark o) ms mark is loaded })
+      → Saw (Mark o) mark ms → Silent e ms → Always OutTells ms (stack_exit_at form e k o header mark)
+  stack_exit_at_says (Some Inflating) header mark ms is loaded h =
+      ((h, record { among = refl; cause = zero_loaded (Mark o) ms mark is loaded.0 }), tt)
   stack_exit_at_says (Some (Locked thread place)) header mark ms is loaded h = stack_exit_by_says header mark ms loaded h
-  stack_exit_at_says (Some (Inflated monitor)) header mark ms is loaded h = (h, (mark, is, loaded))
-  stack_exit_at_says (Some (Neutral hash age)) header mark ms is loaded h = tt
-  stack_exit_at_says (Some (Anonymous epoch age)) header mark ms is loaded h = tt
-  stack_exit_at_says (Some (Biased thread epoch age)) header mark ms is loaded h = tt
-  stack_exit_at_says (Some Marked) header mark ms is loaded h = tt
-  stack_exit_at_says None header mark ms is loaded h = tt
+  stack_exit_at_says (Some (Inflated monitor)) header mark ms is loaded h = ((h, (mark, is, loaded.0)), tt)
+  stack_exit_at_says _ header mark ms is loaded h = tt
 
-  stack_exit_record_says : (ms : List StepMade) → Still ms → Always Out ms (stack_exit_record e k o)
+  stack_exit_record_says : (ms : List StepMade) → Still ms → Always OutTells ms (stack_exit_record e k o)
   stack_exit_record_says ms h = λ header.
       let silent = now_silent e _ header ms refl refl refl refl h in
-      either_way Out _ (header == 0) _ _
+      either_way OutTells _ (header == 0) _ _
       (λ _. left_says (leave_steps e k o) _ (leave_says _ (still silent)))
-      (λ _ mark. stack_exit_at_says (read_mark mark) header mark _ refl (inl (refl, refl, refl)) (still_leaves _ mark _ refl refl refl silent))
+      (λ _ mark. stack_exit_at_says (read_mark mark) header mark _ refl
+      (saw_load (load e (Mark o)) mark (made (load e (Displaced k.thread (top_place o k.holds))) header ∷ ms) refl)
+      (still_leaves _ mark _ refl refl refl silent))
 
-  pub stack_exit_says : (ms : List StepMade) → Still ms → Always Out ms (stack_exit_steps e k o)
+  pub stack_exit_says : (ms : List StepMade) → Still ms → Always OutTells ms (stack_exit_steps e k o)
   stack_exit_says ms h =
-      always_then (λ ms _. Still ms) Out (raise_steps e k o) (λ _. stack_exit_record e k o) ms (raise_says ms h) (λ ms _ s. stack_exit_record_says ms s)
+      always_then (λ ms _. Still ms) OutTells (raise_steps e k o) (λ _. stack_exit_record e k o) ms (raise_says ms h)
+      (λ ms _ s. stack_exit_record_says ms s)
 
   module _ (For : PendingCause → List StepMade → Type 0) where
     abbrev pub EnterProgress : List StepMade → Progress Path → Type 0
@@ -102,19 +116,19 @@ module _ (e : CallContext) (k : Local) (o : ℕ) where
     held_says path ms h = always_then Entered EnterProgress (hold_steps e k o path) (λ path. done_with path) ms (hold_says path ms h) (λ ms path so. so)
 
     -- The mark that the exchange expects is one that the steps before had, and still had after the store of the displaced word.
-    module _ (Had : WordId → ℕ → List StepMade → Type 0) (later : (m : StepMade) (word : ℕ) (ms : List StepMade) → Had (Mark o) word ms → Had (Mark o)
-        word (m ∷ ms)) (races : (expected found : ℕ) (ms : List StepMade) → Missed Had expected found ms → For (why.Raced expected found) ms) where
+    module _ (Had : WordId → ℕ → List StepMade → Type 0) (later : (m : StepMade) (word : ℕ) (ms : List StepMade)
+        → same_name (Mark o) m.plan.at ≡ false → Had (Mark o) word ms
+        → Had (Mark o) word (m ∷ ms)) (races : (expected found : ℕ) (ms : List StepMade) → Missed Had expected found ms
+        → For (why.Raced expected found) ms) where
       pub stack_enter_says : (form : Option MarkForm) (mark : ℕ) (ms : List StepMade)
           → Had (Mark o) mark ms → Still ms → Always EnterProgress ms (stack_enter_at form e k o mark)
       stack_enter_says (Some (Neutral hash age)) mark ms had h = λ w n.
           let silent = now_silent e _ w ms refl refl refl refl h in
           either_way EnterProgress _ (n == mark) _ _
           (λ hit. held_says StackFirst _ (still_more _ n _ refl (still silent)))
-          (λ miss. (still_leaves _ n _ refl refl refl silent, races mark n _ (missed_last {Had = Had} _ n _ mark _ refl miss (later _ mark ms had))))
+          (λ miss. (
+            still_leaves _ n _ refl refl refl silent,
+            races mark n _ (missed_last {Had = Had} _ n _ mark _ refl miss (later _ mark ms refl had)),
+          ))
       stack_enter_says (Some (Locked thread place)) mark ms had h = λ w. held_says StackAgain _ (still_more _ w ms refl h)
-      stack_enter_says (Some Inflating) mark ms had h = tt
-      stack_enter_says (Some (Anonymous epoch age)) mark ms had h = tt
-      stack_enter_says (Some (Biased thread epoch age)) mark ms had h = tt
-      stack_enter_says (Some (Inflated monitor)) mark ms had h = tt
-      stack_enter_says (Some Marked) mark ms had h = tt
-      stack_enter_says None mark ms had h = tt
+      stack_enter_says _ mark ms had h = tt

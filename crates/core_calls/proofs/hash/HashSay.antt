@@ -22,9 +22,8 @@ use Rattle.core_world.specs.Trees.MonitorSteps.{inflate_steps}
 use Rattle.core_world.specs.Trees.HashSteps.{NextDraw, find_hash_plan, draw_steps, hash_monitor_steps, hash_displaced_steps}
 use Rattle.core_world.specs.Trees.HashSteps.{hash_inflated, hash_inflate_steps, hash_unless, hash_mark_steps, hash_header_steps}
 use Rattle.core_calls.specs.Paths.{made, Always, entries_of, Leaves}
-use Rattle.core_calls.specs.Causes.{Loaded}
 use Rattle.core_calls.specs.CallsSay.{IsHeader, IsDraw}
-use Rattle.core_calls.proofs.Paths.{always_then, either_way, Silent, Still, still, now_logged, missed, missed_last}
+use Rattle.core_calls.proofs.Paths.{Saw, saw_load, always_then, either_way, Silent, Still, still, now_logged, missed, missed_last}
 use Rattle.core_calls.proofs.Reasons.{Reasons}
 use Rattle.core_calls.proofs.enter_exit.LocksSay.{zero_loaded}
 use Rattle.core_calls.proofs.monitor.MonitorsSay.{InflateProgress, inflate_says}
@@ -63,7 +62,7 @@ module _ (e : CallContext) (k : Start) (o : ℕ) (For : PendingCause → List St
   HashProgress ms (Pending why) = Leaves [] e.unfinished e.check ms × For why ms
 
   draw_says : (at : WordId) → IsHeader k.local.thread o at → (header : ℕ) (ms : List StepMade)
-      → Loaded at header ms → Silent e ms → Always HashProgress ms (draw_steps e (next_draw k) at o header)
+      → Saw at header ms → Silent e ms → Always HashProgress ms (draw_steps e (next_draw k) at o header)
   draw_says at named header ms loaded h = λ n.
       either_way HashProgress _ (n == header) _ _
       (λ hit. (
@@ -76,7 +75,8 @@ module _ (e : CallContext) (k : Start) (o : ℕ) (For : PendingCause → List St
   hash_monitor_says : (m : ℕ) (ms : List StepMade) → Still ms → Always HashProgress ms (hash_monitor_steps e (next_draw k) o m)
   hash_monitor_says m ms h = λ header.
       either_way HashProgress _ (hash_in header == 0) _ _
-      (λ none. draw_says (Header m) (inr (inr (m, refl))) header _ (inl (refl, refl, refl)) (none_found e (Header m) o header ms none h))
+      (λ none. draw_says (Header m) (inr (inr (m, refl))) header _ (saw_load (find_hash_plan e (Header m) o) header ms refl)
+      (none_found e (Header m) o header ms none h))
       (λ some. (None, (not_zero _ some, inl (inr (inr (m, refl)), refl, refl)), one_found e (Header m) o header ms some h))
 
   inflated_says : (ms : List StepMade) (progress : Progress ℕ) → InflateProgress e k.requesting k.local.thread o For may ms progress
@@ -107,7 +107,8 @@ module _ (e : CallContext) (k : Start) (o : ℕ) (For : PendingCause → List St
   )
   hash_at_says (Some (Neutral hash age)) s kept mark ms is h =
       either_way HashProgress _ (hash == 0) _ _
-      (λ none. draw_says (Mark o) (inl refl) mark _ (inl (refl, refl, refl)) (none_found e (Mark o) o mark ms (ap (λ f. hash_form f == 0) is ∙ none) h))
+      (λ none. draw_says (Mark o) (inl refl) mark _ (saw_load (find_hash_plan e (Mark o) o) mark ms refl)
+      (none_found e (Mark o) o mark ms (ap (λ f. hash_form f == 0) is ∙ none) h))
       (λ some. (
         None,
         (not_zero _ some, inl (inl refl, refl, ap hash_form is)),

@@ -1,7 +1,7 @@
 -- What the steps of inflation and of monitors say.
 use Rattle.std.proofs.Common.{◌≡◌, ℕ, ◌==◌, not, Bool, true, List, Option, Some, None, refl, ap, ◌∙◌, inl, inr, arith}
 use Rattle.mark_word.specs.declared.mark.MarkForm.{MarkForm}
-use Rattle.mark_word.specs.declared.mark.MarkForm.TheVariants.{Inflating, Neutral, Anonymous, Biased, Locked, Inflated, Marked}
+use Rattle.mark_word.specs.declared.mark.MarkForm.TheVariants.{Inflating, Neutral, Locked, Inflated}
 use Rattle.mark_word.specs.declared.owner.OwnerForm.{OwnerForm}
 use Rattle.mark_word.specs.declared.owner.OwnerForm.TheVariants.{Free, ByThread, ByRecord}
 use Rattle.mark_word.specs.Mark.{mark_of, read_mark}
@@ -18,21 +18,24 @@ use Rattle.core_world.specs.declared.answer.PendingCause.{PendingCause}
 use Rattle.core_world.specs.declared.answer.PendingCause.TheVariants as why
 use Rattle.core_world.specs.Threads.ThreadView.{Local, StepMade}
 use Rattle.core_world.specs.Words.Shape.{Shape}
-use Rattle.core_world.specs.Trees.Plans.{CallContext, with_own, store, done_with}
+use Rattle.core_world.specs.Trees.Plans.{CallContext, load, with_own, store, done_with}
 use Rattle.core_world.specs.Trees.StepTree.{◌>>=◌, ask}
 use Rattle.core_world.specs.Trees.MonitorSteps.{prepare_steps, inflate_locked, inflate_neutral, inflate_with, inflate_by}
 use Rattle.core_world.specs.Trees.MonitorSteps.{inflate_at, inflate_steps, record_steps, owned_steps, monitor_enter_at}
 use Rattle.core_world.specs.Trees.MonitorSteps.{monitor_enter_steps, own_steps, release_steps, monitor_exit_steps}
 use Rattle.core_calls.specs.Paths.{Always}
-use Rattle.core_calls.specs.Causes.{Found, Loaded, Cause, names_other, is_other_form}
-use Rattle.core_calls.proofs.Paths.{always_then, either_way, Silent, Still, IsQuiet, still, still_leaves, still_more, now_silent, now_logged, missed_last}
-use Rattle.core_calls.proofs.Spends.{Spend, spend_done, spend_never, quiet_step, spend_quietly}
+use Rattle.core_calls.specs.Causes.{Found, Cause, names_other, is_other_form}
+use Rattle.core_calls.proofs.Paths.{Saw, saw_load, always_then, either_way, Silent, Still, IsQuiet, still, still_leaves, still_more}
+use Rattle.core_calls.proofs.Paths.{now_silent, now_logged, missed_last}
+use Rattle.core_calls.proofs.Spends.{Spend, spend_done, spend_never, quiet_step, of_call, spend_quietly}
 use Rattle.core_calls.proofs.Reasons.{Reasons}
 use Rattle.core_calls.proofs.enter_exit.LocksSay.{zero_loaded, EnterProgress, held_says, Exited, leave_says, clear_says}
 
 pub prepare_spends : (e : CallContext) (stage : Stage) (o m header owner : ℕ) → Spend (IsQuiet e) (λ _. 0) 4 (prepare_steps e stage o m header owner)
 prepare_spends e stage o m header owner =
-    quiet_step refl refl refl (λ _. quiet_step refl refl refl (λ _. quiet_step refl refl refl (λ _. quiet_step refl refl refl (λ _. spend_done (omega arith)))))
+    quiet_step refl refl refl tt (λ _. of_call refl tt) (λ _. quiet_step refl refl refl tt (λ _. of_call refl tt)
+    (λ _. quiet_step refl refl refl tt (λ _. of_call refl tt)
+    (λ _. quiet_step refl refl refl tt (λ _. of_call refl tt) (λ _. spend_done (omega arith)))))
 
 module _ (e : CallContext) (requesting : Bool) (t o : ℕ) (For : PendingCause → List StepMade → Type 0) (may : Reasons requesting t o For) where
   -- nothing is logged; the number of the monitor, or the cause
@@ -40,7 +43,7 @@ module _ (e : CallContext) (requesting : Bool) (t o : ℕ) (For : PendingCause �
   InflateProgress ms (Done m) = Silent e ms
   InflateProgress ms (Pending why) = Silent e ms × For why ms
 
-  inflate_locked_says : (mark m thread place : ℕ) (ms : List StepMade) → Loaded (Mark o) mark ms
+  inflate_locked_says : (mark m thread place : ℕ) (ms : List StepMade) → Saw (Mark o) mark ms
       → Silent e ms → Always InflateProgress ms (inflate_locked e o mark m thread place)
   inflate_locked_says mark m thread place ms loaded h = λ n.
       let silent = still_leaves _ n ms refl refl refl h in
@@ -51,44 +54,38 @@ module _ (e : CallContext) (requesting : Bool) (t o : ℕ) (For : PendingCause �
       (λ ms _ s n. still_leaves _ n ms refl refl refl s))
       (λ miss. (silent, may.races mark n _ (missed_last _ n ms mark _ refl miss loaded)))
 
-  inflate_neutral_says : (mark m : ℕ) (ms : List StepMade) → Loaded (Mark o) mark ms → Silent e ms → Always InflateProgress ms (inflate_neutral e o mark m)
+  inflate_neutral_says : (mark m : ℕ) (ms : List StepMade) → Saw (Mark o) mark ms → Silent e ms
+      → Always InflateProgress ms (inflate_neutral e o mark m)
   inflate_neutral_says mark m ms loaded h = λ a b c d n.
       let prepared = still_leaves _ d _ refl refl refl
       (still_leaves _ c _ refl refl refl (still_leaves _ b _ refl refl refl (still_leaves _ a ms refl refl refl h))) in
       let silent = still_leaves _ n _ refl refl refl prepared in
       either_way InflateProgress _ (n == mark) _ _ (λ hit. silent)
-      (λ miss. (silent, may.races mark n _ (missed_last _ n _ mark _ refl miss (inr (inr (inr (inr loaded)))))))
+      (λ miss. (silent, may.races mark n _ (missed_last _ n _ mark _ refl miss (inr (inr (inr (inr loaded.0))), loaded.1))))
 
   inflate_with_says : (form : Option MarkForm) (mark m : ℕ) (ms : List StepMade)
-      → Loaded (Mark o) mark ms → Silent e ms → Always InflateProgress ms (inflate_with form e o mark m)
+      → Saw (Mark o) mark ms → Silent e ms → Always InflateProgress ms (inflate_with form e o mark m)
   inflate_with_says (Some (Locked thread place)) mark m ms loaded h = inflate_locked_says mark m thread place ms loaded h
   inflate_with_says (Some (Neutral hash age)) mark m ms loaded h = inflate_neutral_says mark m ms loaded h
-  inflate_with_says (Some Inflating) mark m ms loaded h = tt
-  inflate_with_says (Some (Anonymous epoch age)) mark m ms loaded h = tt
-  inflate_with_says (Some (Biased thread epoch age)) mark m ms loaded h = tt
-  inflate_with_says (Some (Inflated monitor)) mark m ms loaded h = tt
-  inflate_with_says (Some Marked) mark m ms loaded h = tt
-  inflate_with_says None mark m ms loaded h = tt
+  inflate_with_says _ mark m ms loaded h = tt
 
   inflate_by_says : (s : Shape) (kept : Option ℕ) (mark : ℕ) (ms : List StepMade)
-      → Loaded (Mark o) mark ms → Silent e ms → Always InflateProgress ms (inflate_by kept s e o mark)
+      → Saw (Mark o) mark ms → Silent e ms → Always InflateProgress ms (inflate_by kept s e o mark)
   inflate_by_says s (Some m) mark ms loaded h = inflate_with_says (read_mark mark) mark m ms loaded h
   inflate_by_says s None mark ms loaded h = λ position m.
-      inflate_with_says (read_mark mark) mark m _ (inr (inr loaded)) (still_leaves _ m _ refl refl refl (still_leaves _ position ms refl refl refl h))
+      inflate_with_says (read_mark mark) mark m _ (inr (inr loaded.0), loaded.1)
+      (still_leaves _ m _ refl refl refl (still_leaves _ position ms refl refl refl h))
 
   inflate_at_says : (form : Option MarkForm) (s : Shape) (kept : Option ℕ) (mark : ℕ) (ms : List StepMade)
-      → read_mark mark ≡ form → Loaded (Mark o) mark ms → Silent e ms → Always InflateProgress ms (inflate_at form s e kept o mark)
-  inflate_at_says (Some Inflating) s kept mark ms is loaded h = (h, may.inflates ms (zero_loaded (Mark o) ms mark is loaded))
+      → read_mark mark ≡ form → Saw (Mark o) mark ms → Silent e ms → Always InflateProgress ms (inflate_at form s e kept o mark)
+  inflate_at_says (Some Inflating) s kept mark ms is loaded h = (h, may.inflates ms (zero_loaded (Mark o) ms mark is loaded.0))
   inflate_at_says (Some (Inflated monitor)) s kept mark ms is loaded h = h
-  inflate_at_says (Some (Neutral hash age)) s kept mark ms is loaded h = inflate_by_says s kept mark ms loaded h
-  inflate_at_says (Some (Anonymous epoch age)) s kept mark ms is loaded h = inflate_by_says s kept mark ms loaded h
-  inflate_at_says (Some (Biased thread epoch age)) s kept mark ms is loaded h = inflate_by_says s kept mark ms loaded h
-  inflate_at_says (Some (Locked thread place)) s kept mark ms is loaded h = inflate_by_says s kept mark ms loaded h
-  inflate_at_says (Some Marked) s kept mark ms is loaded h = inflate_by_says s kept mark ms loaded h
-  inflate_at_says None s kept mark ms is loaded h = inflate_by_says s kept mark ms loaded h
+  inflate_at_says _ s kept mark ms is loaded h = inflate_by_says s kept mark ms loaded h
 
   pub inflate_says : (s : Shape) (kept : Option ℕ) (ms : List StepMade) → Still ms → Always InflateProgress ms (inflate_steps s e kept o)
-  inflate_says s kept ms h = λ mark. inflate_at_says (read_mark mark) s kept mark _ refl (inl (refl, refl, refl)) (now_silent e _ mark ms refl refl refl refl h)
+  inflate_says s kept ms h =
+      λ mark. inflate_at_says (read_mark mark) s kept mark _ refl (saw_load (load e (Mark o)) mark ms refl)
+      (now_silent e _ mark ms refl refl refl refl h)
 
 module _ (e : CallContext) (k : Local) (o : ℕ) (For : PendingCause → List StepMade → Type 0)
     (owns : (word : ℕ) (ms : List StepMade) → Cause k.thread o (why.Owned word) ms → For (why.Owned word) ms) where
@@ -118,7 +115,9 @@ module _ (e : CallContext) (k : Local) (o : ℕ) (For : PendingCause → List St
 
 -- what stands between the owner's load and the recursions'
 pub own_spends : (form : Option OwnerForm) (e : CallContext) (k : Local) (o m : ℕ) → Spend (IsQuiet e) (λ _. 0) 2 (own_steps form e k o m)
-own_spends (Some (ByRecord thread place)) e k o m = quiet_step refl refl refl (λ _. quiet_step refl refl refl (λ _. spend_done (omega arith)))
+own_spends (Some (ByRecord thread place)) e k o m =
+    quiet_step refl refl refl tt (λ _. of_call refl tt) (λ _. quiet_step refl refl refl tt (λ _. of_call refl tt)
+    (λ _. spend_done (omega arith)))
 own_spends (Some (ByThread thread)) e k o m = spend_done (omega arith)
 own_spends (Some Free) e k o m = spend_never
 own_spends None e k o m = spend_never

@@ -19,7 +19,9 @@ use Rattle.core_world.specs.Trees.SafepointSteps.{then_reached, safepoint_steps,
 use Rattle.core_calls.specs.Paths.{made, Always, Leaves}
 use Rattle.core_calls.specs.Causes.{AmongSteps, AmongAfter, Found, Loaded, Put, Missed, Requests, Caused, is_stopping, of_polls, of_resumes}
 use Rattle.core_calls.specs.CallsSay.{Resumes, IsReached}
-use Rattle.core_calls.proofs.Paths.{always_then, either_way, Silent, Still, still, still_leaves, now_silent, still_logged, missed, missed_last, put_last}
+use Rattle.core_calls.proofs.Paths.{Saw, saw_load, missed_loaded, missed_seen, always_so, always_then, either_way, Silent, Still}
+use Rattle.core_calls.proofs.Paths.{still, still_leaves, now_silent, still_logged, missed, missed_last, put_last}
+use Rattle.core_calls.proofs.Reasons.{ProgressSees}
 
 module _ (e : CallContext) (t : ℕ) where
   -- a poll is done exactly where the word has no requester
@@ -49,37 +51,49 @@ module _ (e : CallContext) (k : Local) where
   Resumed ms (Done x) = Silent e ms × Resumes k.thread ms
   Resumed ms (Pending why) = Silent e ms × Caused of_resumes k.thread 0 why ms
 
+  abbrev pub ResumeTells : List StepMade → Progress (Unit {0}) → Type 0
+  ResumeTells ms progress = Resumed ms progress × ProgressSees ms progress
+
   -- what the word bars, it bars for this cause
   barred : (word : ℕ) (d : StepTree (Progress (Unit {0}))) (ms : List StepMade) → Silent e ms → Found Safepoint word ms
-      → (is_halted word ≡ false → has_requester word ≡ false → Always Resumed ms d) → Always Resumed ms (unless (bar word) d)
+      → (is_halted word ≡ false → has_requester word ≡ false → Always ResumeTells ms d) → Always ResumeTells ms (unless (bar word) d)
   barred word d ms h there go = by_halt (is_halted word) (has_requester word) refl refl
     where
       by_halt : (halted asks : Bool) → is_halted word ≡ halted → has_requester word ≡ asks
-          → Always Resumed ms (unless (cond halted (Some why.Halted) (cond asks (Some (why.Requested word)) None)) d)
-      by_halt true asks so r = (h, record { among = refl; cause = (word, so, there) })
-      by_halt false true so r = (h, record { among = refl; cause = (r, there) })
+          → Always ResumeTells ms (unless (cond halted (Some why.Halted) (cond asks (Some (why.Requested word)) None)) d)
+      by_halt true asks so r = ((h, record { among = refl; cause = (word, so, there) }), tt)
+      by_halt false true so r = ((h, record { among = refl; cause = (r, there) }), tt)
       by_halt false false so r = go so r
 
   resume_swap_says : (word : ℕ) (ms : List StepMade) → is_halted word ≡ false → has_requester word ≡ false
-      → Loaded Safepoint word ms → Silent e ms → Always Resumed ms (resume_swap_steps e k word)
+      → Saw Safepoint word ms → Silent e ms → Always ResumeTells ms (resume_swap_steps e k word)
   resume_swap_says word ms going none loaded h = λ n.
       let silent = still_leaves _ n ms refl refl refl h in
-      either_way Resumed _ (n == word) _ _
+      either_way ResumeTells _ (n == word) _ _
       (λ hit. let same = eqb-true n word hit in (
-        silent,
-        inl (
-          refl,
-          ap (λ (w : ℕ). CompareExchange w (running_too (read_safe w) k.thread)) (sym same),
-          ap is_halted same ∙ going,
-          ap has_requester same ∙ none,
+        (
+          silent,
+          inl (
+            refl,
+            ap (λ (w : ℕ). CompareExchange w (running_too (read_safe w) k.thread)) (sym same),
+            ap is_halted same ∙ going,
+            ap has_requester same ∙ none,
+          ),
         ),
+        tt,
       ))
-      (λ miss. barred n _ _ silent (inl (refl, refl)) (λ _ _. (silent, record { among = refl; cause = missed_last _ n ms word _ refl miss loaded })))
+      (λ miss. barred n _ _ silent (inl (refl, refl)) (λ _ _.
+      let race =
+      missed_last _ n ms word _ refl miss loaded in ((silent, record { among = refl; cause = missed_loaded _ race }), missed_seen _ race)))
+
+  pub resume_tells : (ms : List StepMade) → Still ms → Always ResumeTells ms (resume_steps e k)
+  resume_tells ms h = λ word.
+      let silent = now_silent e _ word ms refl refl refl refl h in
+      barred word (resume_swap_steps e k word) _ silent (inl (refl, refl))
+      (λ going none. resume_swap_says word _ going none (saw_load (load e Safepoint) word ms refl) silent)
 
   pub resume_says : (ms : List StepMade) → Still ms → Always Resumed ms (resume_steps e k)
-  resume_says ms h = λ word.
-      let silent = now_silent e _ word ms refl refl refl refl h in
-      barred word (resume_swap_steps e k word) _ silent (inl (refl, refl)) (λ going none. resume_swap_says word _ going none (inl (refl, refl, refl)) silent)
+  resume_says ms h = always_so ResumeTells Resumed (resume_steps e k) ms (resume_tells ms h) (λ ms a x. x.0)
 
 module _ (e : CallContext) (t : ℕ) (For : PendingCause → List StepMade → Type 0) where
   -- Nothing is logged. A check is unfinished only where the request stands.
@@ -92,9 +106,9 @@ module _ (e : CallContext) (t : ℕ) (For : PendingCause → List StepMade → T
   Asked ms (Done x) = Silent e ms × Requests t ms
   Asked ms (Pending why) = Leaves [] e.unfinished (cond (is_stopping why) e.check false) ms × For why ms
 
-  module _ (races : (expected found : ℕ) (ms : List StepMade) → Missed Loaded expected found ms → For (why.Raced expected found) ms)
+  module _ (races : (expected found : ℕ) (ms : List StepMade) → Missed Saw expected found ms → For (why.Raced expected found) ms)
       (asks : (word : ℕ) (ms : List StepMade) → has_requester word ≡ true → Found Safepoint word ms → For (why.Requested word) ms) where
-    request_swap_says : (word : ℕ) (ms : List StepMade) → has_requester word ≡ false → Loaded Safepoint word ms
+    request_swap_says : (word : ℕ) (ms : List StepMade) → has_requester word ≡ false → Saw Safepoint word ms
         → Leaves [] e.unfinished false ms → Always Asked ms (request_swap_steps e t word)
     request_swap_says word ms free loaded h = λ n.
         either_way Asked _ (n == word) _ _
@@ -111,7 +125,7 @@ module _ (e : CallContext) (t : ℕ) (For : PendingCause → List StepMade → T
         let silent = now_silent (record e { check = false }) _ word ms refl refl refl refl h in
         either_way Asked _ (has_requester word) _ _
         (λ other. (silent, asks word _ other (inl (refl, refl))))
-        (λ none. request_swap_says word _ none (inl (refl, refl, refl)) silent)
+        (λ none. request_swap_says word _ none (saw_load (load (record e { check = false }) Safepoint) word ms refl) silent)
 
   module _ (requesting : Bool) (stops : (word : ℕ) (ms : List StepMade) → is_still word ≡ false
       → Loaded Safepoint word ms → (requesting ≡ true) ⊎ Requests t ms → For (why.Stopping word) ms) where
@@ -133,7 +147,7 @@ module _ (e : CallContext) (t : ℕ) (For : PendingCause → List StepMade → T
 
     -- the request is made only where none stands
     pub safepoint_says : (requesting ≡ false → (expected found : ℕ) (ms : List StepMade)
-        → Missed Loaded expected found ms → For (why.Raced expected found) ms)
+        → Missed Saw expected found ms → For (why.Raced expected found) ms)
         → (requesting ≡ false → (word : ℕ) (ms : List StepMade) → has_requester word ≡ true → Found Safepoint word ms → For (why.Requested word) ms)
         → (ms : List StepMade) → Still ms → Always SafeProgress ms (safepoint_steps e t requesting)
     safepoint_says races asks ms h =

@@ -1,7 +1,7 @@
 -- Whether any thread can go on, by the words that a check loads.
 use Rattle.std.proofs.Common.{◌≡◌, ℕ, zero, suc, ◌+◌, ◌&&◌, Bool, true, false, List, [], ◌∷◌, length, Option, Some, None, refl, inl, inr, arith}
 use Rattle.mark_word.specs.declared.mark.MarkForm.{MarkForm}
-use Rattle.mark_word.specs.declared.mark.MarkForm.TheVariants.{Inflating, Neutral, Anonymous, Biased, Locked, Inflated, Marked}
+use Rattle.mark_word.specs.declared.mark.MarkForm.TheVariants.{Inflated}
 use Rattle.mark_word.specs.declared.wait.WaitForm.{WaitForm}
 use Rattle.mark_word.specs.declared.wait.WaitForm.TheVariants as wait
 use Rattle.mark_word.specs.Mark.{read_mark}
@@ -38,12 +38,9 @@ owner_stays o t on m ms g = record {
 }
 
 wait_stays : (form : Option WaitForm) (t : ℕ) (on : Option Bool) (m : StepMade) (ms : List StepMade) → GoesByWait form t ms on → GoesByWait form t (m ∷ ms) on
-wait_stays (Some wait.Ready) t on m ms g = g
 wait_stays (Some (wait.Entering object)) t on m ms g = owner_stays object t on m ms g
-wait_stays (Some (wait.Waiting object stamp)) t on m ms g = g
 wait_stays (Some (wait.Notified object)) t on m ms g = owner_stays object t on m ms g
-wait_stays (Some wait.Ended) t on m ms g = g
-wait_stays None t on m ms g = g
+wait_stays _ t on m ms g = g
 
 goes_stays : (t : ℕ) (on : Option Bool) (m : StepMade) (ms : List StepMade) → Goes t ms on → Goes t (m ∷ ms) on
 goes_stays t on m ms g = (g.0, inr g.1, wait_stays (read_wait g.0) t on m ms g.2)
@@ -58,24 +55,16 @@ module _ (e : CallContext) where
       → Loaded (Mark o) mark ms → Always (GoesByOwner o t) ms (look_at_monitor form e t)
   monitor_goes (Some (Inflated monitor)) o t mark ms is loaded = λ owner.
       record { mark = mark; monitor = monitor; owner = owner; names = is; mark_loaded = inr loaded; owner_loaded = inl (refl, refl, refl); so = refl }
-  monitor_goes (Some Inflating) o t mark ms is loaded = tt
-  monitor_goes (Some (Neutral hash age)) o t mark ms is loaded = tt
-  monitor_goes (Some (Anonymous epoch age)) o t mark ms is loaded = tt
-  monitor_goes (Some (Biased thread epoch age)) o t mark ms is loaded = tt
-  monitor_goes (Some (Locked thread place)) o t mark ms is loaded = tt
-  monitor_goes (Some Marked) o t mark ms is loaded = tt
-  monitor_goes None o t mark ms is loaded = tt
+  monitor_goes _ o t mark ms is loaded = tt
 
   object_goes : (o t : ℕ) (ms : List StepMade) → Always (GoesByOwner o t) ms (look_at_object e t o)
   object_goes o t ms = λ mark. monitor_goes (read_mark mark) o t mark _ refl (inl (refl, refl, refl))
 
   wait_goes : (form : Option WaitForm) (t : ℕ) (ms : List StepMade) → Always (GoesByWait form t) ms (look_at_wait form e t)
-  wait_goes (Some wait.Ready) t ms = refl
   wait_goes (Some (wait.Entering object)) t ms = object_goes object t ms
-  wait_goes (Some (wait.Waiting object stamp)) t ms = refl
   wait_goes (Some (wait.Notified object)) t ms = object_goes object t ms
-  wait_goes (Some wait.Ended) t ms = refl
   wait_goes None t ms = tt
+  wait_goes _ t ms = refl
 
   -- a thread, and all of them from t on
   abbrev look_at : ℕ → StepTree (Option Bool)

@@ -1,18 +1,10 @@
 -- A dump that is done keeps one shot, and any other keeps none.
-use Rattle.std.proofs.Common.{◌≡◌, ℕ, zero, suc, ◌+◌, ◌*◌, ◌==◌, cond, Bool, true, false, List, [], ◌∷◌, length}
-use Rattle.std.proofs.Common.{Option, Some, None, Result, Ok, Err, refl, sym, ap, ◌∙◌, subst, arith, ◌++◌}
-use Rattle.mark_word.specs.declared.mark.MarkForm.{MarkForm}
-use Rattle.mark_word.specs.declared.mark.MarkForm.TheVariants.{Inflating, Neutral, Anonymous, Biased, Locked, Inflated, Marked}
-use Rattle.mark_word.specs.declared.owner.OwnerForm.{OwnerForm}
-use Rattle.mark_word.specs.declared.owner.OwnerForm.TheVariants.{Free, ByThread, ByRecord}
-use Rattle.mark_word.specs.Mark.{read_mark}
-use Rattle.mark_word.specs.Owner.{read_owner}
-use Rattle.plain_monitor.specs.Limits.{most_holds}
+use Rattle.std.proofs.Common.{◌≡◌, ℕ, zero, suc, ◌+◌, ◌==◌, cond, Bool, true, false, List, [], ◌∷◌, length}
+use Rattle.std.proofs.Common.{Result, Ok, Err, refl, sym, ap, ◌∙◌, subst, arith, ◌++◌}
 use Rattle.plain_monitor.specs.declared.entry.Entry.TheVariants as entry
 use Rattle.core_world.specs.declared.plan.LocalEffect.{LocalEffect}
 use Rattle.core_world.specs.declared.plan.LocalEffect.TheVariants as own
 use Rattle.core_world.specs.declared.plan.StepPlan.{StepPlan}
-use Rattle.core_world.specs.declared.word_id.WordId.TheVariants.{Hold}
 use Rattle.core_world.specs.declared.stage.Stage.TheVariants.{Settled}
 use Rattle.core_world.specs.declared.heap_call.Operation.TheVariants as op
 use Rattle.core_world.specs.declared.heap_call.HeapCall.TheVariants as task
@@ -22,33 +14,30 @@ use Rattle.core_world.specs.declared.answer.PendingCause.{PendingCause}
 use Rattle.core_world.specs.declared.answer.Progress.TheVariants.{Done, Pending}
 use Rattle.core_world.specs.Words.Acts.{hits}
 use Rattle.core_world.specs.Due.{Ran}
-use Rattle.core_world.specs.Words.Forms.{epoch_in, is_still}
+use Rattle.core_world.specs.Words.Forms.{is_still}
 use Rattle.core_world.specs.Threads.ThreadView.{ThreadView, StepMade, Start, DumpShot}
 use Rattle.core_world.specs.Trees.DeflateSteps.{deflate_steps}
-use Rattle.core_world.specs.Trees.LookSteps.{look_at_holds, look_at_owner, look_at_named, look_at_objects, take_shot_steps}
+use Rattle.core_world.specs.Trees.LookSteps.{look_at_objects, take_shot_steps}
 use Rattle.core_world.specs.Trees.Operations.{and_then, answer, dump_going, dump_steps}
-use Rattle.core_world.specs.Locks.{has_epoch}
-use Rattle.core_world.specs.Trees.Plans.{CallContext, load, done_with}
+use Rattle.core_world.specs.Trees.Plans.{CallContext, done_with}
 use Rattle.core_world.specs.Trees.SafepointSteps.{has_requester, reached_word, request_steps, reached_steps, then_reached, safepoint_steps, release_safepoint}
 use Rattle.core_world.specs.Words.Shape.{Shape}
 use Rattle.core_world.specs.Steps.{shot_of, shots_after, known_hit, known_miss, known_along}
-use Rattle.core_world.specs.Trees.StepTree.{StepTree, done, unreachable, step, ◌>>=◌, ask}
+use Rattle.core_world.specs.Trees.StepTree.{StepTree, done, unreachable, step, ◌>>=◌}
 use Rattle.core_world.specs.Trees.WaitSteps.{publish_steps}
 use Rattle.core_calls.specs.Paths.{made, Always}
 use Rattle.core_calls.specs.Bounds.{a_deflation}
 use Rattle.core_calls.specs.CallsSay.{unfinished_on}
 use Rattle.core_calls.proofs.Paths.{always_then, either_way}
+use Rattle.core_calls.proofs.Stays.{Whatever}
 use Rattle.core_calls.proofs.Spends.{Spends, Spend, spend_done, spend_never, spend_more, spend_step}
-use Rattle.core_calls.proofs.Spends.{spend_either, spend_then, spend_leaving, spend_all, spend_class}
+use Rattle.core_calls.proofs.Spends.{spend_either, spend_then, spend_leaving, spend_so}
 use Rattle.core_calls.proofs.deflation.DeflationSpends.{each_spends}
+use Rattle.core_calls.proofs.safepoint.LookSpends.{one_shot, IsLook, objects_spend, lengths_spend}
 use Rattle.core_calls.proofs.OperationsSay.{working}
 use Rattle.core_calls.proofs.Runs.{on_path, knows}
 
 -- how many shots these steps keep
-abbrev one_shot : LocalEffect → ℕ
-one_shot own.TakeShot = 1
-one_shot _ = 0
-
 abbrev kept_shots : List StepMade → ℕ
 kept_shots [] = 0
 kept_shots (m ∷ ms) = cond (hits m.plan.act m.found) (one_shot m.plan.own) 0 + kept_shots ms
@@ -68,51 +57,29 @@ still_kept p n z ms none h = by_hit (hits p.act n)
     by_hit true = omega (arith, none, h)
     by_hit false = omega (arith, h)
 
-plainly : {A : Type 0} (rest : A → ℕ) (d : StepTree A) (n z : ℕ) (ms : List StepMade) → Spends IsPlain rest n d → kept_shots ms ≡ z
-    → Always (λ ms _. kept_shots ms ≡ z) ms d
-plainly rest (done a) n z ms h s = s
-plainly rest unreachable n z ms h s = tt
-plainly rest (step p f) zero z ms h s = absurd h
-plainly rest (step p f) (suc n) z ms h s = λ w. plainly rest (f w) n z (made p w ∷ ms) (h.1 w) (still_kept p w z ms h.0.none s)
+plainly : {A : Type 0} (rest : A → ℕ) (R : A → Type 0) (d : StepTree A) (n z : ℕ) (ms : List StepMade) → Spends IsPlain rest R n d
+    → kept_shots ms ≡ z → Always (λ ms _. kept_shots ms ≡ z) ms d
+plainly rest R (done a) n z ms h s = s
+plainly rest R unreachable n z ms h s = tt
+plainly rest R (step p f) zero z ms h s = absurd h
+plainly rest R (step p f) (suc n) z ms h s = λ w. plainly rest R (f w) n z (made p w ∷ ms) (h.1 w) (still_kept p w z ms h.0.none s)
 
 none_kept : {A : Type 0} {rest : A → ℕ} {d : StepTree A} {n : ℕ} (z : ℕ) (ms : List StepMade) → Spend IsPlain rest n d → kept_shots ms ≡ z
     → Always (λ ms _. kept_shots ms ≡ z) ms d
-none_kept {A} {rest} {d} {n} z ms h s = plainly rest d n z ms h.by s
+none_kept {A} {rest} {d} {n} z ms h s = plainly rest Whatever d n z ms h.by s
+
+looks_keep : {A : Type 0} {rest : A → ℕ} {d : StepTree A} {n : ℕ} {e : CallContext} (z : ℕ) (ms : List StepMade) → Spend (IsLook e) rest n d
+    → kept_shots ms ≡ z → Always (λ ms _. kept_shots ms ≡ z) ms d
+looks_keep z ms h s = none_kept z ms (spend_so (λ p look. record { none = look.none }) h) s
 
 module _ (e : CallContext) where
-  hold_plain : (t p : ℕ) → Spend IsPlain (λ _. 0) 1 (ask (load e (Hold t p)) >>= λ _. done (tt {0}))
-  hold_plain t p = plain {n = 0} refl (λ _. spend_done (omega arith))
-
-  holds_plain : (t : ℕ) → Spend IsPlain (λ _. 0) 64 (look_at_holds e t)
-  holds_plain t = spend_all {n = 1} 0 most_holds (hold_plain t)
-
-  owner_plain : (form : Option OwnerForm) → Spend IsPlain (λ _. 0) 64 (look_at_owner form e)
-  owner_plain (Some (ByThread thread)) = holds_plain thread
-  owner_plain (Some (ByRecord thread place)) = holds_plain thread
-  owner_plain (Some Free) = spend_done (omega arith)
-  owner_plain None = spend_done (omega arith)
-
-  after_plain : (s : Shape) (o : ℕ) (form : Option MarkForm) → Spend IsPlain (λ _. 0) 66 (look_at_named form e s o)
-  after_plain s o (Some (Biased thread epoch age)) =
-      spend_class {n = 65} e Settled s o (record { none = refl }) (λ class. plain {n = 64} refl (λ prototype.
-      spend_either (has_epoch (epoch_in prototype) epoch) (holds_plain thread) (spend_done (omega arith))))
-  after_plain s o (Some (Locked thread place)) = spend_more (omega arith) (holds_plain thread)
-  after_plain s o (Some (Inflated monitor)) = spend_more {n = 65} (omega arith) (plain {n = 64} refl (λ owner. owner_plain (read_owner owner)))
-  after_plain s o (Some Inflating) = spend_done (omega arith)
-  after_plain s o (Some (Neutral hash age)) = spend_done (omega arith)
-  after_plain s o (Some (Anonymous epoch age)) = spend_done (omega arith)
-  after_plain s o (Some Marked) = spend_done (omega arith)
-  after_plain s o None = spend_done (omega arith)
-
-  objects_plain : (s : Shape) → Spend IsPlain (λ _. 0) (length s.objects * 67) (look_at_objects e s)
-  objects_plain s = spend_all {n = 67} 0 (length s.objects) (λ o. plain {n = 66} refl (λ mark. after_plain s o (read_mark mark)))
-
   -- the last step of a shot keeps it
   shot_kept : (s : Shape) (ms : List StepMade) → kept_shots ms ≡ 0 → Always (λ ms _. kept_shots ms ≡ 1) ms (take_shot_steps e s)
   shot_kept s ms h =
-      always_then (λ ms _. kept_shots ms ≡ 0) (λ ms _. kept_shots ms ≡ 1) (look_at_objects e s) _ ms (none_kept 0 ms (objects_plain s) h) (λ ms _ h.
-      always_then (λ ms _. kept_shots ms ≡ 0) (λ ms _. kept_shots ms ≡ 1) _ _ ms
-      (none_kept 0 ms (spend_all {n = 1} 0 s.threads (λ t. plain {n = 0} refl (λ _. spend_done (omega arith)))) h) (λ ms _ h n. omega (arith, h)))
+      always_then (λ ms _. kept_shots ms ≡ 0) (λ ms _. kept_shots ms ≡ 1) (look_at_objects e s) _ ms (looks_keep 0 ms (objects_spend e s) h)
+      (λ ms _ h.
+      always_then (λ ms _. kept_shots ms ≡ 0) (λ ms _. kept_shots ms ≡ 1) _ _ ms (looks_keep 0 ms (lengths_spend e s) h)
+      (λ ms _ h n. omega (arith, h)))
 
   reached_plain : Spend IsPlain (λ _. 0) 1 (reached_steps e)
   reached_plain = plain {n = 0} refl (λ word. spend_either (is_still word) (spend_done (omega arith)) (spend_done (omega arith)))
@@ -131,7 +98,7 @@ module _ (e : CallContext) where
 
   deflation_plain : (s : Shape) → Spend IsPlain (λ _. 0) (a_deflation s) (deflate_steps s e Settled)
   deflation_plain s =
-      each_spends s e Settled (λ at. record { none = refl }) (λ o m header. record { none = refl }) (λ at. record { none = refl })
+      each_spends s e Settled (λ at. record { none = refl }) (λ o m header. record { none = refl }) (λ at apart. record { none = refl })
       (λ end m. record { none = refl }) (λ end. record { none = refl })
 
   release_plain : (t : ℕ) → Spend IsPlain (λ _. 0) 1 (release_safepoint e t)

@@ -1,7 +1,7 @@
 -- What the steps of wait and notify say.
 use Rattle.std.proofs.Common.{◌≡◌, ℕ, ◌+◌, ◌==◌, not, Bool, true, List, [], ◌∷◌, ◌++◌, length, Option, Some, None, refl, ap, ◌∙◌, subst, inl, arith}
 use Rattle.mark_word.specs.declared.mark.MarkForm.{MarkForm}
-use Rattle.mark_word.specs.declared.mark.MarkForm.TheVariants.{Inflating, Neutral, Anonymous, Biased, Locked, Inflated, Marked}
+use Rattle.mark_word.specs.declared.mark.MarkForm.TheVariants.{Inflated}
 use Rattle.mark_word.specs.declared.owner.OwnerForm.{OwnerForm}
 use Rattle.mark_word.specs.declared.owner.OwnerForm.TheVariants.{Free, ByThread, ByRecord}
 use Rattle.mark_word.specs.declared.wait.WaitForm.{WaitForm}
@@ -28,7 +28,7 @@ use Rattle.core_calls.specs.Paths.{made, Always, Leaves}
 use Rattle.core_calls.specs.Causes.{Found, Loaded, Caused, is_other_form, is_waiting_form}
 use Rattle.core_calls.proofs.Paths.{always_then, either_way, Silent, Still, Logs, IsQuiet, still}
 use Rattle.core_calls.proofs.Paths.{still_leaves, still_more, now_silent, now_logged, still_logged}
-use Rattle.core_calls.proofs.Spends.{Spend, spend_done, spend_more, spend_each, quiet_step, spend_quietly}
+use Rattle.core_calls.proofs.Spends.{Spend, spend_done, spend_more, spend_each, quiet_step, of_call, spend_quietly}
 use Rattle.core_calls.proofs.monitor.MonitorsSay.{own_spends}
 
 module _ (e : CallContext) (k : Local) (o : ℕ) where
@@ -72,23 +72,14 @@ module _ (e : CallContext) (t o : ℕ) (may_be : PendingCause → Bool) (notifie
       → Leaves es e.unfinished e.check ms → Always ResumeProgress ms (resume_mark_at form e t saved o)
   resume_mark_says (Some (Inflated m)) saved ms h =
       λ found. resume_owner_at_says (read_owner found) saved m found _ refl (inl (refl, refl)) (still_leaves _ found ms refl refl refl h)
-  resume_mark_says (Some Inflating) saved ms h = tt
-  resume_mark_says (Some (Neutral hash age)) saved ms h = tt
-  resume_mark_says (Some (Anonymous epoch age)) saved ms h = tt
-  resume_mark_says (Some (Biased thread epoch age)) saved ms h = tt
-  resume_mark_says (Some (Locked thread place)) saved ms h = tt
-  resume_mark_says (Some Marked) saved ms h = tt
-  resume_mark_says None saved ms h = tt
+  resume_mark_says _ saved ms h = tt
 
   resume_at_says : (form : Option WaitForm) (saved word : ℕ) (ms : List StepMade) → read_wait word ≡ form
       → Loaded (Waiting t) word ms → Leaves es e.unfinished e.check ms → Always ResumeProgress ms (resume_at form e t saved o word)
   resume_at_says (Some (wait.Waiting object stamp)) saved word ms is loaded h = (h, record { among = notified word; cause = (ap is_waiting_form is, loaded) })
   resume_at_says (Some (wait.Notified object)) saved word ms is loaded h =
       λ mark. resume_mark_says (read_mark mark) saved _ (still_leaves _ mark ms refl refl refl h)
-  resume_at_says (Some wait.Ready) saved word ms is loaded h = tt
-  resume_at_says (Some (wait.Entering object)) saved word ms is loaded h = tt
-  resume_at_says (Some wait.Ended) saved word ms is loaded h = tt
-  resume_at_says None saved word ms is loaded h = tt
+  resume_at_says _ saved word ms is loaded h = tt
 
   pub monitor_resume_says : (saved : ℕ) (ms : List StepMade) → Logs es ms → Always ResumeProgress ms (monitor_resume_steps e t saved o)
   monitor_resume_says saved ms h =
@@ -96,7 +87,9 @@ module _ (e : CallContext) (t o : ℕ) (may_be : PendingCause → Bool) (notifie
 
 -- all waiting words are looked at; there are as many as threads
 pub look_spends : (e : CallContext) (n left : ℕ) → Spend (IsQuiet e) (λ words. length words + left) (n + n + left) (look_steps e n)
-look_spends e n left = spend_more (omega arith) (spend_each {n = 1} 0 n left (λ t. quiet_step {n = 0} refl refl refl (λ _. spend_done (omega arith))))
+look_spends e n left =
+    spend_more (omega arith) (spend_each {n = 1} 0 n left (λ t. quiet_step {n = 0} refl refl refl tt (λ _. of_call refl tt)
+    (λ _. spend_done (omega arith))))
 
 module _ (e : CallContext) (k : Local) where
   pub publish_says : (told : Entry) (ms : List StepMade) → Still ms → Always (λ ms _. Leaves (told ∷ []) None e.check ms) ms (publish_steps told e k)

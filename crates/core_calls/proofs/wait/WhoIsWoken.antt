@@ -1,7 +1,7 @@
 -- Whom a notify wakes, by the words that it loads.
-use Rattle.std.proofs.Common.{◌≡◌, ℕ, zero, suc, ◌+◌, ◌==◌, List, [], ◌∷◌, length, Option, Some, None, Ok, refl, ap, ◌∙◌, sym, inl, inr, arith}
+use Rattle.std.proofs.Common.{◌≡◌, ℕ, zero, suc, ◌+◌, ◌==◌, List, [], ◌∷◌, length, Option, Some, Ok, refl, ap, ◌∙◌, sym, inl, inr, arith}
 use Rattle.mark_word.specs.declared.mark.MarkForm.{MarkForm}
-use Rattle.mark_word.specs.declared.mark.MarkForm.TheVariants.{Inflating, Neutral, Anonymous, Biased, Locked, Inflated, Marked}
+use Rattle.mark_word.specs.declared.mark.MarkForm.TheVariants.{Locked, Inflated}
 use Rattle.mark_word.specs.Mark.{read_mark}
 use Rattle.core_world.specs.declared.word_id.WordId.TheVariants.{Mark, Waiting}
 use Rattle.core_world.specs.declared.heap_call.Operation.TheVariants as op
@@ -92,17 +92,12 @@ module _ (s : Shape) (e : CallContext) (k : Local) (o : ℕ) where
 
   at_wakes : (form : Option MarkForm) (mark : ℕ) (ms : List StepMade) → read_mark mark ≡ form
       → Loaded (Mark o) mark ms → Always (DoneWith (Wakes s o)) ms (notify_at form s e k o)
-  at_wakes (Some Inflating) mark ms is loaded = tt
   at_wakes (Some (Locked thread place)) mark ms is loaded =
       λ n. inl (record { mark = mark; thread = thread; place = place; says = is; loaded = inr loaded }, refl)
   at_wakes (Some (Inflated monitor)) mark ms is loaded =
       always_then (WakesOldest s o) (DoneWith (Wakes s o)) (monitor_notify_steps e k s.threads o) (λ woken. done_with woken) ms
       (monitor_wakes mark monitor ms is loaded) (λ ms woken h. inr h)
-  at_wakes (Some (Neutral hash age)) mark ms is loaded = tt
-  at_wakes (Some (Anonymous epoch age)) mark ms is loaded = tt
-  at_wakes (Some (Biased thread epoch age)) mark ms is loaded = tt
-  at_wakes (Some Marked) mark ms is loaded = tt
-  at_wakes None mark ms is loaded = tt
+  at_wakes _ mark ms is loaded = tt
 
   listed_wakes : (waiting : List (ℕ × ℕ)) (ms : List StepMade) (l : IsLookedOver s o ms)
       → waiting ≡ by_age (waiters o 0 l.words) → Always (WakesEach s o) ms (notify_listed waiting e k o)
@@ -122,17 +117,12 @@ module _ (s : Shape) (e : CallContext) (k : Local) (o : ℕ) where
 
   all_at_wakes : (form : Option MarkForm) (mark : ℕ) (ms : List StepMade) → read_mark mark ≡ form
       → Loaded (Mark o) mark ms → Always (DoneWith (WakesAll s o)) ms (notify_all_at form s e k o)
-  all_at_wakes (Some Inflating) mark ms is loaded = tt
   all_at_wakes (Some (Locked thread place)) mark ms is loaded =
       λ n. inl (record { mark = mark; thread = thread; place = place; says = is; loaded = inr loaded }, refl)
   all_at_wakes (Some (Inflated monitor)) mark ms is loaded =
       always_then (WakesEach s o) (DoneWith (WakesAll s o)) (monitor_notify_all_steps e k s.threads o) (λ woken. done_with woken) ms
       (monitor_wakes_all mark monitor ms is loaded) (λ ms woken h. inr h)
-  all_at_wakes (Some (Neutral hash age)) mark ms is loaded = tt
-  all_at_wakes (Some (Anonymous epoch age)) mark ms is loaded = tt
-  all_at_wakes (Some (Biased thread epoch age)) mark ms is loaded = tt
-  all_at_wakes (Some Marked) mark ms is loaded = tt
-  all_at_wakes None mark ms is loaded = tt
+  all_at_wakes _ mark ms is loaded = tt
 
 module _ (s : Shape) (k : Start) (o now : ℕ) where
   abbrev notifying : CallContext

@@ -5,11 +5,11 @@ use Rattle.core_locks.proofs.Prelude.{◌∷◌, ◌++◌, length, slice_get, Op
 use Rattle.core_locks.proofs.Prelude.{same_Some, Entry, Enter, Exit, Get, Put, Wait, Resume, Notify, NotifyAll, Hash, Logged, Path, owns, is_thread}
 use Rattle.core_locks.proofs.Prelude.{count_of, resumed, PlainObject, new_objects, take_at, take_entry, take_named, with_monitor, hashed, order}
 use Rattle.core_locks.proofs.Prelude.{of_thread, RisesAbove, take_all, objects_after, appended, last_stamp, log_of, order_appended, thread_kept}
-use Rattle.core_locks.proofs.Prelude.{taken_at, bound_to, read_value, Act, WordId, Safepoint, Prototype, Revocations, LastBulk, Mark, Stamp, Slot}
-use Rattle.core_locks.proofs.Prelude.{Hold, Displaced, Waiting, Length, Owner, Recursions, Header, Object, Claim, LogGet, StepPlan, Stage, word_after}
+use Rattle.core_locks.proofs.Prelude.{taken_at, bound_to, read_value, Act, WordId, Safepoint, Slot}
+use Rattle.core_locks.proofs.Prelude.{LogGet, StepPlan, Stage, word_after}
 use Rattle.core_locks.proofs.Prelude.{hits, ThreadView, object_of, owner_at, value_found, CallContext, with_stage, logging_plan, load, world_after}
 use Rattle.core_locks.proofs.Prelude.{runs_after, stamp_by, Fits, Valid, World, with_word_and_known, logs, by_equal, log_at, logs_grow, logs_length}
-use Rattle.core_locks.proofs.Prelude.{running_fits, thread_is, same_number, End, Ring, Class}
+use Rattle.core_locks.proofs.Prelude.{running_fits, thread_is, same_number}
 use Rattle.plain_monitor.specs.Objects.{named}
 use Rattle.plain_monitor.specs.Order.{is_before, insert_ordered, with_threads}
 use Rattle.plain_monitor.specs.History.{last_above}
@@ -222,24 +222,7 @@ stamped_next o _ found last by = refl
 -- a step on another word than the safepoint's leaves the thread running
 goes_on : (at : WordId) (act : Act) (left : ℕ) (k : ThreadView) → at ≢ Safepoint → runs_after at act left k ≡ k.running
 goes_on Safepoint act left k d = absurd (d refl)
-goes_on (Prototype c) act left k d = refl
-goes_on (Revocations c) act left k d = refl
-goes_on (LastBulk c) act left k d = refl
-goes_on (Class o) act left k d = refl
-goes_on (Mark o) act left k d = refl
-goes_on (Stamp o) act left k d = refl
-goes_on (Slot o i) act left k d = refl
-goes_on (Hold u p) act left k d = refl
-goes_on (Displaced u p) act left k d = refl
-goes_on (Waiting u) act left k d = refl
-goes_on (Length u) act left k d = refl
-goes_on (Owner m) act left k d = refl
-goes_on (Recursions m) act left k d = refl
-goes_on (Header m) act left k d = refl
-goes_on (Object m) act left k d = refl
-goes_on Claim act left k d = refl
-goes_on End act left k d = refl
-goes_on (Ring q) act left k d = refl
+goes_on _ act left k d = refl
 
 pub no_entry_logged : (w : World) (o t : ℕ) (at : WordId) (act : Act) (entry : Entry) (e : CallContext) (s : Stage) (v : Valid w)
     → (w.known t).running ≡ true → at ≢ Safepoint → hits act (w.words at) ≡ true → is_by_owner o entry ≡ true

@@ -1,12 +1,12 @@
 -- Steps on the owner word and the recursions of a monitor that a mark names, which lead to no valid world.
 use Rattle.core_locks.proofs.Prelude.{◌≡◌, ◌≢◌, ℕ, ◌+◌, ◌<◌, ◌||◌, ne_eqb, true, List, Option, Some, None, refl, sym, ap, ◌∙◌, arith, read_mark}
-use Rattle.core_locks.proofs.Prelude.{is_thread, is_listed, PlainObject, Mark, Owner, Recursions, StepPlan, Stage, Settled, RecordLocked}
-use Rattle.core_locks.proofs.Prelude.{MonitorAcquired, Enters, Resumes, Exits, Waits, OwnerConverted, RecursionsRaised, RecursionsLowered, Inflates}
-use Rattle.core_locks.proofs.Prelude.{Notifies, Revokes, monitor_in, bears, recursions_ahead, recursions_lowered, one_if, ThreadView, World}
+use Rattle.core_locks.proofs.Prelude.{is_thread, is_listed, PlainObject, Mark, Owner, Recursions, StepPlan, Stage, Settled}
+use Rattle.core_locks.proofs.Prelude.{Exits, RecursionsRaised}
+use Rattle.core_locks.proofs.Prelude.{monitor_in, bears, recursions_ahead, recursions_lowered, one_if, ThreadView, World}
 use Rattle.core_locks.proofs.Prelude.{with_word_and_known, Open, OnRecord, OwnedBy, lock, marks, displaced_words, owner_words, who, holder}
 use Rattle.core_locks.proofs.Prelude.{hold_count, recursion_count, owner_at, notified_at, CallContext, with_stage, store, logging_plan, world_after}
 use Rattle.core_locks.proofs.Prelude.{Fits, with_known_here, same_Some, thread_is, Inflated, OwnerForm, Free, ByThread, ByRecord, read_owner}
-use Rattle.core_locks.proofs.Prelude.{owner_of, read_owner-owner_of, Exit, BiasAcquired, times_in, Store, owner_lock, Valid, owner_zero, running_fits}
+use Rattle.core_locks.proofs.Prelude.{owner_of, read_owner-owner_of, Exit, times_in, Store, owner_lock, Valid, owner_zero, running_fits}
 use Rattle.core_locks.proofs.Prelude.{lock_by_form, with_word_there, inflated_form, sound, never_counted, listed_count}
 use Rattle.core_locks.proofs.RefutedSilent.{same_objects, others_have}
 use Rattle.core_locks.proofs.RefutedSteps.{knows, hit, hit_fits}
@@ -36,19 +36,7 @@ no_second_owner w o m t u e s v runs other names had valid =
 -- THE RECURSIONS ARE STORED, one more. Only at Ahead do they count a hold that the thread hasn't.
 not_ahead : (s : Stage) (o : ℕ) → s ≢ RecursionsRaised o → recursions_ahead s o ≡ 0
 not_ahead (RecursionsRaised i) o d = ap one_if (ne_eqb i o (λ e. d (ap RecursionsRaised e)))
-not_ahead Settled o d = refl
-not_ahead (RecordLocked i p) o d = refl
-not_ahead (MonitorAcquired i) o d = refl
-not_ahead (BiasAcquired i) o d = refl
-not_ahead (Enters i p path) o d = refl
-not_ahead (Resumes i) o d = refl
-not_ahead (Exits i p) o d = refl
-not_ahead (Waits i) o d = refl
-not_ahead (OwnerConverted i) o d = refl
-not_ahead (RecursionsLowered i) o d = refl
-not_ahead (Inflates i u p) o d = refl
-not_ahead (Notifies i n) o d = refl
-not_ahead (Revokes i r n) o d = refl
+not_ahead _ o d = refl
 
 -- the plain owner wasn't called
 pub owner_uncalled : (w : World) (P : List PlainObject) (o t : ℕ) → Fits w P → owner_at P o t ≡ true → is_listed (notified_at P o) t ≡ true → ⊥

@@ -1,10 +1,9 @@
 -- What the threads have seen stays when the requester makes a store at its reached safepoint, and the clauses that a store there leaves.
 use Rattle.core_locks.proofs.Prelude.{◌≡◌, ◌⊎◌, ℕ, Bool, true, false, cond, List, [], ◌∷◌, ◌++◌, Some, None, refl, sym, ap, ◌∙◌, subst, inl}
-use Rattle.core_locks.proofs.Prelude.{inr, same_Some, read_mark, is_thread, PlainObject, WordId, Safepoint, Prototype, Mark, Stamp, Slot}
-use Rattle.core_locks.proofs.Prelude.{Hold, Displaced, Waiting, Length, Owner, Recursions, Header, Object, Claim, End, Ring, Revocations}
-use Rattle.core_locks.proofs.Prelude.{LastBulk, StepPlan, is_biased, is_halted, revocation_in, word_after, same_name, with_word, ThreadView}
+use Rattle.core_locks.proofs.Prelude.{inr, same_Some, read_mark, is_thread, PlainObject, WordId, Safepoint, Mark}
+use Rattle.core_locks.proofs.Prelude.{StepPlan, is_biased, is_halted, revocation_in, word_after, same_name, with_word, ThreadView}
 use Rattle.core_locks.proofs.Prelude.{StepMade, last_seen, World, with_known, marks, prototype_of, owner_at, Stays, StaysWhileAsking, IsValidBias}
-use Rattle.core_locks.proofs.Prelude.{seen_before, Fits, IsValid, SeenFit, each_with_known, seen_is_part, Class, has_class}
+use Rattle.core_locks.proofs.Prelude.{seen_before, Fits, IsValid, SeenFit, each_with_known, seen_is_part, has_class}
 use Rattle.core_world.specs.RevocationRules.{Write, write, write_by, writes_in, words_after}
 use Rattle.core_world.specs.Clauses.SeenWords.{AreTheSteps}
 use Rattle.core_world.proofs.NoWordChanges.{one_requester}
@@ -62,25 +61,8 @@ module _ (w : World) (P : List PlainObject) (t : ℕ) (p : StepPlan) (a : IsStor
       (λ r. let no = nobody t in absurd (cc (sym a.running ∙ r, no))) (λ d r. let no = nobody u in absurd (cc (r, no)))
 
   asking_back : (n : WordId) (s : ℕ) → StaysWhileAsking x n s → StaysWhileAsking w n s
-  asking_back (Prototype c) s h = h
-  asking_back (Revocations c) s h = h
-  asking_back (LastBulk c) s h = h
-  asking_back (Class o) s h = h
   asking_back (Mark o) s h = subst (IsValidBias (read_mark s)) (λ i. a.prototypes i o) h
-  asking_back Safepoint s h = h
-  asking_back (Stamp o) s h = h
-  asking_back (Slot o i) s h = h
-  asking_back (Hold u q) s h = h
-  asking_back (Displaced u q) s h = h
-  asking_back (Waiting u) s h = h
-  asking_back (Length u) s h = h
-  asking_back (Owner m) s h = h
-  asking_back (Recursions m) s h = h
-  asking_back (Header m) s h = h
-  asking_back (Object m) s h = h
-  asking_back Claim s h = h
-  asking_back End s h = h
-  asking_back (Ring q) s h = h
+  asking_back _ s h = h
 
   -- what was last seen in a word is there, where what was seen before the step was there before
   newest : (n : WordId) (s : ℕ) (old : List StepMade) → (last_seen n old ≡ Some s → w.words n ≡ s)

@@ -1,6 +1,6 @@
 -- Those who wait on an object, when the oldest of them is told; and their counts, when they go to those who were notified.
 use Rattle.core_locks.proofs.Prelude.{◌≡◌, ◌≢◌, ◌⊎◌, ℕ, zero, suc, ◌+◌, ◌≤◌, ◌==◌, ◌&&◌, ◌||◌, nat_lt, ne_eqb, Bool, true, false, cond}
-use Rattle.core_locks.proofs.Prelude.{List, [], ◌∷◌, ◌++◌, length, Option, Some, None, refl, sym, ap, ◌∙◌, subst, arith, inl, inr}
+use Rattle.core_locks.proofs.Prelude.{List, [], ◌∷◌, ◌++◌, length, Option, Some, refl, sym, ap, ◌∙◌, subst, arith, inl, inr}
 use Rattle.core_locks.proofs.Prelude.{eqb-true, or-true, nat_tests, AllByRecursion, WaitForm, is_listed, count_of, times_in, never_counted}
 use Rattle.core_locks.proofs.Prelude.{waits_on, says_notified, stamp_in, waits_form, ended_form, notified_form, enters_form, or_zero}
 use Rattle.core_locks.proofs.Prelude.{StandByStamps, AreNotified, WaitsLongerThan, is_older, by_equal, same_number}
@@ -23,19 +23,11 @@ waits_unended _ o h = refl
 
 pub waits_one : (f : Option WaitForm) (o i : ℕ) → waits_form f o ≡ true → waits_form f i ≡ true → i ≡ o
 waits_one (Some (wait.Waiting object stamp)) o i h k = sym (eqb-true object i k) ∙ eqb-true object o h
-waits_one None o i h k = absurd (cc h)
-waits_one (Some wait.Ready) o i h k = absurd (cc h)
-waits_one (Some wait.Ended) o i h k = absurd (cc h)
-waits_one (Some (wait.Entering object)) o i h k = absurd (cc h)
-waits_one (Some (wait.Notified object)) o i h k = absurd (cc h)
+waits_one _ o i h k = absurd (cc h)
 
 pub waits_form_is : (f : Option WaitForm) (o : ℕ) → waits_form f o ≡ true → (i s : ℕ) × (f ≡ Some (wait.Waiting i s))
 waits_form_is (Some (wait.Waiting object stamp)) o h = (object, stamp, refl)
-waits_form_is None o h = absurd (cc h)
-waits_form_is (Some wait.Ready) o h = absurd (cc h)
-waits_form_is (Some wait.Ended) o h = absurd (cc h)
-waits_form_is (Some (wait.Entering object)) o h = absurd (cc h)
-waits_form_is (Some (wait.Notified object)) o h = absurd (cc h)
+waits_form_is _ o h = absurd (cc h)
 
 -- of two waiters one is older
 asymmetric : (a b s r : ℕ) → (nat_lt s r || ((s == r) && nat_lt a b)) ≡ true → (nat_lt r s || ((r == s) && nat_lt b a)) ≡ true → ⊥

@@ -58,14 +58,10 @@ module _ (heap : Heap) (e : CallContext) (b : Revocation) where
 
   may_ask : (a : Operation) (l : ThreadView) → RevokesWithin a b.rebias → (a ≡ op.Wait → waits_on l.wait b.object ≡ false) → MayRevoke heap.shape l b.object
       → MayAsk heap.shape l (Some (record { op = a; object = b.object }))
-  may_ask op.Enter l allowed out may = may
   may_ask op.Exit l allowed out may = absurd allowed
   may_ask op.Wait l allowed out may = (out refl, may)
-  may_ask op.Notify l allowed out may = may
-  may_ask op.NotifyAll l allowed out may = may
-  may_ask op.Hash l allowed out may = may
   may_ask op.Dump l allowed out may = absurd allowed
-  may_ask op.Create l allowed out may = may
+  may_ask _ l allowed out may = may
 
   module _ (operation : Operation) (unfinished : e.unfinished ≡ Some (record { op = operation; object = b.object }))
       (allowed : RevokesWithin operation b.rebias) (object : b.object < length heap.shape.objects)

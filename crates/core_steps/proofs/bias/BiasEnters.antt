@@ -176,9 +176,6 @@ module _ (heap : Heap) (o : ℕ) (e : CallContext) (enters : IsUnfinished e.unfi
       -- by the form of the mark, where the prototype has an epoch
       at_does : (epoch : ℕ) (f : Option MarkForm) → epoch_in prototype ≡ Some epoch → read_mark mark ≡ f → is_biased_form f ≡ true
           → Does heap false (bias_enter_at f epoch e (local_of k) o mark) k Q
-      at_does epoch None is reads biased = absurd (cc biased)
-      at_does epoch (Some Inflating) is reads biased = absurd (cc biased)
-      at_does epoch (Some (Neutral hash age)) is reads biased = absurd (cc biased)
       at_does epoch (Some (Anonymous old age)) is reads biased = rebias_does epoch is (subst (λ f. IsUnownedBias f (epoch_in prototype)) (sym reads) tt)
       at_does epoch (Some (Biased u old age)) is reads biased =
           chooses heap false (old == epoch) _ _ k Q
@@ -206,9 +203,7 @@ module _ (heap : Heap) (o : ℕ) (e : CallContext) (enters : IsUnfinished e.unfi
             alone = alone;
           }))))
           (λ stale. rebias_does epoch is (subst (λ f. IsUnownedBias f (epoch_in prototype)) (sym reads) (stale_epoch old epoch (epoch_in prototype) is stale)))
-      at_does epoch (Some (Locked u p)) is reads biased = absurd (cc biased)
-      at_does epoch (Some (Inflated m)) is reads biased = absurd (cc biased)
-      at_does epoch (Some Marked) is reads biased = absurd (cc biased)
+      at_does epoch _ is reads biased = absurd (cc biased)
 
       -- and by that of the prototype: where it is neutral, so the mark becomes
       by_does : (f : Option MarkForm) → read_mark prototype ≡ f → IsPrototypeForm f → is_biased mark ≡ true → IsPrototype prototype
@@ -375,18 +370,12 @@ module _ (heap : Heap) (e : CallContext) (b : Revocation) (enters : IsUnfinished
   own_does : (f : Option MarkForm) (mark p : ℕ) → Released heap e b k0 true k → IsBiasTo k.thread f (epoch_in p)
       → SawOwnBias heap.shape (then_known true mark) o
       → Does heap false (cond (is_biased_form f) (bias_after_at f e (local_of k) o) (done (Unbiased mark))) (then_known true mark) Q
-  own_does None mark p x bias saw = absurd bias
-  own_does (Some Inflating) mark p x bias saw = absurd bias
-  own_does (Some (Neutral hash age)) mark p x bias saw = absurd bias
-  own_does (Some (Anonymous epoch age)) mark p x bias saw = absurd bias
   own_does (Some (Biased u epoch age)) mark p x bias saw =
       chooses heap false (u == k.thread) _ _ (then_known true mark) Q
       (λ mine. took_does heap o e enters here kept Q outs (then_known true mark) BiasTaken
       (taking heap o e here k enters wants local x.runs x.unasks x.still) refl untold_here place_here (inl refl) saw refl)
       (λ no. absurd (cc (eq-eqb u k.thread bias.0, no)))
-  own_does (Some (Locked u p)) mark q x bias saw = absurd bias
-  own_does (Some (Inflated m)) mark p x bias saw = absurd bias
-  own_does (Some Marked) mark p x bias saw = absurd bias
+  own_does _ mark p x bias saw = absurd bias
 
   pub bias_after_does : (took : Bool) → Released heap e b k0 took k → Does heap false (bias_after_steps e (local_of k) o took) k Q
   bias_after_does true x =

@@ -3,7 +3,7 @@ use Rattle.std.proofs.Common.{◌≡◌, ◌≢◌, ◌⊎◌, ℕ, ◌<◌, ◌
 use Rattle.std.proofs.Common.{false, cond, if◌then◌else◌, Option, Some, None, refl, sym, ap, ◌∙◌, subst, arith, inl, inr}
 use Rattle.std.proofs.lemmas.Option.{same_Some}
 use Rattle.mark_word.specs.declared.mark.MarkForm.{MarkForm}
-use Rattle.mark_word.specs.declared.mark.MarkForm.TheVariants.{Inflating, Neutral, Anonymous, Biased, Locked, Inflated, Marked}
+use Rattle.mark_word.specs.declared.mark.MarkForm.TheVariants.{Neutral, Anonymous, Biased}
 use Rattle.mark_word.specs.Mark.{mark_of, read_mark}
 use Rattle.mark_word.proofs.ReadingMarks.{read_mark-mark_of, read_mark-spells}
 use Rattle.core_world.specs.declared.word_id.WordId.{WordId}
@@ -149,14 +149,8 @@ prototype_neutral p (inr is) none = absurd (cc (ap epoch_form is.1, none))
 
 -- a bias that is valid by its test
 pub valid_is : (f : Option MarkForm) (prototype : ℕ) → is_valid_bias f prototype ≡ true → IsValidBias f prototype
-valid_is None p h = absurd (cc h)
-valid_is (Some Inflating) p h = absurd (cc h)
-valid_is (Some (Neutral hash age)) p h = absurd (cc h)
-valid_is (Some (Anonymous epoch age)) p h = absurd (cc h)
 valid_is (Some (Biased t epoch age)) p h = h
-valid_is (Some (Locked t q)) p h = absurd (cc h)
-valid_is (Some (Inflated m)) p h = absurd (cc h)
-valid_is (Some Marked) p h = absurd (cc h)
+valid_is _ p h = absurd (cc h)
 
 -- a bias to a thread in the epoch of the prototype is valid by it
 bias_valid : (t : ℕ) (f : Option MarkForm) (prototype : ℕ) → IsBiasTo t f (epoch_in prototype) → IsValidBias f prototype
@@ -239,14 +233,9 @@ free_bias s k o class mark prototype saw_class seen loose = record {
 
 -- LOOSE MARKS: anonymous, or with a stale bias
 pub loose_unepoched : (f : Option MarkForm) (x : Option ℕ) → is_biased_form f ≡ true → x ≡ None → IsUnownedBias f x
-loose_unepoched None x h none = absurd (cc h)
-loose_unepoched (Some Inflating) x h none = absurd (cc h)
-loose_unepoched (Some (Neutral hash age)) x h none = absurd (cc h)
 loose_unepoched (Some (Anonymous epoch age)) x h none = tt
 loose_unepoched (Some (Biased t epoch age)) x h none = ap (λ z. has_epoch z epoch) none
-loose_unepoched (Some (Locked t p)) x h none = absurd (cc h)
-loose_unepoched (Some (Inflated m)) x h none = absurd (cc h)
-loose_unepoched (Some Marked) x h none = absurd (cc h)
+loose_unepoched _ x h none = absurd (cc h)
 
 -- a bias in another epoch than that of its class
 pub stale_epoch : (old epoch : ℕ) (x : Option ℕ) → x ≡ Some epoch → (old == epoch) ≡ false → has_epoch x old ≡ false

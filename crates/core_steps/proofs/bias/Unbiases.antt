@@ -2,7 +2,7 @@
 use Rattle.std.proofs.Common.{◌≡◌, ◌⊎◌, ℕ, ◌-◌, ◌<◌, ◌≤◌, ◌==◌, ◌&&◌, not, eq-eqb, Bool, true, false, cond}
 use Rattle.std.proofs.Common.{[], length, Option, Some, None, refl, sym, ap, ◌∙◌, subst, inl, inr}
 use Rattle.mark_word.specs.declared.mark.MarkForm.{MarkForm}
-use Rattle.mark_word.specs.declared.mark.MarkForm.TheVariants.{Inflating, Neutral, Anonymous, Biased, Locked, Inflated, Marked}
+use Rattle.mark_word.specs.declared.mark.MarkForm.TheVariants.{Neutral, Anonymous, Biased}
 use Rattle.mark_word.specs.Mark.{mark_of, read_mark}
 use Rattle.core_world.specs.declared.answer.BiasTry.{BiasTry}
 use Rattle.core_world.specs.declared.answer.BiasTry.TheVariants.{Unbiased, Valid, Raced}
@@ -205,9 +205,6 @@ module _ (heap : Heap) (e : CallContext) (b : Revocation) where
 
       at_does : (epoch : ℕ) (f : Option MarkForm) → epoch_in prototype ≡ Some epoch → read_mark mark ≡ f
           → is_biased_form f ≡ true → Does heap false (bias_drop_at f epoch e o mark) l R
-      at_does epoch None is reads biased = absurd (cc biased)
-      at_does epoch (Some Inflating) is reads biased = absurd (cc biased)
-      at_does epoch (Some (Neutral hash age)) is reads biased = absurd (cc biased)
       at_does epoch (Some (Anonymous old age)) is reads biased =
           drop_does (mark_of (Neutral 0 0)) (subst (λ f. IsUnownedBias f (epoch_in prototype)) (sym reads) tt) (inl refl) neutral_plain
       at_does epoch (Some (Biased u old age)) is reads biased =
@@ -216,9 +213,7 @@ module _ (heap : Heap) (e : CallContext) (b : Revocation) where
           (valid_does (ap (λ f. is_valid_bias f prototype) reads ∙ own_epoch old epoch (epoch_in prototype) is now)))
           (λ stale. drop_does (mark_of (Neutral 0 0)) (subst (λ f. IsUnownedBias f (epoch_in prototype))
           (sym reads) (stale_epoch old epoch (epoch_in prototype) is stale)) (inl refl) neutral_plain)
-      at_does epoch (Some (Locked u p)) is reads biased = absurd (cc biased)
-      at_does epoch (Some (Inflated m)) is reads biased = absurd (cc biased)
-      at_does epoch (Some Marked) is reads biased = absurd (cc biased)
+      at_does epoch _ is reads biased = absurd (cc biased)
 
       by_does : (epoch : Option ℕ) → epoch_in prototype ≡ epoch → is_biased mark ≡ true
           → IsPrototype prototype → Does heap false (bias_drop_by epoch e o mark prototype) l R

@@ -29,16 +29,13 @@ use Rattle.core_locks.proofs.WaitOut.{holder_owns}
 -- a lock leans where the mark has the bias pattern
 leans_biased : (f : Option MarkForm) (prototype : ℕ) (owners : ℕ → ℕ) (named : Option Inflation) (t : ℕ)
     → lock_form f prototype owners named ≡ BiasedTo t → is_biased_form f ≡ true
-leans_biased None a b c t e = absurd (cc e)
 leans_biased (Some Inflating) a b c t e = absurd (cases c e)
   where
     cases : (i : Option Inflation) → record_lock i ≡ BiasedTo t → ⊥
     cases None e = cc e
     cases (Some i) e = cc e
-leans_biased (Some (Neutral hash age)) a b c t e = absurd (cc e)
 leans_biased (Some (Anonymous epoch age)) a b c t e = refl
 leans_biased (Some (Biased u epoch age)) a b c t e = refl
-leans_biased (Some (Locked u p)) a b c t e = absurd (cc e)
 leans_biased (Some (Inflated m)) a b c t e = absurd (cases (read_owner (b m)) e)
   where
     cases : (f : Option OwnerForm) → owner_lock f ≡ BiasedTo t → ⊥
@@ -46,7 +43,7 @@ leans_biased (Some (Inflated m)) a b c t e = absurd (cases (read_owner (b m)) e)
     cases (Some Free) e = cc e
     cases (Some (ByThread u)) e = cc e
     cases (Some (ByRecord u p)) e = cc e
-leans_biased (Some Marked) a b c t e = absurd (cc e)
+leans_biased _ a b c t e = absurd (cc e)
 
 zero_no_header : (n : ℕ) → n ≡ 0 → is_neutral n ≡ true → ⊥
 zero_no_header n e h = let a : is_neutral n ≡ false = ap is_neutral e ∙ ap is_neutral_form mark_zero in cc (a, h)

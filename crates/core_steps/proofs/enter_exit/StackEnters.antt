@@ -2,7 +2,7 @@
 use Rattle.std.proofs.Common.{◌≡◌, ℕ, ◌<◌, ◌≤◌, ◌+◌, ◌==◌, ◌&&◌, ◌||◌, nat_lt, eq-eqb, eqb-true, not, Bool, true, false}
 use Rattle.std.proofs.Common.{cond, List, Option, Some, None, refl, sym, ap, ◌∙◌, subst, inl, inr, arith, ◌⊎◌}
 use Rattle.mark_word.specs.declared.mark.MarkForm.{MarkForm}
-use Rattle.mark_word.specs.declared.mark.MarkForm.TheVariants.{Inflating, Neutral, Anonymous, Biased, Locked, Inflated, Marked}
+use Rattle.mark_word.specs.declared.mark.MarkForm.TheVariants.{Neutral, Locked}
 use Rattle.mark_word.specs.Mark.{mark_of, read_mark}
 use Rattle.mark_word.proofs.ReadingMarks.{read_mark-mark_of}
 use Rattle.plain_monitor.specs.Limits.{most_holds}
@@ -188,14 +188,8 @@ module _ (heap : Heap) where
       (λ b r l h. answers heap b _ l _ h)))
 
   neutral_reads : (f : Option MarkForm) → is_neutral_form f ≡ true → (hash age : ℕ) × (f ≡ Some (Neutral hash age))
-  neutral_reads None h = absurd (cc h)
-  neutral_reads (Some Inflating) h = absurd (cc h)
   neutral_reads (Some (Neutral hash age)) h = (hash, age, refl)
-  neutral_reads (Some (Anonymous e age)) h = absurd (cc h)
-  neutral_reads (Some (Biased t e age)) h = absurd (cc h)
-  neutral_reads (Some (Locked t p)) h = absurd (cc h)
-  neutral_reads (Some (Inflated m)) h = absurd (cc h)
-  neutral_reads (Some Marked) h = absurd (cc h)
+  neutral_reads _ h = absurd (cc h)
 
   -- an enter by a neutral mark, or by one that names the thread's first record of o
   pub stack_enter_does : (fresh : Bool) (k : ThreadView) (e : CallContext) (o mark : ℕ)

@@ -2,7 +2,7 @@
 use Rattle.std.proofs.Common.{◌≡◌, ◌≢◌, ℕ, ◌≤◌, ◌==◌, ◌&&◌, not, max, nat_lt, eq-eqb, eqb-true, Bool, true, false}
 use Rattle.std.proofs.Common.{List, slice_index, Option, Some, None, refl, sym, ap, ◌∙◌, subst, inl, inr, arith}
 use Rattle.mark_word.specs.declared.mark.MarkForm.{MarkForm}
-use Rattle.mark_word.specs.declared.mark.MarkForm.TheVariants.{Inflating, Neutral, Anonymous, Biased, Locked, Inflated, Marked}
+use Rattle.mark_word.specs.declared.mark.MarkForm.TheVariants.{Inflating, Locked, Inflated}
 use Rattle.mark_word.specs.Mark.{mark_of, read_mark}
 use Rattle.mark_word.proofs.ReadingMarks.{read_mark-spells}
 use Rattle.core_world.specs.declared.answer.StackOut.{StackOut}
@@ -152,12 +152,8 @@ module _ (heap : Heap) where
       → last_seen (id.Displaced k.thread (top_place o k.holds)) k.seen ≡ Some header → header ≢ 0
       → (hold_count o k.holds ≡ 1 → (stamp : ℕ) × (last_seen (id.Stamp o) k.seen ≡ Some stamp) × (next_stamp (local_of k) ≤ stamp))
       → Does heap false (stack_exit_at f e (local_of k) o header mark) k Q
-  exit_at_does Q None k e o header mark outs check sees r c a calm mine untold displaced nonzero stamped = absurd c
   exit_at_does Q (Some Inflating) k e o header mark outs check sees r c a calm mine untold displaced nonzero stamped =
       answers heap false _ k Q (outs.raced k _ (exit_rests k e o a calm (sym check ∙ a.unchecks) mine untold))
-  exit_at_does Q (Some (Neutral hash age)) k e o header mark outs check sees r c a calm mine untold displaced nonzero stamped = absurd c
-  exit_at_does Q (Some (Anonymous epoch age)) k e o header mark outs check sees r c a calm mine untold displaced nonzero stamped = absurd c
-  exit_at_does Q (Some (Biased t epoch age)) k e o header mark outs check sees r c a calm mine untold displaced nonzero stamped = absurd c
   exit_at_does Q (Some (Locked t p)) k e o header mark outs check sees r c a calm mine untold displaced nonzero stamped =
       let s = stamped c.2 in
       let is : mark ≡ mark_of (Locked k.thread (top_place o k.holds)) = (read_mark-spells mark (Locked t p) r).1 ∙ (λ i. mark_of (Locked (c.0 i) (c.1 i))) in
@@ -174,7 +170,7 @@ module _ (heap : Heap) where
         displaced = (header, displaced, nonzero);
         stamped = stamped;
       }))
-  exit_at_does Q (Some Marked) k e o header mark outs check sees r c a calm mine untold displaced nonzero stamped = absurd c
+  exit_at_does Q _ k e o header mark outs check sees r c a calm mine untold displaced nonzero stamped = absurd c
 
   -- the displaced word is still as it was seen
   covered_here : (k : ThreadView) (o header : ℕ) (v : SoundWorldWith heap k)

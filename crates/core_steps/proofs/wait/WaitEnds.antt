@@ -147,16 +147,7 @@ module _ (heap : Heap) (e : CallContext) (o : ℕ) where
       → last_seen (id.Waiting k.thread) k.seen ≡ Some word → SawNone heap e o k
       → read_wait word ≡ f → (waits_form f o ≡ true) ⊎ (notified_form f o ≡ true)
       → Does heap false (resume_at f e k.thread k.saved o word) k (λ b r l. AtRest heap.shape l)
-  at_does None k word x calm waits saw none reads (inl says) = absurd (cc says)
-  at_does None k word x calm waits saw none reads (inr says) = absurd (cc says)
-  at_does (Some wait.Ready) k word x calm waits saw none reads (inl says) = absurd (cc says)
-  at_does (Some wait.Ready) k word x calm waits saw none reads (inr says) = absurd (cc says)
-  at_does (Some (wait.Entering i)) k word x calm waits saw none reads (inl says) = absurd (cc says)
-  at_does (Some (wait.Entering i)) k word x calm waits saw none reads (inr says) = absurd (cc says)
-  at_does (Some wait.Ended) k word x calm waits saw none reads (inl says) = absurd (cc says)
-  at_does (Some wait.Ended) k word x calm waits saw none reads (inr says) = absurd (cc says)
   at_does (Some (wait.Waiting i stamp)) k word x calm waits saw none reads says = answers heap false _ k _ (let_go_rests k x calm waits)
-  at_does (Some (wait.Notified i)) k word x calm waits saw none reads (inl says) = absurd (cc says)
   at_does (Some (wait.Notified i)) k word x calm waits saw none reads (inr says) =
       let look = load e (id.Mark o) in
       let told : says_notified word o ≡ true = ap (λ f. notified_form f o) reads ∙ says in
@@ -174,6 +165,8 @@ module _ (heap : Heap) (e : CallContext) (o : ℕ) where
       }) refl waits
       (mark, saw_newest heap look mark k, is.1) (saw_older heap look mark k (id.Waiting k.thread) j refl refl ∙ saw) told
       (λ a r sees. none a r (sym (saw_older heap look mark k (id.Recursions a) j refl refl) ∙ sees))))
+  at_does _ k word x calm waits saw none reads (inl says) = absurd (cc says)
+  at_does _ k word x calm waits saw none reads (inr says) = absurd (cc says)
 
   -- the look at its own waiting word, in the same call or as the first step of a later one
   pub monitor_resume_does : (fresh : Bool) (k : ThreadView) → LetGo k → k.stage ≡ Settled → waits_on k.wait o ≡ true
