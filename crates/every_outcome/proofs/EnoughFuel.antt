@@ -28,11 +28,12 @@ use Rattle.every_outcome.specs.Fuel.{with_fuel, refuelled, is_spent, HasSpent, L
 use Rattle.every_outcome.proofs.Places.{get_unmap, map_set}
 use Rattle.every_outcome.proofs.Commute.{moved_on, takes_from}
 use Rattle.every_outcome.proofs.MoreFuel.{answered_with, entry_more}
-use Rattle.every_outcome.proofs.SameSteps.{with_mode, step_same}
+use Rattle.plain_machine.proofs.Effects.{in_mode}
+use Rattle.every_outcome.proofs.SameSteps.{step_same}
 use Rattle.every_outcome.proofs.FullFuel.{full_twice, ask_full, unrun_state, firsts, first_full}
 
 run_left : (n d g : ℕ) (md : Mode) (p : ProgramText) (c : List Code) (s : ThreadState) → is_spent (run_on p c n s).mode ≡ false
-    → d ≤ (run_on p c (n + d) (with_mode g md s)).fuel
+    → d ≤ (run_on p c (n + d) (in_mode g md s)).fuel
 unfolding run_on
 run_left zero d g md p c s h = absurd (true≢false h)
 run_left (suc n) d g md p c s h = go (step_of p s (instruction_at c s.place)) refl (λ next k. run_left n d g md p c next k)
@@ -41,8 +42,8 @@ run_left (suc n) d g md p c s h = go (step_of p s (instruction_at c s.place)) re
     more = omega arith
 
     go : (st : Step) → step_of p s (instruction_at c s.place) ≡ st
-        → ((next : ThreadState) → is_spent (run_on p c n next).mode ≡ false → d ≤ (run_on p c (n + d) (with_mode g md next)).fuel)
-        → d ≤ (run_on p c (suc n + d) (with_mode g md s)).fuel
+        → ((next : ThreadState) → is_spent (run_on p c n next).mode ≡ false → d ≤ (run_on p c (n + d) (in_mode g md next)).fuel)
+        → d ≤ (run_on p c (suc n + d) (in_mode g md s)).fuel
     go (Goes next) e ih = rw (more, step_same g md p s (instruction_at c s.place), e) (ih next (rw e at h))
     go (Calls k) e ih = rw (more, step_same g md p s (instruction_at c s.place), e) (omega arith)
     go (Stops x) e ih = rw (more, step_same g md p s (instruction_at c s.place), e) (omega arith)

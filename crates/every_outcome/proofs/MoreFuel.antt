@@ -17,11 +17,12 @@ use Rattle.plain_machine.specs.Thread.{ThreadState, Step, Goes, Calls, Stops, pa
 use Rattle.plain_machine.specs.Running.{instruction_at, run_on}
 use Rattle.plain_machine.specs.Asking.{ask, ask_in, held_from, unwinds, answered, after_call, after_entry}
 use Rattle.every_outcome.specs.Fuel.{with_fuel, is_spent}
-use Rattle.every_outcome.proofs.SameSteps.{with_mode, step_same}
+use Rattle.plain_machine.proofs.Effects.{in_mode}
+use Rattle.every_outcome.proofs.SameSteps.{step_same}
 
 -- a run with d more units, of a thread with any fuel and any mode noted
 pub run_more : (n d g top : ℕ) (md : Mode) (p : ProgramText) (c : List Code) (s : ThreadState) → is_spent (run_on p c n s).mode ≡ false
-    → with_fuel top (run_on p c (n + d) (with_mode g md s)) ≡ with_fuel top (run_on p c n s)
+    → with_fuel top (run_on p c (n + d) (in_mode g md s)) ≡ with_fuel top (run_on p c n s)
 unfolding run_on
 run_more zero d g top md p c s h = absurd (true≢false h)
 run_more (suc n) d g top md p c s h = go (step_of p s (instruction_at c s.place)) refl (λ next k. run_more n d g top md p c next k)
@@ -31,8 +32,8 @@ run_more (suc n) d g top md p c s h = go (step_of p s (instruction_at c s.place)
 
     go : (st : Step) → step_of p s (instruction_at c s.place) ≡ st
         → ((next : ThreadState) → is_spent (run_on p c n next).mode ≡ false
-        → with_fuel top (run_on p c (n + d) (with_mode g md next)) ≡ with_fuel top (run_on p c n next))
-        → with_fuel top (run_on p c (suc n + d) (with_mode g md s)) ≡ with_fuel top (run_on p c (suc n) s)
+        → with_fuel top (run_on p c (n + d) (in_mode g md next)) ≡ with_fuel top (run_on p c n next))
+        → with_fuel top (run_on p c (suc n + d) (in_mode g md s)) ≡ with_fuel top (run_on p c (suc n) s)
     go (Goes next) e ih = rw (more, step_same g md p s (instruction_at c s.place), e) (ih next (rw e at h))
     go (Calls c2) e ih = rw (more, step_same g md p s (instruction_at c s.place), e) refl
     go (Stops x) e ih = rw (more, step_same g md p s (instruction_at c s.place), e) refl

@@ -1,36 +1,28 @@
 -- A program without the instruction makes no hash entry.
-use Rattle.std.proofs.Common.{◌≡◌, ℕ, ℤ, zero, suc, ◌+◌, ◌-◌, ◌+ℤ◌, ◌-ℤ◌, ◌*ℤ◌, Bool, true, false, nat_le, nat_lt, if◌then◌else◌}
-use Rattle.std.proofs.Common.{List, [], ◌∷◌, map, slice_get, slice_index_or, sum, Option, Some, None, refl, sym, ◌∙◌, subst}
+use Rattle.std.proofs.Common.{◌≡◌, ℕ, zero, suc, ◌-◌, Bool, true, false}
+use Rattle.std.proofs.Common.{List, [], ◌∷◌, map, slice_get, slice_index_or, Option, Some, None, refl, sym, ◌∙◌, subst}
 use Rattle.std.specs.List.{AllByRecursion, list_any}
 use Rattle.std.proofs.lemmas.Bool.{false≢true, true≢false, or_parts}
 use Rattle.std.proofs.lemmas.Option.{none-some, same_Some}
-use Rattle.plain_monitor.specs.Limits.{most_holds, most_made}
-use Rattle.plain_monitor.specs.declared.entry.Value.{Value}
-use Rattle.plain_monitor.specs.declared.entry.Value.TheVariants.{Int, Ref}
-use Rattle.plain_monitor.specs.declared.entry.Fault.{Fault}
-use Rattle.plain_monitor.specs.declared.entry.Fault.TheVariants as fault
 use Rattle.plain_monitor.specs.declared.entry.Ending.TheVariants as ending
 use Rattle.plain_monitor.specs.declared.entry.Entry.{Entry}
 use Rattle.plain_monitor.specs.declared.entry.Entry.TheVariants as entry
 use Rattle.plain_monitor.specs.declared.entry.Logged.{Logged}
-use Rattle.plain_monitor.specs.Numbers.{is_in_range}
 use Rattle.object_program.specs.declared.program.Code.{Code}
-use Rattle.object_program.specs.declared.program.Code.TheVariants as code
-use Rattle.object_program.specs.declared.program.ObjectDef.{ObjectDef}
 use Rattle.object_program.specs.declared.program.ThreadDef.{ThreadDef}
-use Rattle.object_program.specs.Program.{ProgramText, slots_of}
+use Rattle.object_program.specs.Program.{ProgramText}
 use Rattle.plain_machine.specs.declared.monitor_call.MonitorCall.{MonitorCall}
 use Rattle.plain_machine.specs.declared.monitor_call.MonitorCall.TheVariants as call
 use Rattle.plain_machine.specs.declared.monitor_call.Mode.{Mode}
 use Rattle.plain_machine.specs.declared.monitor_call.Mode.TheVariants.{Calling, Waiting, Unwinding, Ended}
 use Rattle.plain_machine.specs.declared.monitor_call.NextEntry.{NextEntry}
 use Rattle.plain_machine.specs.declared.monitor_call.NextEntry.TheVariants as asked
-use Rattle.plain_machine.specs.Thread.{ThreadState, Step, Goes, Calls, Stops, local, holds_of, combines, faults, on_object}
-use Rattle.plain_machine.specs.Thread.{owner_only, on_slot, is_element, size_of, element, jumps_below, step_of}
+use Rattle.plain_machine.specs.Thread.{ThreadState, Step, Goes, Calls, Stops, step_of}
 use Rattle.plain_machine.specs.Running.{instruction_at, run_on, first_state}
 use Rattle.plain_machine.specs.Asking.{ask_in, held_from, unwinds, fits, after_call, after_entry}
 use Rattle.plain_machine.specs.Machine.{PlainMachine, new_machine, code_of, take}
 use Rattle.plain_machine.specs.Legal.{after_all}
+use Rattle.plain_machine.proofs.Effects.{Effect, Asks, IsEffectOf, apply, by_effect}
 use Rattle.machine_laws.proofs.ReachedLists.{each_set}
 use Rattle.machine_laws.proofs.ReachedAsked.{taken}
 use Rattle.every_outcome.specs.Alone.{is_hash}
@@ -43,54 +35,12 @@ abbrev hash_step : Step → Bool
 hash_step (Calls (call.Hash x o)) = true
 hash_step st = false
 
-pick : (b : Bool) (a c : Step) → hash_step a ≡ false → hash_step c ≡ false → hash_step (if b then a else c) ≡ false
-pick true a c h k = h
-pick false a c h k = k
-
-combined : (s : ThreadState) (x : ℕ) (op : ℤ → ℤ → ℤ) (v w : Value) → hash_step (combines s x op v w) ≡ false
-combined s x op (Int a) (Int b) = pick (is_in_range (op a b)) _ (faults s fault.Overflow) refl refl
-combined s x op v w = refl
-
-on_it : (s : ThreadState) (v : Value) (f : ℕ → Step) → ((o : ℕ) → hash_step (f o) ≡ false) → hash_step (on_object s v f) ≡ false
-on_it s (Ref o) f h = h o
-on_it s v f h = refl
-
-elements : (s : ThreadState) (x : ℕ) (d : Option ObjectDef) (v : Value) → hash_step (element s x d v) ≡ false
-elements s x d (Int i) = pick (is_element i (size_of d)) _ (faults s fault.Range) refl refl
-elements s x d v = refl
-
-below : (s : ThreadState) (v w : Value) (l : ℕ) → hash_step (jumps_below s v w l) ≡ false
-below s (Int y) (Int z) l = refl
-below s v w l = refl
-
-owned : (s : ThreadState) (o : ℕ) (f : Fault) (c : MonitorCall) → hash_step (Calls c) ≡ false → hash_step (owner_only s o f (Calls c)) ≡ false
-owned s o f c h = pick (nat_le 1 (holds_of s o)) (Calls c) (faults s f) h refl
-
-slotted : (p : ProgramText) (s : ThreadState) (o k : ℕ) (c : MonitorCall) → hash_step (Calls c) ≡ false → hash_step (on_slot p s o k c) ≡ false
-slotted p s o k c h = pick (nat_lt k (slots_of p o)) (owner_only s o fault.Unguarded (Calls c)) (faults s fault.Range) (owned s o fault.Unguarded c h) refl
+no_effect : (p : ProgramText) (s : ThreadState) (c : Code) → is_hash_code c ≡ false → (x : Effect) → IsEffectOf p s c x → hash_step (apply s x) ≡ false
+no_effect p s c h (Asks (call.Hash x o)) is = absurd (true≢false (subst (λ (d : Code). is_hash_code d ≡ false) is.0.1 h))
+no_effect p s c h x is = refl
 
 no_step : (p : ProgramText) (s : ThreadState) (c : Code) → is_hash_code c ≡ false → hash_step (step_of p s c) ≡ false
-no_step p s (code.Set x v) h = refl
-no_step p s (code.Add x y z) h = combined s x (λ a b. a +ℤ b) (local s y) (local s z)
-no_step p s (code.Sub x y z) h = combined s x (λ a b. a -ℤ b) (local s y) (local s z)
-no_step p s (code.Mul x y z) h = combined s x (λ a b. a *ℤ b) (local s y) (local s z)
-no_step p s (code.Ref x n) h = refl
-no_step p s (code.Elem x n i) h = elements s x (slice_get p.objects n) (local s i)
-no_step p s (code.Enter x) h = on_it s (local s x) _ (λ o. pick (nat_lt (sum s.holds) most_holds) (Calls (call.Enter o)) (faults s fault.TooDeep) refl refl)
-no_step p s (code.Exit x) h = on_it s (local s x) _ (λ o. owned s o _ (call.Exit o) refl)
-no_step p s (code.Wait x) h = on_it s (local s x) _ (λ o. owned s o _ (call.Wait o) refl)
-no_step p s (code.Notify x) h = on_it s (local s x) _ (λ o. owned s o _ (call.Notify o) refl)
-no_step p s (code.NotifyAll x) h = on_it s (local s x) _ (λ o. owned s o _ (call.NotifyAll o) refl)
-no_step p s (code.Get x o k) h = on_it s (local s o) _ (λ r. slotted p s r k (call.Get x r k) refl)
-no_step p s (code.Put o k x) h = on_it s (local s o) _ (λ r. slotted p s r k (call.Put r k (local s x)) refl)
-no_step p s (code.Hash x o) h = absurd (true≢false h)
-no_step p s (code.New x c) h = pick (nat_lt s.made most_made) (Calls (call.New x c)) (faults s fault.TooMany) refl refl
-no_step p s (code.Print x) h = refl
-no_step p s (code.Jump l) h = refl
-no_step p s (code.Jlt x y l) h = below s (local s x) (local s y) l
-no_step p s (code.Jeq x y l) h = refl
-no_step p s code.Dump h = pick (nat_lt s.dumps 4) (Calls (call.Dump (s.dumps + 1))) (faults s fault.TooManyDumps) refl refl
-no_step p s code.End h = refl
+no_step p s c h = by_effect p s (λ st. hash_step st ≡ false) c (no_effect p s c h)
 
 at_place : (c : List Code) (k : ℕ) → list_any is_hash_code c ≡ false → is_hash_code (instruction_at c k) ≡ false
 at_place [] k h = refl

@@ -20,7 +20,8 @@ use Rattle.machine_laws.proofs.ReachedAsked.{taken}
 use Rattle.every_outcome.specs.Fuel.{with_fuel, refuelled}
 use Rattle.every_outcome.specs.Stands.{IsAtCall, AllStand}
 use Rattle.every_outcome.proofs.Places.{get_unmap}
-use Rattle.every_outcome.proofs.SameSteps.{with_mode, step_with, step_same}
+use Rattle.plain_machine.proofs.Effects.{in_mode}
+use Rattle.every_outcome.proofs.SameSteps.{step_with, step_same}
 
 pub run_stands : (n : ℕ) (p : ProgramText) (c : List Code) (s : ThreadState) → IsAtCall p c (run_on p c n s) (run_on p c n s).mode
 unfolding run_on
@@ -89,11 +90,11 @@ all_stand_full top m h t s at =
 
 -- two threads that stand before calls, and differ in their fuel and these calls alone, stand before the same
 pub calls_told : (p : ProgramText) (i : List Code) (s : ThreadState) (fuel fuel2 : ℕ) (c d : MonitorCall)
-    → IsAtCall p i (with_mode fuel (Calling c) s) (Calling c) → IsAtCall p i (with_mode fuel2 (Calling d) s) (Calling d) → c ≡ d
+    → IsAtCall p i (in_mode fuel (Calling c) s) (Calling c) → IsAtCall p i (in_mode fuel2 (Calling d) s) (Calling d) → c ≡ d
 calls_told p i s fuel fuel2 c d stands stands2 = same_call (sym again ∙ stands2)
   where
-    again : step_of p (with_mode fuel2 (Calling d) s) (instruction_at i s.place) ≡ Calls c
-    again = step_same fuel2 (Calling d) p (with_mode fuel (Calling c) s) (instruction_at i s.place) ∙ ap (step_with fuel2 (Calling d)) stands
+    again : step_of p (in_mode fuel2 (Calling d) s) (instruction_at i s.place) ≡ Calls c
+    again = step_same fuel2 (Calling d) p (in_mode fuel (Calling c) s) (instruction_at i s.place) ∙ ap (step_with fuel2 (Calling d)) stands
 
     same_call : Calls c ≡ Calls d → c ≡ d
     same_call h = cc

@@ -1,33 +1,28 @@
 -- What a run of local instructions keeps.
-use Rattle.std.proofs.Common.{◌≡◌, ℕ, zero, suc, ◌+◌, ◌<◌, ◌≤◌, ℤ, pos, negsuc, ◌+ℤ◌, ◌-ℤ◌, ◌*ℤ◌, nat_abs, Bool, true, false, List, [], ◌∷◌, map}
-use Rattle.std.proofs.Common.{length, replicate, sum, slice_get, nat_le, nat_lt, if◌then◌else◌, refl, ap, ◌||◌, ◌∙◌, arith, ltb-true, leb-true}
+use Rattle.std.proofs.Common.{◌≡◌, ℕ, zero, suc, ◌+◌, ◌-◌, ◌<◌, ◌≤◌, ℤ, Bool, true, false, List, [], ◌∷◌, map}
+use Rattle.std.proofs.Common.{length, replicate, slice_get, refl, ap, subst, ◌||◌, ◌∙◌, arith}
 use Rattle.std.specs.List.{AllByRecursion, list_any}
 use Rattle.std.proofs.lemmas.List.{length-replicate}
 use Rattle.std.proofs.lemmas.List.Folds.{sum_by-replicate}
-use Rattle.std.proofs.lemmas.Int.{ints}
-use Rattle.plain_monitor.specs.Limits.{most_holds, most_made}
 use Rattle.plain_monitor.specs.declared.entry.Value.{Value}
 use Rattle.plain_monitor.specs.declared.entry.Value.TheVariants.{Nil, Int, Ref}
-use Rattle.plain_monitor.specs.declared.entry.Fault.{Fault}
-use Rattle.plain_monitor.specs.declared.entry.Fault.TheVariants.{IllegalMonitorState, Unguarded, Range, Overflow, TooDeep, TooManyDumps, TooMany}
-use Rattle.plain_monitor.specs.Numbers.{IsInRange, is_in_range}
+use Rattle.plain_monitor.specs.Numbers.{IsInRange}
 use Rattle.object_program.specs.declared.program.Code.{Code}
 use Rattle.object_program.specs.declared.program.Code.TheVariants as code
 use Rattle.object_program.specs.declared.program.LabelDef.{LabelDef}
 use Rattle.object_program.specs.declared.program.ObjectDef.{ObjectDef}
 use Rattle.object_program.specs.declared.program.ThreadDef.{ThreadDef}
-use Rattle.object_program.specs.Program.{ProgramText, total_of, declared_total, is_new, has_new, objects_total, slots_of}
+use Rattle.object_program.specs.Program.{ProgramText, total_of, declared_total, is_new, has_new, objects_total}
 use Rattle.object_program.specs.Valid.{IsProgram, IsThread, IsInstruction, AreObjects}
 use Rattle.plain_machine.specs.declared.monitor_call.MonitorCall.{MonitorCall}
 use Rattle.plain_machine.specs.declared.monitor_call.MonitorCall.TheVariants as call
-use Rattle.plain_machine.specs.Thread.{ThreadState, Step, Goes, Calls, Stops, step_of, local, with_local, on_object, on_slot}
-use Rattle.plain_machine.specs.Thread.{enters, owner_only, computes, combines, faults, sets, holds_of, first_of, size_of}
-use Rattle.plain_machine.specs.Thread.{is_element, element, jumps_where, jumps_below, dumps_next, makes_next}
+use Rattle.plain_machine.specs.Thread.{ThreadState, Step, Goes, Calls, Stops, step_of, local, with_local, sets, first_of, size_of}
 use Rattle.plain_machine.specs.Running.{instruction_at, after_step, run_on, first_state}
 use Rattle.plain_machine.specs.Machine.{code_of}
 use Rattle.machine_laws.specs.ReachedMonitor.{waiting_on}
 use Rattle.plain_machine.specs.Values.{IsValueOf, IsObject}
-use Rattle.machine_laws.specs.ReachedThread.{IsCallOf, IsStateOf, IsThreadOf}
+use Rattle.plain_machine.proofs.Effects.{Effect, Puts, Passes, Heads, Asks, IsLocal, IsOwned, IsPutBy, IsFrom, IsAsked, IsEffectOf, apply, by_effect}
+use Rattle.machine_laws.specs.ReachedThread.{IsHeld, IsCallOf, IsStateOf, IsThreadOf}
 use Rattle.machine_laws.specs.Work.{mode_work}
 use Rattle.plain_monitor.proofs.Lists.{all_or, all_set, all_replicate, all_map, all_weaker}
 
@@ -102,11 +97,8 @@ element_below_from classes k [] n i h l = absurd (omega arith)
 element_below_from classes k (d ∷ ds) zero i h l = omega (arith, h.0.1, l)
 element_below_from classes k (d ∷ ds) (suc n) i h l = omega (arith, element_below_from classes (k + d.size) ds n i h.1 l)
 
-pub element_declared : (p : ProgramText) (n i : ℕ) → IsProgram p → i < size_of (slice_get p.objects n) → first_of (slice_get p.objects n) + i < declared_total p
+element_declared : (p : ProgramText) (n i : ℕ) → IsProgram p → i < size_of (slice_get p.objects n) → first_of (slice_get p.objects n) + i < declared_total p
 element_declared p n i h l = omega (arith, element_below_from (length p.classes) 0 p.objects n i h.objects l)
-
-element_below : (p : ProgramText) (n i : ℕ) → IsProgram p → i < size_of (slice_get p.objects n) → IsObject p (first_of (slice_get p.objects n) + i)
-element_below p n i h l = omega (arith, element_declared p n i h l)
 
 -- a declaration has an element
 some_size : (classes k : ℕ) (ds : List ObjectDef) (n : ℕ) → AreObjects classes k ds → n < length ds → 0 < size_of (slice_get ds n)
@@ -114,19 +106,16 @@ some_size classes k [] n h l = absurd (omega arith)
 some_size classes k (d ∷ ds) zero h l = h.0.2
 some_size classes k (d ∷ ds) (suc n) h l = some_size classes (k + d.size) ds n h.1 (omega arith)
 
-pub first_declared : (p : ProgramText) (n : ℕ) → IsProgram p → n < length p.objects → first_of (slice_get p.objects n) < declared_total p
+first_declared : (p : ProgramText) (n : ℕ) → IsProgram p → n < length p.objects → first_of (slice_get p.objects n) < declared_total p
 first_declared p n h l = omega (arith, element_declared p n 0 h (some_size (length p.classes) 0 p.objects n h.objects l))
 
-first_below : (p : ProgramText) (n : ℕ) → IsProgram p → n < length p.objects → IsObject p (first_of (slice_get p.objects n))
-first_below p n h l = omega (arith, first_declared p n h l)
-
--- the number of an element is below their count
-pub element_size : (i : ℤ) (size : ℕ) → is_element i size ≡ true → nat_abs i < size
-element_size (pos k) size h = grind (arith, ints)
-element_size (negsuc k) size h = absurd (cc h)
-
-in_range : (z : ℤ) → is_in_range z ≡ true → IsInRange z
-in_range z h = grind (arith, ints)
+-- what holds of numbers in their range and of references to declared objects holds of each value that an instruction puts
+pub put_value : (P : Value → Type 0) (p : ProgramText) (c : Code) (v : Value) → IsProgram p → IsRunnable p c → IsPutBy p c v
+    → ((z : ℤ) → IsInRange z → P (Int z)) → ((o : ℕ) → o < declared_total p → P (Ref o)) → P v
+put_value P p (code.Set x z) v h r is number object = subst P is (number z r)
+put_value P p (code.Ref x n) v h r is number object = subst P is (object _ (first_declared p n h r))
+put_value P p (code.Elem x n i) v h r is number object = subst P is.2 (object _ (element_declared p n is.0 h is.1))
+put_value P p c v h r is number object = subst P is.2 (number is.0 is.1)
 
 -- the thread after a step that goes on
 pub record IsKept (p : ProgramText) (s next : ThreadState) : Type 0 where
@@ -152,110 +141,40 @@ sets_step p s x v st is = let next = set_state p s x v st is in
 local_value : (p : ProgramText) (s : ThreadState) (x : ℕ) → IsStateOf p s → IsValueOf (objects_total p) (local s x)
 local_value p s x st = all_or (IsValueOf (objects_total p)) s.locals x Nil (tt, tt) st.locals
 
-computes_step : (p : ProgramText) (s : ThreadState) (x : ℕ) (z : ℤ) → IsStateOf p s → IsStepOf p s (computes s x z)
-computes_step p s x z st = go (is_in_range z) refl
-  where
-    go : (b : Bool) → is_in_range z ≡ b → IsStepOf p s (if b then sets s x (Int z) else faults s Overflow)
-    go true e = sets_step p s x (Int z) st (tt, in_range z e)
-    go false e = tt
+module _ (p : ProgramText) (s : ThreadState) (c : Code) (st : IsStateOf p s) where
+  local_is : (v : Value) → IsLocal s v → IsValueOf (objects_total p) v
+  local_is v at = subst (IsValueOf (objects_total p)) at.1 (local_value p s at.0 st)
 
-combines_step : (p : ProgramText) (s : ThreadState) (x : ℕ) (op : ℤ → ℤ → ℤ) (v w : Value) → IsStateOf p s → IsStepOf p s (combines s x op v w)
-combines_step p s x op (Int y) (Int z) st = computes_step p s x (op y z) st
-combines_step p s x op v w st = tt
+  object_is : (o : ℕ) → IsLocal s (Ref o) → IsObject p o
+  object_is o at = (local_is (Ref o) at).0
 
-element_step : (p : ProgramText) (s : ThreadState) (x k : ℕ) (v : Value) → IsProgram p → IsStateOf p s → IsStepOf p s (element s x (slice_get p.objects k) v)
-element_step p s x k (Int i) h st = go (is_element i (size_of (slice_get p.objects k))) refl
-  where
-    go : (b : Bool) → is_element i (size_of (slice_get p.objects k)) ≡ b
-        → IsStepOf p s (if b then sets s x (Ref (first_of (slice_get p.objects k) + nat_abs i)) else faults s Range)
-    go true e = sets_step p s x (Ref (first_of (slice_get p.objects k) + nat_abs i)) st (element_below p k (nat_abs i) h (element_size i _ e), tt)
-    go false e = tt
-element_step p s x k v h st = tt
+  held_is : (o : ℕ) → IsOwned s o → IsHeld p s.holds o
+  held_is o own = (object_is o own.0, own.1)
 
-enters_step : (p : ProgramText) (s : ThreadState) (o : ℕ) → IsObject p o → IsStepOf p s (enters s o)
-enters_step p s o l = go (nat_lt (sum s.holds) most_holds) refl
-  where
-    go : (b : Bool) → nat_lt (sum s.holds) most_holds ≡ b → IsStepOf p s (if b then Calls (call.Enter o) else faults s TooDeep)
-    go true e = (l, ltb-true _ _ e)
-    go false e = tt
+  call_is : (k : MonitorCall) → IsRunnable p c → IsFrom k c → IsAsked p s k → IsCallOf p s.holds s.dumps s.made k
+  call_is (call.Enter o) r from is = (object_is o is.0, is.1)
+  call_is (call.Exit o) r from is = held_is o is
+  call_is (call.Wait o) r from is = held_is o is
+  call_is (call.Notify o) r from is = held_is o is
+  call_is (call.NotifyAll o) r from is = held_is o is
+  call_is (call.Get x o k) r from is = (held_is o is.0, is.1)
+  call_is (call.Put o k v) r from is = (held_is o is.0, is.1, local_is v is.2)
+  call_is (call.Hash x o) r from is = object_is o is
+  call_is (call.New x d) r from is = let new = subst (IsRunnable p) from r in (new.0, is, new.1)
+  call_is (call.Print v) r from is = local_is v is
+  call_is (call.Dump k) r from is = is
 
--- a call that only the owner may make
-owner_step : (p : ProgramText) (s : ThreadState) (o : ℕ) (fault : Fault) (c : MonitorCall)
-    → (1 ≤ holds_of s o → IsCallOf p s.holds s.dumps s.made c) → IsStepOf p s (owner_only s o fault (Calls c))
-owner_step p s o fault c h = go (nat_le 1 (holds_of s o)) refl
-  where
-    go : (b : Bool) → nat_le 1 (holds_of s o) ≡ b → IsStepOf p s (if b then Calls c else faults s fault)
-    go true e = h (leb-true _ _ e)
-    go false e = tt
-
-slot_step : (p : ProgramText) (s : ThreadState) (o k : ℕ) (c : MonitorCall)
-    → (1 ≤ holds_of s o → k < slots_of p o → IsCallOf p s.holds s.dumps s.made c) → IsStepOf p s (on_slot p s o k c)
-slot_step p s o k c h = go (nat_lt k (slots_of p o)) refl
-  where
-    go : (b : Bool) → nat_lt k (slots_of p o) ≡ b → IsStepOf p s (if b then owner_only s o Unguarded (Calls c) else faults s Range)
-    go true e = owner_step p s o Unguarded c (λ held. h held (ltb-true _ _ e))
-    go false e = tt
-
-object_step : (p : ProgramText) (s : ThreadState) (x : ℕ) (f : ℕ → Step) → IsStateOf p s
-    → ((o : ℕ) → IsObject p o → IsStepOf p s (f o)) → IsStepOf p s (on_object s (local s x) f)
-object_step p s x f st h = go (local s x) (local_value p s x st)
-  where
-    go : (v : Value) → IsValueOf (objects_total p) v → IsStepOf p s (on_object s v f)
-    go Nil is = tt
-    go (Int z) is = tt
-    go (Ref o) is = h o is.0
-
-jump_step : (p : ProgramText) (s : ThreadState) (l : ℕ) (b : Bool) → IsStateOf p s → IsStepOf p s (jumps_where b s l)
-jump_step p s l true st = at_place p s _ st
-jump_step p s l false st = at_place p s _ st
-
-below_step : (p : ProgramText) (s : ThreadState) (v w : Value) (l : ℕ) → IsStateOf p s → IsStepOf p s (jumps_below s v w l)
-below_step p s (Int y) (Int z) l st = jump_step p s l _ st
-below_step p s v w l st = tt
-
-dump_step : (p : ProgramText) (s : ThreadState) → IsStepOf p s (dumps_next s)
-dump_step p s = go (nat_lt s.dumps 4) refl
-  where
-    go : (b : Bool) → nat_lt s.dumps 4 ≡ b → IsStepOf p s (if b then Calls (call.Dump (s.dumps + 1)) else faults s TooManyDumps)
-    go true e = let few = ltb-true _ _ e in (refl, omega (arith, few))
-    go false e = tt
-
-new_step : (p : ProgramText) (s : ThreadState) (x c : ℕ) → c < length p.classes → has_new p.threads ≡ true → IsStepOf p s (makes_next s x c)
-new_step p s x c class new = go (nat_lt s.made most_made) refl
-  where
-    go : (b : Bool) → nat_lt s.made most_made ≡ b → IsStepOf p s (if b then Calls (call.New x c) else faults s TooMany)
-    go true e = (class, ltb-true _ _ e, new)
-    go false e = tt
+  effect_keeps : IsProgram p → IsRunnable p c → (x : Effect) → IsEffectOf p s c x → IsStepOf p s (apply s x)
+  effect_keeps h r (Puts x v) is =
+      sets_step p s x v st (put_value (IsValueOf (objects_total p)) p c v h r is.1 (λ z range. (tt, range)) (λ o below. (omega (arith, below), tt)))
+  effect_keeps h r Passes is = at_place p s (s.place + 1) st
+  effect_keeps h r (Heads l) is = at_place p s (l - 1) st
+  effect_keeps h r (Asks k) is = call_is k r is.0 is.1
+  effect_keeps h r _ is = tt
 
 -- what an instruction leads to
 step_keeps : (p : ProgramText) (s : ThreadState) (c : Code) → IsProgram p → IsStateOf p s → IsRunnable p c → IsStepOf p s (step_of p s c)
-step_keeps p s (code.Set x v) h st r = sets_step p s x (Int v) st (tt, r)
-step_keeps p s (code.Add x y z) h st r = combines_step p s x (λ a b. a +ℤ b) (local s y) (local s z) st
-step_keeps p s (code.Sub x y z) h st r = combines_step p s x (λ a b. a -ℤ b) (local s y) (local s z) st
-step_keeps p s (code.Mul x y z) h st r = combines_step p s x (λ a b. a *ℤ b) (local s y) (local s z) st
-step_keeps p s (code.Ref x k) h st r = sets_step p s x (Ref (first_of (slice_get p.objects k))) st (first_below p k h r, tt)
-step_keeps p s (code.Elem x k i) h st r = element_step p s x k (local s i) h st
-step_keeps p s (code.Enter x) h st r = object_step p s x (enters s) st (enters_step p s)
-step_keeps p s (code.Exit x) h st r = object_step p s x (λ o. owner_only s o IllegalMonitorState (Calls (call.Exit o))) st
-    (λ o l. owner_step p s o IllegalMonitorState (call.Exit o) (λ held. (l, held)))
-step_keeps p s (code.Wait x) h st r = object_step p s x (λ o. owner_only s o IllegalMonitorState (Calls (call.Wait o))) st
-    (λ o l. owner_step p s o IllegalMonitorState (call.Wait o) (λ held. (l, held)))
-step_keeps p s (code.Notify x) h st r = object_step p s x (λ o. owner_only s o IllegalMonitorState (Calls (call.Notify o))) st
-    (λ o l. owner_step p s o IllegalMonitorState (call.Notify o) (λ held. (l, held)))
-step_keeps p s (code.NotifyAll x) h st r = object_step p s x (λ o. owner_only s o IllegalMonitorState (Calls (call.NotifyAll o))) st
-    (λ o l. owner_step p s o IllegalMonitorState (call.NotifyAll o) (λ held. (l, held)))
-step_keeps p s (code.Get x y k) h st r =
-    object_step p s y (λ o. on_slot p s o k (call.Get x o k)) st (λ o l. slot_step p s o k (call.Get x o k) (λ held slot. ((l, held), slot)))
-step_keeps p s (code.Put y k x) h st r = object_step p s y (λ o. on_slot p s o k (call.Put o k (local s x))) st
-    (λ o l. slot_step p s o k (call.Put o k (local s x)) (λ held slot. ((l, held), slot, local_value p s x st)))
-step_keeps p s (code.Hash x y) h st r = object_step p s y (λ o. Calls (call.Hash x o)) st (λ o l. l)
-step_keeps p s (code.New x c) h st r = new_step p s x c r.0 r.1
-step_keeps p s (code.Print x) h st r = local_value p s x st
-step_keeps p s (code.Jump l) h st r = at_place p s _ st
-step_keeps p s (code.Jlt x y l) h st r = below_step p s (local s x) (local s y) l st
-step_keeps p s (code.Jeq x y l) h st r = jump_step p s l _ st
-step_keeps p s code.Dump h st r = dump_step p s
-step_keeps p s code.End h st r = tt
+step_keeps p s c h st r = by_effect p s (IsStepOf p s) c (effect_keeps p s c st h r)
 
 -- what holds of a thread that ran with this much fuel and these holds; it doesn't wait
 pub record IsRunOf (p : ProgramText) (holds : List ℕ) (fuel : ℕ) (s : ThreadState) : Type 0 where

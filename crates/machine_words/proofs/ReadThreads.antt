@@ -21,7 +21,8 @@ use Rattle.machine_laws.proofs.ReachedLists.{at_within}
 use Rattle.every_outcome.specs.Fuel.{with_fuel}
 use Rattle.every_outcome.specs.Stands.{IsAtCall}
 use Rattle.every_outcome.proofs.Places.{length_map, same_list}
-use Rattle.every_outcome.proofs.SameSteps.{with_mode, step_with, step_same}
+use Rattle.plain_machine.proofs.Effects.{in_mode}
+use Rattle.every_outcome.proofs.SameSteps.{step_with, step_same}
 use Rattle.machine_words.specs.ModeWords.{mode_kind, mode_rest}
 use Rattle.machine_words.specs.ThreadWords.{ThreadParts, head_word, thread_words, threads_words, parts_with, read_thread}
 use Rattle.machine_words.specs.ThreadWords.{read_threads, holds_in, calling_in, unmoded, thread_with, threads_with}
@@ -61,7 +62,7 @@ threads_back (s ∷ ss) ws all =
 
 -- the instruction that a thread is at tells the call that it stands before
 told : (fuel : ℕ) (p : ProgramText) (i : List Code) (s : ThreadState) (mode : Mode) → IsAtCall p i s mode
-    → IsCallingIn (calling_in (step_of p (with_mode fuel (Unwinding Done) s) (instruction_at i s.place))) mode
+    → IsCallingIn (calling_in (step_of p (in_mode fuel (Unwinding Done) s) (instruction_at i s.place))) mode
 told fuel p i s (Calling c) h = ap calling_in (step_same fuel (Unwinding Done) p s (instruction_at i s.place) ∙ ap (step_with fuel (Unwinding Done)) h)
 told fuel p i s (Waiting o) h = tt
 told fuel p i s (Unwinding e) h = tt
@@ -70,9 +71,9 @@ told fuel p i s (Ended e) h = tt
 thread_is : (fuel t : ℕ) (p : ProgramText) (i : List Code) (objects : List PlainObject) (s : ThreadState) → holds_in t objects ≡ s.holds
     → IsAtCall p i s s.mode → thread_with p i (parts_of s) (unmoded fuel t objects (parts_of s)) ≡ with_fuel fuel s
 thread_is fuel t p i objects s holds stands =
-    let same : unmoded fuel t objects (parts_of s) ≡ with_mode fuel (Unwinding Done) s =
+    let same : unmoded fuel t objects (parts_of s) ≡ in_mode fuel (Unwinding Done) s =
     ap (λ (hs : List ℕ). record s { fuel = fuel; holds = hs; mode = Unwinding Done }) holds in
-    let mode = mode_back (calling_in (step_of p (with_mode fuel (Unwinding Done) s) (instruction_at i s.place))) s.mode (told fuel p i s s.mode stands) in
+    let mode = mode_back (calling_in (step_of p (in_mode fuel (Unwinding Done) s) (instruction_at i s.place))) s.mode (told fuel p i s s.mode stands) in
     ap (thread_with p i (parts_of s)) same ∙ ap (λ (m : Mode). record s { fuel = fuel; mode = m }) mode
 
 index_map : {X : Type 0} (f : X → ℕ) (xs : List X) (k : ℕ) (x : X) → slice_get xs k ≡ Some x → slice_index (map f xs) k ≡ f x

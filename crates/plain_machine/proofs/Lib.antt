@@ -12,3 +12,4 @@ pub mod Starts
 pub mod NeededObjects
 pub mod Places
 pub mod Refuelled
+pub mod Effects

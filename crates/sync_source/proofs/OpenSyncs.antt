@@ -1,26 +1,26 @@
 -- A thread of a program with blocks holds just what its open `sync`s have entered, since nothing gives a value to their locals before their
 -- exits.
-use Rattle.std.proofs.Common.{◌≡◌, ℕ, ◌+◌, ◌-◌, ◌≤◌, ◌==◌, ℤ, ◌+ℤ◌, ◌-ℤ◌, ◌*ℤ◌, nat_abs, Bool, true, false, if◌then◌else◌}
-use Rattle.std.proofs.Common.{List, [], ◌∷◌, slice_index, slice_index_or, slice_set, slice_get, sum, nat_le, nat_lt}
-use Rattle.std.proofs.Common.{Option, refl, sym, ap, ◌∙◌, subst, arith, eq-eqb, leb-false, get_or-set_other}
+use Rattle.std.proofs.Common.{◌≡◌, ℕ, ◌+◌, ◌-◌, ◌≤◌, ◌==◌, Bool, true, false, if◌then◌else◌}
+use Rattle.std.proofs.Common.{List, [], ◌∷◌, slice_index, slice_index_or, slice_set, sum, nat_le, nat_lt}
+use Rattle.std.proofs.Common.{Option, Some, None, refl, sym, ap, ◌∙◌, subst, arith, eq-eqb, leb-false, get_or-set_other}
 use Rattle.std.specs.Prelude.{int_lt}
 use Rattle.std.specs.List.{AllByRecursion}
 use Rattle.std.proofs.lemmas.Bool.{false≢true}
-use Rattle.plain_monitor.specs.Limits.{most_holds, most_made}
+use Rattle.plain_monitor.specs.Limits.{most_holds}
 use Rattle.plain_monitor.specs.declared.entry.Value.{Value}
 use Rattle.plain_monitor.specs.declared.entry.Value.TheVariants.{Nil, Int, Ref}
-use Rattle.plain_monitor.specs.declared.entry.Fault.{Fault}
-use Rattle.plain_monitor.specs.declared.entry.Fault.TheVariants.{IllegalMonitorState, Unguarded, Range, Overflow, TooDeep, TooManyDumps, TooMany}
-use Rattle.plain_monitor.specs.Numbers.{is_in_range}
+use Rattle.plain_monitor.specs.declared.entry.Fault.TheVariants.{IllegalMonitorState, TooDeep}
 use Rattle.plain_monitor.specs.Objects.{same_value}
-use Rattle.object_program.specs.declared.program.ObjectDef.{ObjectDef}
 use Rattle.object_program.specs.declared.program.Code.{Code}
 use Rattle.object_program.specs.declared.program.Code.TheVariants as instr
-use Rattle.object_program.specs.Program.{ProgramText, slots_of}
+use Rattle.object_program.specs.Program.{ProgramText}
 use Rattle.plain_machine.specs.declared.monitor_call.MonitorCall.{MonitorCall}
 use Rattle.plain_machine.specs.declared.monitor_call.MonitorCall.TheVariants as call
-use Rattle.plain_machine.specs.Thread.{ThreadState, Step, Calls, sets, faults, computes, combines, on_object, owner_only}
-use Rattle.plain_machine.specs.Thread.{enters, on_slot, size_of, first_of, element, is_element, step_of, local, holds_of}
+use Rattle.plain_machine.specs.Thread.{ThreadState, Step, Calls, sets, faults, on_object, owner_only}
+use Rattle.plain_machine.specs.Thread.{enters, step_of, local, holds_of}
+use Rattle.plain_machine.proofs.Effects.{Effect, Puts, Passes, Heads, Asks, Faults, IsFrom, IsEffectOf, apply, by_effect, target_of}
+use Rattle.plain_machine.proofs.Effects as effects
+use Rattle.plain_monitor.proofs.Lists.{all_weaker}
 use Rattle.sync_source.specs.Source.{Statements, Nothing, Plain, Sync, If, While}
 use Rattle.plain_monitor.specs.declared.entry.Ending.{Ending}
 use Rattle.plain_monitor.specs.declared.entry.Ending.TheVariants as ending
@@ -158,75 +158,48 @@ open_aside locals x v xs holds h k =
 free_when : {xs : List ℕ} {locals : List Value} {holds : ℕ → ℕ} → HoldsOpen xs locals holds → xs ≡ [] → (o : ℕ) → holds o ≡ 0
 free_when {xs} {locals} {holds} h e o = sym (h.held o) ∙ ap (λ (ys : List ℕ). references locals ys o) e
 
+-- whether this is the local that an instruction gives a value
+abbrev is_target_at : ℕ → Option ℕ → Bool
+is_target_at y (Some x) = x == y
+is_target_at y None = false
+
+assigns_target : (y : ℕ) (c : Code) → assigns y c ≡ is_target_at y (target_of c)
+assigns_target y instr.End = refl
+assigns_target y c = refl
+
 -- an instruction, where the rest is kept
 module _ (s : ThreadState) (left : Left) (kept : IsKept left s.locals (holds_of s)) where
   abbrev Keeps : Step → Type 0
   Keeps a = StepKept s (then_left left a)
 
-  either : (holds : Bool) (a b : Step) → Keeps a → Keeps b → Keeps (if holds then a else b)
-  either true a b h k = h
-  either false a b h k = k
-
   sets_kept : (x : ℕ) (v : Value) → AreOthers x (open_in left) → Keeps (sets s x v)
   sets_kept x v h = record { keeps = kept.keeps; opened = open_aside s.locals x v (open_in left) (holds_of s) h kept.opened }
 
-  computes_kept : (x : ℕ) (z : ℤ) → AreOthers x (open_in left) → Keeps (computes s x z)
-  computes_kept x z h = either (is_in_range z) (sets s x (Int z)) (faults s Overflow) (sets_kept x (Int z) h) tt
+  module _ (p : ProgramText) (c : Code) (plain : IsPlain c) (h : AllByRecursion (λ x. assigns x c ≡ false) (open_in left)) where
+    spared : (x : ℕ) → target_of c ≡ Some x → AreOthers x (open_in left)
+    spared x e =
+        all_weaker (λ y. assigns y c ≡ false) (λ y. (x == y) ≡ false)
+        (λ y k. subst (λ (o : Option ℕ). is_target_at y o ≡ false) e (sym (assigns_target y c) ∙ k)) (open_in left) h
 
-  combines_kept : (x : ℕ) (op : ℤ → ℤ → ℤ) (v w : Value) → AreOthers x (open_in left) → Keeps (combines s x op v w)
-  combines_kept x op (Int y) (Int z) h = computes_kept x (op y z) h
-  combines_kept x op v w h = tt
+    ready : (k : MonitorCall) → IsFrom k c → IsReadyFor s k left
+    ready (call.Enter o) from = absurd (subst IsPlain from.1 plain)
+    ready (call.Exit o) from = absurd (subst IsPlain from.1 plain)
+    ready (call.Get x o k) from = record { spares = spared x (ap target_of from.1); kept = kept }
+    ready (call.Hash x o) from = record { spares = spared x (ap target_of from.1); kept = kept }
+    ready (call.New x d) from = record { spares = spared x (ap target_of from); kept = kept }
+    ready k from = record { spares = tt; kept = kept }
 
-  element_kept : (x : ℕ) (d : Option ObjectDef) (v : Value) → AreOthers x (open_in left) → Keeps (element s x d v)
-  element_kept x d (Int i) h =
-      either (is_element i (size_of d)) (sets s x (Ref (first_of d + nat_abs i))) (faults s Range) (sets_kept x (Ref (first_of d + nat_abs i)) h) tt
-  element_kept x d v h = tt
-
-  object_kept : (v : Value) (f : ℕ → Step) → ((o : ℕ) → Keeps (f o)) → Keeps (on_object s v f)
-  object_kept (Ref o) f h = h o
-  object_kept v f h = tt
-
-  owner_kept : (o : ℕ) (f : Fault) (c : MonitorCall) → IsReadyFor s c left → Keeps (owner_only s o f (Calls c))
-  owner_kept o f c h = either (nat_le 1 (holds_of s o)) (Calls c) (faults s f) h tt
-
-  slot_kept : (p : ProgramText) (o k : ℕ) (c : MonitorCall) → IsReadyFor s c left → Keeps (on_slot p s o k c)
-  slot_kept p o k c h = either (nat_lt k (slots_of p o)) (owner_only s o Unguarded (Calls c)) (faults s Range) (owner_kept o Unguarded c h) tt
+    effect_kept : (is_end c ≡ true → open_in left ≡ []) → (x : Effect) → IsEffectOf p s c x → Keeps (apply s x)
+    effect_kept e (Puts x v) is = sets_kept x v (spared x is.0)
+    effect_kept e Passes is = kept
+    effect_kept e (Heads l) is = kept
+    effect_kept e (Asks k) is = ready k is.0
+    effect_kept e (Faults f) is = tt
+    effect_kept e effects.Over is = free_when kept.opened (e (ap is_end is))
 
   plain_kept : (p : ProgramText) (c : Code) → IsPlain c → AllByRecursion (λ x. assigns x c ≡ false) (open_in left)
       → (is_end c ≡ true → open_in left ≡ []) → Keeps (step_of p s c)
-  plain_kept p (instr.Set x v) i h e = sets_kept x (Int v) h
-  plain_kept p (instr.Add x y z) i h e = combines_kept x (λ a b. a +ℤ b) (local s y) (local s z) h
-  plain_kept p (instr.Sub x y z) i h e = combines_kept x (λ a b. a -ℤ b) (local s y) (local s z) h
-  plain_kept p (instr.Mul x y z) i h e = combines_kept x (λ a b. a *ℤ b) (local s y) (local s z) h
-  plain_kept p (instr.Ref x n) i h e = sets_kept x (Ref (first_of (slice_get p.objects n))) h
-  plain_kept p (instr.Elem x n k) i h e = element_kept x (slice_get p.objects n) (local s k) h
-  plain_kept p (instr.Enter x) i h e = absurd i
-  plain_kept p (instr.Exit x) i h e = absurd i
-  plain_kept p (instr.Wait x) i h e =
-      object_kept (local s x) (λ o. owner_only s o IllegalMonitorState (Calls (call.Wait o)))
-      (λ o. owner_kept o IllegalMonitorState (call.Wait o) (record { spares = tt; kept = kept }))
-  plain_kept p (instr.Notify x) i h e =
-      object_kept (local s x) (λ o. owner_only s o IllegalMonitorState (Calls (call.Notify o)))
-      (λ o. owner_kept o IllegalMonitorState (call.Notify o) (record { spares = tt; kept = kept }))
-  plain_kept p (instr.NotifyAll x) i h e =
-      object_kept (local s x) (λ o. owner_only s o IllegalMonitorState (Calls (call.NotifyAll o)))
-      (λ o. owner_kept o IllegalMonitorState (call.NotifyAll o) (record { spares = tt; kept = kept }))
-  plain_kept p (instr.Get x y k) i h e =
-      object_kept (local s y) (λ o. on_slot p s o k (call.Get x o k)) (λ o. slot_kept p o k (call.Get x o k) (record { spares = h; kept = kept }))
-  plain_kept p (instr.Put y k x) i h e =
-      object_kept (local s y) (λ o. on_slot p s o k (call.Put o k (local s x)))
-      (λ o. slot_kept p o k (call.Put o k (local s x)) (record { spares = tt; kept = kept }))
-  plain_kept p (instr.Hash x y) i h e =
-      object_kept (local s y) (λ o. Calls (call.Hash x o)) (λ o. record { spares = h; kept = kept })
-  plain_kept p (instr.New x c) i h e =
-      either (nat_lt s.made most_made) (Calls (call.New x c)) (faults s TooMany) (record { spares = h; kept = kept }) tt
-  plain_kept p (instr.Print x) i h e = record { spares = tt; kept = kept }
-  plain_kept p (instr.Jump l) i h e = absurd i
-  plain_kept p (instr.Jlt x y l) i h e = absurd i
-  plain_kept p (instr.Jeq x y l) i h e = absurd i
-  plain_kept p instr.Dump i h e =
-      either (nat_lt s.dumps 4) (Calls (call.Dump (s.dumps + 1))) (faults s TooManyDumps) (record { spares = tt; kept = kept }) tt
-  plain_kept p instr.End i h e = free_when kept.opened (e refl)
+  plain_kept p c i h e = by_effect p s Keeps c (effect_kept p c i h e)
 
 -- the exit of an open `sync` is a call, of the object that its local refers to
 pub record IsExitCall (p : ProgramText) (s : ThreadState) (x : ℕ) : Type 0 where

@@ -18,7 +18,8 @@ use Rattle.plain_machine.specs.Running.{run_on}
 use Rattle.plain_machine.specs.Thread.{past, with_local}
 use Rattle.thread_frame.specs.Frames.{FrameSeen, before_call, state_in, led_on, frame_answered, frame_after_call, frame_after}
 use Rattle.thread_frame.proofs.Lists.{take_set}
-use Rattle.thread_frame.proofs.Runs.{in_mode, run_same, run_holds}
+use Rattle.plain_machine.proofs.Effects.{in_mode}
+use Rattle.thread_frame.proofs.Runs.{run_same, run_holds}
 
 -- the frame at this place, with so much fuel, in the middle of its local instructions
 abbrev goes_on : ℕ → ℕ → FrameSeen → FrameSeen

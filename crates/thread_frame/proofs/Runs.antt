@@ -1,27 +1,12 @@
 -- A run doesn't ask for the fuel and the mode that its thread has, and leaves the thread's holds as they are.
-use Rattle.std.proofs.Common.{◌≡◌, ℕ, zero, suc, ◌+ℤ◌, ◌-ℤ◌, ◌*ℤ◌, ℤ, Bool, true, false, if◌then◌else◌}
-use Rattle.std.proofs.Common.{List, slice_get, sum, nat_le, nat_lt, Option, refl, ap, sym, ◌∙◌}
-use Rattle.plain_monitor.specs.Limits.{most_holds, most_made}
-use Rattle.plain_monitor.specs.declared.entry.Fault.{Fault}
-use Rattle.plain_monitor.specs.declared.entry.Fault.TheVariants.{IllegalMonitorState, Unguarded}
-use Rattle.plain_monitor.specs.declared.entry.Value.{Value}
-use Rattle.plain_monitor.specs.declared.entry.Value.TheVariants.{Nil, Int, Ref}
-use Rattle.plain_monitor.specs.Numbers.{is_in_range}
-use Rattle.plain_monitor.specs.Objects.{same_value}
+use Rattle.std.proofs.Common.{◌≡◌, ℕ, zero, suc}
+use Rattle.std.proofs.Common.{List, refl, ap, sym, ◌∙◌}
 use Rattle.object_program.specs.declared.program.Code.{Code}
-use Rattle.object_program.specs.declared.program.Code.TheVariants as code
-use Rattle.object_program.specs.declared.program.ObjectDef.{ObjectDef}
-use Rattle.object_program.specs.Program.{ProgramText, slots_of}
-use Rattle.plain_machine.specs.declared.monitor_call.MonitorCall.{MonitorCall}
-use Rattle.plain_machine.specs.declared.monitor_call.MonitorCall.TheVariants as call
+use Rattle.object_program.specs.Program.{ProgramText}
 use Rattle.plain_machine.specs.declared.monitor_call.Mode.{Mode}
 use Rattle.plain_machine.specs.Running.{instruction_at, after_step, run_on}
-use Rattle.plain_machine.specs.Thread.{ThreadState, Step, Goes, Calls, Stops, step_of, local, on_object, on_slot, owner_only}
-use Rattle.plain_machine.specs.Thread.{computes, combines, holds_of, size_of, is_element, element, jumps_where, jumps_below}
-
--- the same thread with other fuel, in another mode
-abbrev pub in_mode : ℕ → Mode → ThreadState → ThreadState
-in_mode fuel mode s = record s { fuel = fuel; mode = mode }
+use Rattle.plain_machine.specs.Thread.{ThreadState, Step, Goes, Calls, Stops, step_of}
+use Rattle.plain_machine.proofs.Effects.{Effect, Over, apply, in_mode, by_effects}
 
 -- the step of another thread that is at the same place: it has its own fuel, holds, dumps and mode
 abbrev step_in : ThreadState → Step → Step
@@ -29,75 +14,14 @@ step_in r (Goes next) = Goes (record r { place = next.place; locals = next.local
 step_in r (Calls c) = Calls c
 step_in r (Stops e) = Stops e
 
--- one of two steps
-either_in : (r : ThreadState) (b : Bool) (x y u v : Step) → x ≡ step_in r u → y ≡ step_in r v
-    → (if b then x else y) ≡ step_in r (if b then u else v)
-either_in r true x y u v e q = e
-either_in r false x y u v e q = q
-
-computes_in : (s : ThreadState) (n : ℕ) (m : Mode) (x : ℕ) (z : ℤ)
-    → computes (in_mode n m s) x z ≡ step_in (in_mode n m s) (computes s x z)
-computes_in s n m x z = either_in (in_mode n m s) (is_in_range z) _ _ _ _ refl refl
-
-combines_in : (s : ThreadState) (n : ℕ) (m : Mode) (x : ℕ) (op : ℤ → ℤ → ℤ) (v w : Value)
-    → combines (in_mode n m s) x op v w ≡ step_in (in_mode n m s) (combines s x op v w)
-combines_in s n m x op (Int y) (Int z) = computes_in s n m x (op y z)
-combines_in s n m x op v w = refl
-
-element_in : (s : ThreadState) (n : ℕ) (m : Mode) (x : ℕ) (d : Option ObjectDef) (v : Value)
-    → element (in_mode n m s) x d v ≡ step_in (in_mode n m s) (element s x d v)
-element_in s n m x d (Int i) = either_in (in_mode n m s) (is_element i (size_of d)) _ _ _ _ refl refl
-element_in s n m x d v = refl
-
-owner_in : (s : ThreadState) (n : ℕ) (m : Mode) (o : ℕ) (f : Fault) (c : MonitorCall)
-    → owner_only (in_mode n m s) o f (Calls c) ≡ step_in (in_mode n m s) (owner_only s o f (Calls c))
-owner_in s n m o f c = either_in (in_mode n m s) (nat_le 1 (holds_of s o)) _ _ _ _ refl refl
-
-slot_in : (p : ProgramText) (s : ThreadState) (n : ℕ) (m : Mode) (o k : ℕ) (c : MonitorCall)
-    → on_slot p (in_mode n m s) o k c ≡ step_in (in_mode n m s) (on_slot p s o k c)
-slot_in p s n m o k c = either_in (in_mode n m s) (nat_lt k (slots_of p o)) _ _ _ _ (owner_in s n m o Unguarded c) refl
-
-object_in : (s : ThreadState) (n : ℕ) (m : Mode) (v : Value) (f g : ℕ → Step)
-    → ((o : ℕ) → g o ≡ step_in (in_mode n m s) (f o))
-    → on_object (in_mode n m s) v g ≡ step_in (in_mode n m s) (on_object s v f)
-object_in s n m Nil f g h = refl
-object_in s n m (Int z) f g h = refl
-object_in s n m (Ref o) f g h = h o
-
-jump_in : (s : ThreadState) (n : ℕ) (m : Mode) (b : Bool) (l : ℕ)
-    → jumps_where b (in_mode n m s) l ≡ step_in (in_mode n m s) (jumps_where b s l)
-jump_in s n m true l = refl
-jump_in s n m false l = refl
-
-below_in : (s : ThreadState) (n : ℕ) (m : Mode) (v w : Value) (l : ℕ)
-    → jumps_below (in_mode n m s) v w l ≡ step_in (in_mode n m s) (jumps_below s v w l)
-below_in s n m (Int y) (Int z) l = jump_in s n m _ l
-below_in s n m v w l = refl
+applied_in : (s : ThreadState) (n : ℕ) (m : Mode) (x : Effect) → apply (in_mode n m s) x ≡ step_in (in_mode n m s) (apply s x)
+applied_in s n m Over = refl
+applied_in s n m _ = refl
 
 -- the step of a thread with other fuel and in another mode
 steps_in : (p : ProgramText) (s : ThreadState) (n : ℕ) (m : Mode) (c : Code)
     → step_of p (in_mode n m s) c ≡ step_in (in_mode n m s) (step_of p s c)
-steps_in p s n m (code.Set x v) = refl
-steps_in p s n m (code.Add x y z) = combines_in s n m x (λ a b. a +ℤ b) (local s y) (local s z)
-steps_in p s n m (code.Sub x y z) = combines_in s n m x (λ a b. a -ℤ b) (local s y) (local s z)
-steps_in p s n m (code.Mul x y z) = combines_in s n m x (λ a b. a *ℤ b) (local s y) (local s z)
-steps_in p s n m (code.Ref x k) = refl
-steps_in p s n m (code.Elem x k i) = element_in s n m x (slice_get p.objects k) (local s i)
-steps_in p s n m (code.Enter x) = object_in s n m (local s x) _ _ (λ o. either_in (in_mode n m s) (nat_lt (sum s.holds) most_holds) _ _ _ _ refl refl)
-steps_in p s n m (code.Exit x) = object_in s n m (local s x) _ _ (λ o. owner_in s n m o IllegalMonitorState (call.Exit o))
-steps_in p s n m (code.Wait x) = object_in s n m (local s x) _ _ (λ o. owner_in s n m o IllegalMonitorState (call.Wait o))
-steps_in p s n m (code.Notify x) = object_in s n m (local s x) _ _ (λ o. owner_in s n m o IllegalMonitorState (call.Notify o))
-steps_in p s n m (code.NotifyAll x) = object_in s n m (local s x) _ _ (λ o. owner_in s n m o IllegalMonitorState (call.NotifyAll o))
-steps_in p s n m (code.Get x y k) = object_in s n m (local s y) _ _ (λ o. slot_in p s n m o k (call.Get x o k))
-steps_in p s n m (code.Put y k x) = object_in s n m (local s y) _ _ (λ o. slot_in p s n m o k (call.Put o k (local s x)))
-steps_in p s n m (code.Hash x y) = object_in s n m (local s y) _ _ (λ o. refl)
-steps_in p s n m (code.New x c) = either_in (in_mode n m s) (nat_lt s.made most_made) _ _ _ _ refl refl
-steps_in p s n m (code.Print x) = refl
-steps_in p s n m (code.Jump l) = refl
-steps_in p s n m (code.Jlt x y l) = below_in s n m (local s x) (local s y) l
-steps_in p s n m (code.Jeq x y l) = jump_in s n m (same_value (local s x) (local s y)) l
-steps_in p s n m code.Dump = either_in (in_mode n m s) (nat_lt s.dumps 4) _ _ _ _ refl refl
-steps_in p s n m code.End = refl
+steps_in p s n m c = by_effects p s (λ a b. b ≡ step_in (in_mode n m s) a) s.place n m c (λ x from. applied_in s n m x)
 
 -- a step changes the place and the locals alone
 step_keeps : (p : ProgramText) (s : ThreadState) (c : Code) → step_of p s c ≡ step_in s (step_of p s c)

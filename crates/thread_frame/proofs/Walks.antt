@@ -15,7 +15,8 @@ use Rattle.plain_machine.proofs.Runs.{run_goes, run_calls, run_stops, run_spent}
 use Rattle.thread_frame.specs.Frames.{FrameSeen, state_in, led_on}
 use Rattle.thread_frame.specs.inner.Walking.{frame_moved, IsPlacedFor}
 use Rattle.thread_frame.proofs.Lists.{take_set}
-use Rattle.thread_frame.proofs.Runs.{in_mode, run_same}
+use Rattle.plain_machine.proofs.Effects.{in_mode}
+use Rattle.thread_frame.proofs.Runs.{run_same}
 
 -- the frame with this mode
 abbrev in_option : FrameSeen → Option Mode → FrameSeen
