@@ -1,13 +1,10 @@
 -- An exit that came so far, in other words, and what its mirror shows.
-use Rattle.std.proofs.Common.{◌≡◌, ℕ, ◌+◌, ◌^◌, ◌<◌, ◌≤◌, Bool, true, false, [], ◌∷◌, ◌++◌, length, length-append, refl, sym, ap, ◌∙◌, subst, arith}
+use Rattle.std.proofs.Common.{◌≡◌, ℕ, ◌+◌, ◌^◌, ◌<◌, ◌≤◌, Bool, true, false, [], ◌∷◌, length, length-append, ap, ◌∙◌, subst, arith}
 use Rattle.plain_monitor.specs.declared.entry.Entry.TheVariants as entry
-use Rattle.plain_monitor.specs.declared.entry.Logged.{Logged}
 use Rattle.plain_monitor.specs.History.{last_stamp}
 use Rattle.core_world.specs.Clauses.Lengths.{log_limit}
-use Rattle.core_world.specs.Steps.{known_after, with_entry}
-use Rattle.core_world.specs.Threads.ThreadView.{ThreadView, Local, local_of}
+use Rattle.core_world.specs.Threads.ThreadView.{ThreadView, Local}
 use Rattle.core_world.specs.Trees.Plans.{CallContext}
-use Rattle.core_world.specs.Trees.StepTree.{StepTree}
 use Rattle.core_law.specs.Logic.{Heap}
 use Rattle.heap_table.specs.Kept.{Mirrors}
 use Rattle.heap_table.specs.Seen.{HeapSeen, PassSeen}
@@ -15,7 +12,7 @@ use Rattle.heap_table.specs.declared.mirror.Mirror.{Mirror}
 use Rattle.heap_table.specs.declared.quick_exits.ExitPart.{ExitPart}
 use Rattle.heap_table.specs.declared.quick_exits.ExitPart.TheVariants as parts
 use Rattle.heap_table.specs.inner.Amid.{ExitTree, IsStartOf, Late, lagging}
-use Rattle.heap_table.specs.inner.Leaving.{IsUnnoted, KeepsPart, LatePart, PartShown, ending_part, part_left}
+use Rattle.heap_table.specs.inner.Leaving.{KeepsPart, LatePart, PartShown, ending_part, part_left}
 use Rattle.heap_table.proofs.Follow.{few_given, last_end}
 use Rattle.heap_table.proofs.Late.{start_since}
 use Rattle.heap_table.proofs.StepsLeft.{left_as}

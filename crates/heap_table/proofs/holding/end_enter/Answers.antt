@@ -2,7 +2,7 @@
 use Rattle.std.proofs.Common.{◌≡◌, refl, sym, ap, ◌∙◌, subst}
 use Rattle.plain_monitor.specs.declared.entry.Path.{Path}
 use Rattle.core_world.specs.Threads.Stages.{Revocation}
-use Rattle.core_world.specs.Threads.ThreadView.{ThreadView, Local, Start, local_of}
+use Rattle.core_world.specs.Threads.ThreadView.{ThreadView, Local, Start}
 use Rattle.core_world.specs.Trees.Plans.{CallContext}
 use Rattle.core_world.specs.Words.Shape.{Shape}
 use Rattle.heap_table.specs.Quick.{entered}

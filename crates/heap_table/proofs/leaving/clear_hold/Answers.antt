@@ -5,7 +5,6 @@ use Rattle.plain_monitor.specs.Limits.{most_holds}
 use Rattle.plain_monitor.specs.declared.entry.Entry.TheVariants as entry
 use Rattle.core_law.specs.Logic.{Heap}
 use Rattle.core_world.specs.declared.act.Act.TheVariants.{Load}
-use Rattle.core_world.specs.declared.heap_call.HeapCall.{HeapCall}
 use Rattle.core_world.specs.declared.plan.LocalEffect.TheVariants.{Unchanged}
 use Rattle.core_world.specs.declared.stage.Stage.TheVariants.{Settled}
 use Rattle.core_world.specs.declared.word_id.WordId.{WordId}
@@ -15,7 +14,7 @@ use Rattle.core_world.specs.Threads.ThreadView.{ThreadView, Local}
 use Rattle.core_world.specs.Trees.Plans.{CallContext, logging_plan, top_place, with_stage}
 use Rattle.core_world.specs.Trees.StepTree.{step}
 use Rattle.heap_table.specs.Kept.{Mirrors}
-use Rattle.heap_table.specs.Ruled.{heap_in, only}
+use Rattle.heap_table.specs.Ruled.{only}
 use Rattle.heap_table.specs.Seen.{HeapSeen, PassSeen}
 use Rattle.heap_table.specs.declared.holds.Holds.{Holds}
 use Rattle.heap_table.specs.declared.mirror.Mirror.{Mirror}

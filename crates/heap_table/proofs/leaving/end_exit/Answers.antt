@@ -1,5 +1,5 @@
 -- By how far the exit came.
-use Rattle.std.proofs.Common.{◌≡◌, ℕ, Bool, Option, Some, None, true, false, refl, sym, ap, ◌∙◌, subst}
+use Rattle.std.proofs.Common.{◌≡◌, ℕ, Bool, Some, None, true, false, refl, sym, ap, ◌∙◌, subst}
 use Rattle.core_world.specs.Threads.ThreadView.{ThreadView, Local}
 use Rattle.core_world.specs.Trees.Plans.{CallContext}
 use Rattle.core_law.specs.Logic.{Heap}
@@ -9,7 +9,7 @@ use Rattle.heap_table.specs.declared.mirror.Mirror.{Mirror}
 use Rattle.heap_table.specs.declared.quick.QuickExit.TheVariants as exits
 use Rattle.heap_table.specs.declared.quick_exits.ExitPart.{ExitPart}
 use Rattle.heap_table.specs.declared.quick_exits.ExitPart.TheVariants as parts
-use Rattle.heap_table.specs.inner.Amid.{IsIdle, LeavesIdle, exit_left, lagging}
+use Rattle.heap_table.specs.inner.Amid.{LeavesIdle, exit_left, lagging}
 use Rattle.heap_table.specs.inner.Leaving.{IsAmidPart, KeepsPart, LatePart, PartShown, clears, ending_part, left_by, part_left}
 use Rattle.heap_table.proofs.Late.{late_as}
 use Rattle.heap_table.proofs.StepsLeft.{left_as}

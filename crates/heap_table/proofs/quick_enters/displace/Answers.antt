@@ -2,7 +2,6 @@
 use Rattle.std.proofs.Common.{◌≡◌, refl, sym, ap, ◌∙◌}
 use Rattle.core_world.specs.declared.act.Act.TheVariants.{Store}
 use Rattle.core_world.specs.declared.word_id.WordId.TheVariants.{Displaced}
-use Rattle.core_world.specs.Threads.ThreadView.{local_of}
 use Rattle.core_world.specs.Trees.LockSteps.{displace_plan}
 use Rattle.core_world.specs.Trees.Plans.{free_place, quiet_plan, with_stage}
 use Rattle.heap_table.specs.Ruled.{heap_in, only}

@@ -9,7 +9,7 @@ use Rattle.core_world.specs.declared.heap_call.HeapCall.{HeapCall}
 use Rattle.core_world.specs.declared.stage.Stage.TheVariants.{Settled}
 use Rattle.core_world.specs.declared.word_id.WordId.TheVariants.{Prototype}
 use Rattle.core_world.specs.Threads.Stages.{Revocation}
-use Rattle.core_world.specs.Threads.ThreadView.{Local, Start, local_of}
+use Rattle.core_world.specs.Threads.ThreadView.{Local, Start}
 use Rattle.core_world.specs.Trees.BiasSteps.{bias_enter_at, bias_enter_by, bias_valid_steps, rebias_steps, took_steps}
 use Rattle.core_world.specs.Trees.Operations.{answer, enter_tried}
 use Rattle.core_world.specs.Trees.Plans.{CallContext, load, quiet_plan, with_stage}

@@ -1,12 +1,11 @@
 -- The monitor was free, or is the thread's own, or another's.
-use Rattle.std.proofs.Common.{◌≡◌, ℕ, refl, sym, ap, ◌∙◌}
+use Rattle.std.proofs.Common.{◌≡◌, ℕ, sym, ap, ◌∙◌}
 use Rattle.mark_word.specs.Owner.{owner_of}
 use Rattle.mark_word.specs.declared.owner.OwnerForm.TheVariants.{ByThread}
 use Rattle.plain_monitor.specs.declared.entry.Path.TheVariants.{MonitorAgain, MonitorFirst}
 use Rattle.core_world.specs.declared.heap_call.HeapCall.{HeapCall}
 use Rattle.core_world.specs.Threads.ThreadView.{ThreadView, Local, local_of}
 use Rattle.core_world.specs.Trees.Plans.{CallContext}
-use Rattle.heap_table.specs.Ruled.{only}
 use Rattle.heap_table.specs.Seen.{HeapSeen, PassSeen}
 use Rattle.heap_table.specs.declared.mirror.Mirror.{Mirror}
 use Rattle.heap_table.specs.declared.setting.Setting.{Setting}
