@@ -11,8 +11,8 @@ use Rattle.object_program.specs.declared.program.ObjectDef.{ObjectDef}
 use Rattle.object_program.specs.declared.program.LabelDef.{LabelDef}
 use Rattle.object_program.specs.declared.program.ThreadDef.{ThreadDef}
 use Rattle.object_program.specs.declared.program.Code.{Code}
-use Rattle.object_program.specs.declared.program.Code.TheVariants.{Set, Add, Sub, Mul, Ref, Elem, Enter, Exit, Wait, Notify, NotifyAll}
-use Rattle.object_program.specs.declared.program.Code.TheVariants.{Get, Put, Hash, New, Print, Jump, Jlt, Jeq, Dump, End}
+use Rattle.object_program.specs.declared.program.Code.TheVariants.{Set}
+use Rattle.object_program.specs.declared.program.Code.TheVariants.{Jump, Jlt, Jeq, Dump, End}
 use Rattle.program_syntax.specs.declared.keyword.Keyword.{Keyword}
 use Rattle.object_program.specs.Limits.{most_locals}
 use Rattle.plain_monitor.specs.Limits.{most_threads, most_slots, most_objects, most_classes}
@@ -83,26 +83,12 @@ pub record IsAllowedSoFar (b : Before) (ahead : Ahead) : Type 0 where
 pub IsInstruction-more : (b c l m o p : ℕ) (labels : List LabelDef) → b ≤ c → l ≤ m → o ≤ p → (i : Code) → IsInstruction b l o labels i
     → IsInstruction c m p labels i
 IsInstruction-more b c l m o p labels bc lm op (Set x v) h = (omega arith, h.1)
-IsInstruction-more b c l m o p labels bc lm op (Add x y z) h = omega arith
-IsInstruction-more b c l m o p labels bc lm op (Sub x y z) h = omega arith
-IsInstruction-more b c l m o p labels bc lm op (Mul x y z) h = omega arith
-IsInstruction-more b c l m o p labels bc lm op (Ref x d) h = omega arith
-IsInstruction-more b c l m o p labels bc lm op (Elem x d i) h = omega arith
-IsInstruction-more b c l m o p labels bc lm op (Enter x) h = omega arith
-IsInstruction-more b c l m o p labels bc lm op (Exit x) h = omega arith
-IsInstruction-more b c l m o p labels bc lm op (Wait x) h = omega arith
-IsInstruction-more b c l m o p labels bc lm op (Notify x) h = omega arith
-IsInstruction-more b c l m o p labels bc lm op (NotifyAll x) h = omega arith
-IsInstruction-more b c l m o p labels bc lm op (Get x y s) h = omega arith
-IsInstruction-more b c l m o p labels bc lm op (Put y s x) h = omega arith
-IsInstruction-more b c l m o p labels bc lm op (Hash x y) h = omega arith
-IsInstruction-more b c l m o p labels bc lm op (New x d) h = omega arith
-IsInstruction-more b c l m o p labels bc lm op (Print x) h = omega arith
 IsInstruction-more b c l m o p labels bc lm op (Jump t) h = h
 IsInstruction-more b c l m o p labels bc lm op (Jlt x y t) h = (omega arith, omega arith, h.2)
 IsInstruction-more b c l m o p labels bc lm op (Jeq x y t) h = (omega arith, omega arith, h.2)
 IsInstruction-more b c l m o p labels bc lm op Dump h = tt
 IsInstruction-more b c l m o p labels bc lm op End h = tt
+IsInstruction-more b c l m o p labels bc lm op _ h = omega arith
 
 pub IsOpenCode-more : (b l m o : ℕ) (labels : List LabelDef) → l ≤ m → (c : Code) → IsOpenCode b l o labels c → IsOpenCode b m o labels c
 IsOpenCode-more b l m o labels lm c h =

@@ -1,11 +1,12 @@
 -- Each instruction of a canonical text is read as that instruction.
 use Rattle.std.proofs.Common.{◌≡◌, ℕ, ◌-◌, ◌<◌, ◌==◌, true, false, List, [], ◌∷◌, ◌++◌, length, map, refl, ap, ap₂, sym, subst, ◌∙◌, arith, drop, Some, ℤ, pos}
-use Rattle.std.specs.Prelude.{decimal, nat_abs, unwrap_or}
+use Rattle.std.specs.Prelude.{decimal, unwrap_or}
 use Rattle.std.specs.Fmt.{signed_decimal}
+use Rattle.std.specs.List.{AllByRecursion}
 use Rattle.std.proofs.lemmas.Bool.{lt-leb}
 use Rattle.std.proofs.lemmas.List.{length-map}
 use Rattle.plain_monitor.specs.Limits.{most_slots}
-use Rattle.plain_monitor.specs.Numbers.{IsInRange, least_number, greatest_number}
+use Rattle.plain_monitor.specs.Numbers.{least_number, greatest_number}
 use Rattle.object_program.specs.Limits.{most_code}
 use Rattle.object_program.specs.Name.{is_name}
 use Rattle.program_syntax.specs.Number.{number_of}
@@ -22,39 +23,14 @@ use Rattle.object_program.specs.declared.program.ThreadDef.{ThreadDef}
 use Rattle.object_program.specs.declared.program.Code.{Code}
 use Rattle.object_program.specs.declared.program.Code.TheVariants as code
 use Rattle.program_syntax.specs.declared.operand.Space.TheVariants.{Classes, Objects, Locals, Labels}
+use Rattle.program_syntax.specs.declared.operand.Operand.{Operand}
 use Rattle.program_syntax.specs.declared.operand.Operand.TheVariants.{Known, Number}
-use Rattle.program_syntax.specs.declared.keyword.Keyword.{Keyword}
-use Rattle.program_syntax.specs.declared.keyword.Keyword.TheVariants.{Set, Add, Sub, Mul, Ref, Elem, Enter, Exit, Wait, Notify, NotifyAll}
-use Rattle.program_syntax.specs.declared.keyword.Keyword.TheVariants.{Get, Put, Hash, New, Print, Jump, Jlt, Jeq, Dump, End}
 use Rattle.program_syntax.proofs.CanonicalText.{is_word, AreWords, line_of}
 use Rattle.program_syntax.proofs.CanonicalNames.{name_word, nth_is_name, nth_is_among, number_among-nth, label_is_among, label_is_name, target_among-label}
-use Rattle.program_syntax.proofs.CanonicalNumbers.{decimal_word, signed_word, count_of_decimal, value_of_signed}
+use Rattle.program_syntax.proofs.CanonicalNumbers.{decimal_word, signed_word, value_of_decimal, value_of_signed}
 use Rattle.program_syntax.proofs.CanonicalReading.{IsGood, AreGood, good_known, good_decimal, good_signed, IsAllowedLine, no_cause, ReadsAs, read_line}
 use Rattle.program_syntax.proofs.CanonicalRuns.{opened}
-
--- the keyword of an instruction
-abbrev pub keyword_for : Code → Keyword
-keyword_for (code.Set x v) = Set
-keyword_for (code.Add x y z) = Add
-keyword_for (code.Sub x y z) = Sub
-keyword_for (code.Mul x y z) = Mul
-keyword_for (code.Ref x n) = Ref
-keyword_for (code.Elem x n i) = Elem
-keyword_for (code.Enter x) = Enter
-keyword_for (code.Exit x) = Exit
-keyword_for (code.Wait x) = Wait
-keyword_for (code.Notify x) = Notify
-keyword_for (code.NotifyAll x) = NotifyAll
-keyword_for (code.Get x o k) = Get
-keyword_for (code.Put o k x) = Put
-keyword_for (code.Hash x o) = Hash
-keyword_for (code.New x c) = New
-keyword_for (code.Print x) = Print
-keyword_for (code.Jump l) = Jump
-keyword_for (code.Jlt x y l) = Jlt
-keyword_for (code.Jeq x y l) = Jeq
-keyword_for code.Dump = Dump
-keyword_for code.End = End
+use Rattle.program_syntax.proofs.Rows.{Part, OfLocal, OfObject, OfClass, OfLabel, OfSlot, OfValue, keyword_for, parts_of, made_of, IsIn, operands_in}
 
 -- what a line of a canonical text has after its keyword
 abbrev pub operand_words : List ClassDef → List ObjectDef → ThreadDef → Code → List (List ℕ)
@@ -98,8 +74,33 @@ pub record AreNamed (classes : List ClassDef) (objects : List ObjectDef) (t : Th
 abbrev IsAllowed : List ClassDef → List ObjectDef → ThreadDef → Code → Type 0
 IsAllowed classes ds t c = IsInstruction (length classes) (length t.locals) (length ds) t.labels c
 
-three_same : {A B C D : Type 0} (f : A → B → C → D) {a x : A} {b y : B} {c z : C} → a ≡ x → b ≡ y → c ≡ z → f a b c ≡ f x y z
-three_same f d e g = cc
+-- how an operand is written, what a line wants in its place, and its number
+abbrev written : List ClassDef → List ObjectDef → ThreadDef → Part → List ℕ
+written classes ds t (OfLocal x) = local_name t.locals x
+written classes ds t (OfObject n) = object_name ds n
+written classes ds t (OfClass c) = class_name classes c
+written classes ds t (OfLabel l) = label_name t.labels l
+written classes ds t (OfSlot k) = decimal k
+written classes ds t (OfValue v) = signed_decimal v
+
+abbrev wanted : Part → Operand
+wanted (OfLocal x) = a_local
+wanted (OfObject n) = Known Objects
+wanted (OfClass c) = Known Classes
+wanted (OfLabel l) = Known Labels
+wanted (OfSlot k) = a_slot
+wanted (OfValue v) = Number least_number greatest_number
+
+abbrev number_of_part : Part → ℤ
+number_of_part (OfLocal x) = pos x
+number_of_part (OfObject n) = pos n
+number_of_part (OfClass c) = pos c
+number_of_part (OfLabel l) = pos l
+number_of_part (OfSlot k) = pos k
+number_of_part (OfValue v) = v
+
+abbrev IsOperand : List ClassDef → List ObjectDef → ThreadDef → Part → Type 0
+IsOperand classes ds t q = IsIn (length classes) (length t.locals) (length ds) t.labels q
 
 module _ (classes : List ClassDef) (ds : List ObjectDef) (t : ThreadDef) (named : AreNamed classes ds t) where
   pub local_is_name : (x : ℕ) → x < length t.locals → is_name (local_name t.locals x) ≡ true
@@ -123,40 +124,25 @@ module _ (classes : List ClassDef) (ds : List ObjectDef) (t : ThreadDef) (named 
   pub local_word : (x : ℕ) → x < length t.locals → is_word (local_name t.locals x) ≡ true
   local_word x h = name_word (local_name t.locals x) (local_is_name x h)
 
-  object_word : (n : ℕ) → n < length ds → is_word (object_name ds n) ≡ true
-  object_word n h = name_word (object_name ds n) (object_is_name n h)
+  operand_word : (q : Part) → IsOperand classes ds t q → is_word (written classes ds t q) ≡ true
+  operand_word (OfLocal x) h = local_word x h
+  operand_word (OfObject n) h = name_word (object_name ds n) (object_is_name n h)
+  operand_word (OfClass c) h = name_word (class_name classes c) (class_is_name c h)
+  operand_word (OfLabel l) h = name_word (label_name t.labels l) (target_is_name l h)
+  operand_word (OfSlot k) h = decimal_word k (omega arith)
+  operand_word (OfValue v) h = signed_word v h
 
-  class_word : (c : ℕ) → c < length classes → is_word (class_name classes c) ≡ true
-  class_word c h = name_word (class_name classes c) (class_is_name c h)
+  operands_are_words : (qs : List Part) → AllByRecursion (IsOperand classes ds t) qs → AreWords (map (written classes ds t) qs)
+  operands_are_words [] h = tt
+  operands_are_words (q ∷ qs) h = (operand_word q h.0, operands_are_words qs h.1)
 
-  target_word : (l : ℕ) → is_target t.labels l ≡ true → is_word (label_name t.labels l) ≡ true
-  target_word l h = name_word (label_name t.labels l) (target_is_name l h)
-
-  slot_word : (k : ℕ) → k < most_slots → is_word (decimal k) ≡ true
-  slot_word k h = decimal_word k (omega arith)
+  -- the operands of an instruction are those that its row has
+  operands_of_row : (c : Code) → IsAllowed classes ds t c → AllByRecursion (IsOperand classes ds t) (parts_of c)
+  operands_of_row c h = operands_in (length classes) (length t.locals) (length ds) t.labels c h
 
   pub instruction_is_words : (c : Code) → IsAllowed classes ds t c → AreWords (instruction_words classes ds t c)
-  instruction_is_words (code.Set x v) h = (refl, (local_word x h.0, (signed_word v h.1, tt)))
-  instruction_is_words (code.Add x y z) h = (refl, (local_word x h.0, (local_word y h.1, (local_word z h.2, tt))))
-  instruction_is_words (code.Sub x y z) h = (refl, (local_word x h.0, (local_word y h.1, (local_word z h.2, tt))))
-  instruction_is_words (code.Mul x y z) h = (refl, (local_word x h.0, (local_word y h.1, (local_word z h.2, tt))))
-  instruction_is_words (code.Ref x n) h = (refl, (local_word x h.0, (object_word n h.1, tt)))
-  instruction_is_words (code.Elem x n i) h = (refl, (local_word x h.0, (object_word n h.1, (local_word i h.2, tt))))
-  instruction_is_words (code.Enter x) h = (refl, (local_word x h, tt))
-  instruction_is_words (code.Exit x) h = (refl, (local_word x h, tt))
-  instruction_is_words (code.Wait x) h = (refl, (local_word x h, tt))
-  instruction_is_words (code.Notify x) h = (refl, (local_word x h, tt))
-  instruction_is_words (code.NotifyAll x) h = (refl, (local_word x h, tt))
-  instruction_is_words (code.Get x o k) h = (refl, (local_word x h.0, (local_word o h.1, (slot_word k h.2, tt))))
-  instruction_is_words (code.Put o k x) h = (refl, (local_word o h.0, (slot_word k h.1, (local_word x h.2, tt))))
-  instruction_is_words (code.Hash x o) h = (refl, (local_word x h.0, (local_word o h.1, tt)))
-  instruction_is_words (code.New x c) h = (refl, (local_word x h.0, (class_word c h.1, tt)))
-  instruction_is_words (code.Print x) h = (refl, (local_word x h, tt))
-  instruction_is_words (code.Jump l) h = (refl, (target_word l h, tt))
-  instruction_is_words (code.Jlt x y l) h = (refl, (local_word x h.0, (local_word y h.1, (target_word l h.2, tt))))
-  instruction_is_words (code.Jeq x y l) h = (refl, (local_word x h.0, (local_word y h.1, (target_word l h.2, tt))))
-  instruction_is_words code.Dump h = (refl, tt)
   instruction_is_words code.End h = (refl, tt)
+  instruction_is_words c h = (refl, operands_are_words (parts_of c) (operands_of_row c h))
 
 -- a thread with these labels and this code so far
 abbrev pub so_far : ThreadDef → List LabelDef → List Code → ThreadDef
@@ -168,98 +154,60 @@ module _ (p : ProgramText) (t : ThreadDef) (named : AreNamed p.classes p.objects
   abbrev here : Before
   here = opened p (so_far t before done)
 
-  a_local_name : (x : ℕ) → x < length t.locals → IsGood here later a_local (local_name t.locals x)
-  a_local_name x h = good_known here later Locals (local_name t.locals x) (local_is_name p.classes p.objects t named x h) (nth_is_among t.locals x h)
+  label_among : (l : ℕ) → is_target t.labels l ≡ true
+      → is_among (map (λ (d : LabelDef). d.name) (section_labels (so_far t before done) later)) (label_name t.labels l) ≡ true
+  label_among l h =
+      subst (λ (ls : List LabelDef). is_among (map (λ (d : LabelDef). d.name) ls) (label_name t.labels l) ≡ true) (sym all_labels) (label_is_among t.labels l h)
 
-  an_object_name : (n : ℕ) → n < length p.objects → IsGood here later (Known Objects) (object_name p.objects n)
-  an_object_name n h =
+  operand_good : (q : Part) → IsOperand p.classes p.objects t q → IsGood here later (wanted q) (written p.classes p.objects t q)
+  operand_good (OfLocal x) h = good_known here later Locals (local_name t.locals x) (local_is_name p.classes p.objects t named x h) (nth_is_among t.locals x h)
+  operand_good (OfObject n) h =
       good_known here later Objects (object_name p.objects n) (object_is_name p.classes p.objects t named n h)
       (nth_is_among (map (λ (d : ObjectDef). d.name) p.objects) n (object_in p.classes p.objects t named n h))
-
-  a_class_name : (c : ℕ) → c < length p.classes → IsGood here later (Known Classes) (class_name p.classes c)
-  a_class_name c h =
+  operand_good (OfClass c) h =
       good_known here later Classes (class_name p.classes c) (class_is_name p.classes p.objects t named c h)
       (nth_is_among (map (λ (d : ClassDef). d.name) p.classes) c (class_in p.classes p.objects t named c h))
+  operand_good (OfLabel l) h = good_known here later Labels (label_name t.labels l) (target_is_name p.classes p.objects t named l h) (label_among l h)
+  operand_good (OfSlot k) h = good_decimal here later 0 (most_slots - 1) k (omega arith) (omega arith) (omega arith)
+  operand_good (OfValue v) h = good_signed here later v h
 
-  a_label_name : (l : ℕ) → is_target t.labels l ≡ true → IsGood here later (Known Labels) (label_name t.labels l)
-  a_label_name l h =
-      let among = subst (λ (ls : List LabelDef). is_among (map (λ (d : LabelDef). d.name) ls) (label_name t.labels l) ≡ true)
-      (sym all_labels) (label_is_among t.labels l h) in
-      good_known here later Labels (label_name t.labels l) (target_is_name p.classes p.objects t named l h) among
-
-  a_slot_number : (k : ℕ) → k < most_slots → IsGood here later a_slot (decimal k)
-  a_slot_number k h = good_decimal here later 0 (most_slots - 1) k (omega arith) (omega arith) (omega arith)
-
-  a_value : (v : ℤ) → IsInRange v → IsGood here later (Number least_number greatest_number) (signed_decimal v)
-  a_value v h = good_signed here later v h
+  all_good : (qs : List Part) → AllByRecursion (IsOperand p.classes p.objects t) qs
+      → AreGood here later (map wanted qs) (map (written p.classes p.objects t) qs)
+  all_good [] h = tt
+  all_good (q ∷ qs) h = (operand_good q h.0, all_good qs h.1)
 
   operands_good : (c : Code) → IsAllowed p.classes p.objects t c → AreGood here later (operands_of (keyword_for c)) (operand_words p.classes p.objects t c)
-  operands_good (code.Set x v) h = (a_local_name x h.0, (a_value v h.1, tt))
-  operands_good (code.Add x y z) h = (a_local_name x h.0, (a_local_name y h.1, (a_local_name z h.2, tt)))
-  operands_good (code.Sub x y z) h = (a_local_name x h.0, (a_local_name y h.1, (a_local_name z h.2, tt)))
-  operands_good (code.Mul x y z) h = (a_local_name x h.0, (a_local_name y h.1, (a_local_name z h.2, tt)))
-  operands_good (code.Ref x n) h = (a_local_name x h.0, (an_object_name n h.1, tt))
-  operands_good (code.Elem x n i) h = (a_local_name x h.0, (an_object_name n h.1, (a_local_name i h.2, tt)))
-  operands_good (code.Enter x) h = (a_local_name x h, tt)
-  operands_good (code.Exit x) h = (a_local_name x h, tt)
-  operands_good (code.Wait x) h = (a_local_name x h, tt)
-  operands_good (code.Notify x) h = (a_local_name x h, tt)
-  operands_good (code.NotifyAll x) h = (a_local_name x h, tt)
-  operands_good (code.Get x o k) h = (a_local_name x h.0, (a_local_name o h.1, (a_slot_number k h.2, tt)))
-  operands_good (code.Put o k x) h = (a_local_name o h.0, (a_slot_number k h.1, (a_local_name x h.2, tt)))
-  operands_good (code.Hash x o) h = (a_local_name x h.0, (a_local_name o h.1, tt))
-  operands_good (code.New x c) h = (a_local_name x h.0, (a_class_name c h.1, tt))
-  operands_good (code.Print x) h = (a_local_name x h, tt)
-  operands_good (code.Jump l) h = (a_label_name l h, tt)
-  operands_good (code.Jlt x y l) h = (a_local_name x h.0, (a_local_name y h.1, (a_label_name l h.2, tt)))
-  operands_good (code.Jeq x y l) h = (a_local_name x h.0, (a_local_name y h.1, (a_label_name l h.2, tt)))
-  operands_good code.Dump h = tt
   operands_good code.End h = tt
+  operands_good c h = all_good (parts_of c) (operands_of_row p.classes p.objects t named c h)
 
-  local_found : (x : ℕ) → x < length t.locals → number_among t.locals (local_name t.locals x) ≡ x
-  local_found x h = number_among-nth t.locals x named.local_names h
+  -- the number that a line has in an operand's place
+  abbrev read : Operand → List ℕ → ℤ
+  read (Known Locals) w = pos (number_among t.locals w)
+  read (Known Objects) w = pos (number_among (map (λ (d : ObjectDef). d.name) p.objects) w)
+  read (Known Classes) w = pos (number_among (map (λ (d : ClassDef). d.name) p.classes) w)
+  read (Known Labels) w = pos (target_among (section_labels (so_far t before done) later) w)
+  read o w = unwrap_or (number_of w) (pos 0)
 
-  object_found : (n : ℕ) → n < length p.objects → number_among (map (λ (d : ObjectDef). d.name) p.objects) (object_name p.objects n) ≡ n
-  object_found n h =
-      number_among-nth (map (λ (d : ObjectDef). d.name) p.objects) n named.object_names (object_in p.classes p.objects t named n h)
+  operand_read : (q : Part) → IsOperand p.classes p.objects t q → read (wanted q) (written p.classes p.objects t q) ≡ number_of_part q
+  operand_read (OfLocal x) h = ap pos (number_among-nth t.locals x named.local_names h)
+  operand_read (OfObject n) h =
+      ap pos (number_among-nth (map (λ (d : ObjectDef). d.name) p.objects) n named.object_names (object_in p.classes p.objects t named n h))
+  operand_read (OfClass c) h =
+      ap pos (number_among-nth (map (λ (d : ClassDef). d.name) p.classes) c named.class_names (class_in p.classes p.objects t named c h))
+  operand_read (OfLabel l) h = ap pos (subst (λ (ls : List LabelDef). target_among ls (label_name t.labels l) ≡ l) (sym all_labels)
+      (target_among-label t.labels l named.label_names h))
+  operand_read (OfSlot k) h = value_of_decimal k (omega arith)
+  operand_read (OfValue v) h = value_of_signed v h
 
-  class_found : (c : ℕ) → c < length p.classes → number_among (map (λ (d : ClassDef). d.name) p.classes) (class_name p.classes c) ≡ c
-  class_found c h =
-      number_among-nth (map (λ (d : ClassDef). d.name) p.classes) c named.class_names (class_in p.classes p.objects t named c h)
-
-  label_found : (l : ℕ) → is_target t.labels l ≡ true → target_among (section_labels (so_far t before done) later) (label_name t.labels l) ≡ l
-  label_found l h =
-      subst (λ (ls : List LabelDef). target_among ls (label_name t.labels l) ≡ l) (sym all_labels) (target_among-label t.labels l named.label_names h)
-
-  slot_found : (k : ℕ) → k < most_slots → nat_abs (unwrap_or (number_of (decimal k)) (pos 0)) ≡ k
-  slot_found k h = count_of_decimal k (omega arith)
-
-  value_found : (v : ℤ) → IsInRange v → unwrap_or (number_of (signed_decimal v)) (pos 0) ≡ v
-  value_found v h = value_of_signed v h
+  all_read : (qs : List Part) → AllByRecursion (IsOperand p.classes p.objects t) qs
+      → map (λ q. read (wanted q) (written p.classes p.objects t q)) qs ≡ map number_of_part qs
+  all_read [] h = refl
+  all_read (q ∷ qs) h = ap₂ ◌∷◌ (operand_read q h.0) (all_read qs h.1)
 
   pub instruction_meant : (c : Code) → IsAllowed p.classes p.objects t c
       → instruction_on p (so_far t before done) later (operand_words p.classes p.objects t c) (keyword_for c) ≡ c
-  instruction_meant (code.Set x v) h = ap₂ code.Set (local_found x h.0) (value_found v h.1)
-  instruction_meant (code.Add x y z) h = three_same code.Add (local_found x h.0) (local_found y h.1) (local_found z h.2)
-  instruction_meant (code.Sub x y z) h = three_same code.Sub (local_found x h.0) (local_found y h.1) (local_found z h.2)
-  instruction_meant (code.Mul x y z) h = three_same code.Mul (local_found x h.0) (local_found y h.1) (local_found z h.2)
-  instruction_meant (code.Ref x n) h = ap₂ code.Ref (local_found x h.0) (object_found n h.1)
-  instruction_meant (code.Elem x n i) h = three_same code.Elem (local_found x h.0) (object_found n h.1) (local_found i h.2)
-  instruction_meant (code.Enter x) h = ap code.Enter (local_found x h)
-  instruction_meant (code.Exit x) h = ap code.Exit (local_found x h)
-  instruction_meant (code.Wait x) h = ap code.Wait (local_found x h)
-  instruction_meant (code.Notify x) h = ap code.Notify (local_found x h)
-  instruction_meant (code.NotifyAll x) h = ap code.NotifyAll (local_found x h)
-  instruction_meant (code.Get x o k) h = three_same code.Get (local_found x h.0) (local_found o h.1) (slot_found k h.2)
-  instruction_meant (code.Put o k x) h = three_same code.Put (local_found o h.0) (slot_found k h.1) (local_found x h.2)
-  instruction_meant (code.Hash x o) h = ap₂ code.Hash (local_found x h.0) (local_found o h.1)
-  instruction_meant (code.New x c) h = ap₂ code.New (local_found x h.0) (class_found c h.1)
-  instruction_meant (code.Print x) h = ap code.Print (local_found x h)
-  instruction_meant (code.Jump l) h = ap code.Jump (label_found l h)
-  instruction_meant (code.Jlt x y l) h = three_same code.Jlt (local_found x h.0) (local_found y h.1) (label_found l h.2)
-  instruction_meant (code.Jeq x y l) h = three_same code.Jeq (local_found x h.0) (local_found y h.1) (label_found l h.2)
-  instruction_meant code.Dump h = refl
   instruction_meant code.End h = refl
+  instruction_meant c h = ap (made_of (keyword_for c)) (all_read (parts_of c) (operands_of_row p.classes p.objects t named c h))
 
   pub instruction_allowed : (c : Code) → IsAllowed p.classes p.objects t c → IsAllowedLine here later (operand_words p.classes p.objects t c) (keyword_for c)
   instruction_allowed c h = record {

@@ -111,8 +111,11 @@ pub signed_within : (z : ℤ) → IsInRange z → is_within least_number greates
 signed_within z h = rw (number_of_signed z h) (grind (arith, ints, nat_tests))
 
 -- the number that a line has at the place of these digits
+pub value_of_decimal : (n : ℕ) → n < 10000000000000000000 → unwrap_or (number_of (decimal n)) (pos 0) ≡ pos n
+value_of_decimal n h = rw (number_of_decimal n h) refl
+
 pub count_of_decimal : (n : ℕ) → n < 10000000000000000000 → nat_abs (unwrap_or (number_of (decimal n)) (pos 0)) ≡ n
-count_of_decimal n h = rw (number_of_decimal n h) refl
+count_of_decimal n h = rw (value_of_decimal n h) refl
 
 pub value_of_signed : (z : ℤ) → IsInRange z → unwrap_or (number_of (signed_decimal z)) (pos 0) ≡ z
 value_of_signed z h = rw (number_of_signed z h) refl

@@ -23,7 +23,8 @@ use Rattle.program_syntax.proofs.CanonicalNames.{AreNames-front}
 use Rattle.program_syntax.proofs.CanonicalWords.{opening_is_words}
 use Rattle.program_syntax.proofs.CanonicalReading.{good_new, no_cause, ReadsAs, read_line, IsRead, line_read}
 use Rattle.program_syntax.proofs.CanonicalRuns.{each_adds, each_unit, IsNew, new_among, new_in_middle, length_front, outside, opened, local_line, label_read}
-use Rattle.program_syntax.proofs.CanonicalInstructions.{keyword_for, AreNamed, so_far, instruction_read}
+use Rattle.program_syntax.proofs.CanonicalInstructions.{AreNamed, so_far, instruction_read}
+use Rattle.program_syntax.proofs.Rows.{keyword_for}
 use Rattle.program_syntax.proofs.CanonicalAhead.{IsLabelOf, labels_at_are, lines-append, code_after, code_lines-cons, ahead_code, closed_locals, closed_code}
 
 -- an instruction that is no `end` leaves the section open

@@ -10,6 +10,7 @@ pub mod Directories
 pub mod Labelled
 pub mod AfterLines
 pub mod Numbers
+pub mod Rows
 pub mod Operands
 pub mod CanonicalAhead
 pub mod CanonicalInstructions

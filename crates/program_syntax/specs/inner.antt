@@ -3,7 +3,6 @@ pub mod Added
 pub mod Labels
 pub mod Left
 pub mod Signs
-pub mod Spelled
 pub mod Steps
 pub mod Written
 pub mod Places

@@ -10,12 +10,12 @@ ghost use Rattle.program_syntax.specs.State.{before_of, HasAheadOf, cause_of};
 ghost use Rattle.program_syntax.specs.inner.Steps.{names_collected, is_unknown, fails};
 
 use crate::error::RefusalCause;
-use crate::keyword::Keyword;
+use crate::keyword::{Keyword, operands_of};
 use crate::labels::is_closed;
 use crate::limits::{CLASSES, CODE, LOCALS, OBJECTS, THREADS};
 use crate::lines::Lines;
 use crate::number::{count_of, number_within};
-use crate::operand::{Operand, Space, Test, operands_of};
+use crate::operand::{Operand, Space, Test};
 use crate::spelling::is_outside;
 use crate::state::Reader;
 use crate::words::Words;

@@ -1,13 +1,12 @@
 //! How the words are spelled that lines begin with.
 
-ghost use Rattle.std.specs.Prelude.{◌≡◌};
+ghost use Rattle.std.specs.Prelude.{◌≡◌, map};
 ghost use Rattle.std.specs.Str.{bytes_eq};
 ghost use Rattle.program_syntax.specs.Line.{spelled_among, keyword_of, is_outside, is_instruction};
 ghost use Rattle.program_syntax.specs.Reading.{ends_section};
 ghost use Rattle.program_syntax.specs.Refusal.{is_end};
-ghost use Rattle.program_syntax.specs.inner.Spelled.{declaring, computing, locking, remaining};
 
-use crate::keyword::Keyword;
+use crate::keyword::{Keyword, SPELLINGS};
 
 /// Whether the word is spelled so.
 fn is_word(spelling: &[u8], word: &[u8]) -> bool
@@ -16,110 +15,23 @@ fn is_word(spelling: &[u8], word: &[u8]) -> bool
     spelling == word
 }
 
-/// The keywords of lines that aren't instructions.
-fn declaring(word: &[u8]) -> Option<Keyword>
-    ensures { result ≡ spelled_among declaring word.now }
+/// What the first of these stands for that is spelled so.
+fn spelled_among(spellings: &[(&[u8], Keyword)], word: &[u8]) -> Option<Keyword>
+    ensures { result ≡ spelled_among (map (λ s. (s.0.now, s.1)) spellings.now) word.now }
 {
-    if is_word(b"class", word) {
-        Some(Keyword::Class)
-    } else if is_word(b"object", word) {
-        Some(Keyword::Object)
-    } else if is_word(b"array", word) {
-        Some(Keyword::Array)
-    } else if is_word(b"thread", word) {
-        Some(Keyword::Thread)
-    } else if is_word(b"local", word) {
-        Some(Keyword::Local)
-    } else if is_word(b"label", word) {
-        Some(Keyword::Label)
-    } else {
-        None
+    for (spelling, keyword) in spellings {
+        if is_word(spelling, word) {
+            return Some(*keyword);
+        }
     }
-}
-
-/// The keywords of instructions that compute numbers and references.
-fn computing(word: &[u8]) -> Option<Keyword>
-    ensures { result ≡ spelled_among computing word.now }
-{
-    if is_word(b"set", word) {
-        Some(Keyword::Set)
-    } else if is_word(b"add", word) {
-        Some(Keyword::Add)
-    } else if is_word(b"sub", word) {
-        Some(Keyword::Sub)
-    } else if is_word(b"mul", word) {
-        Some(Keyword::Mul)
-    } else if is_word(b"ref", word) {
-        Some(Keyword::Ref)
-    } else if is_word(b"elem", word) {
-        Some(Keyword::Elem)
-    } else {
-        None
-    }
-}
-
-/// The keywords of instructions on monitors.
-fn locking(word: &[u8]) -> Option<Keyword>
-    ensures { result ≡ spelled_among locking word.now }
-{
-    if is_word(b"enter", word) {
-        Some(Keyword::Enter)
-    } else if is_word(b"exit", word) {
-        Some(Keyword::Exit)
-    } else if is_word(b"wait", word) {
-        Some(Keyword::Wait)
-    } else if is_word(b"notify", word) {
-        Some(Keyword::Notify)
-    } else if is_word(b"notifyall", word) {
-        Some(Keyword::NotifyAll)
-    } else {
-        None
-    }
-}
-
-/// The keywords of the other instructions.
-fn remaining(word: &[u8]) -> Option<Keyword>
-    ensures { result ≡ spelled_among remaining word.now }
-{
-    if is_word(b"get", word) {
-        Some(Keyword::Get)
-    } else if is_word(b"put", word) {
-        Some(Keyword::Put)
-    } else if is_word(b"hash", word) {
-        Some(Keyword::Hash)
-    } else if is_word(b"new", word) {
-        Some(Keyword::New)
-    } else if is_word(b"print", word) {
-        Some(Keyword::Print)
-    } else if is_word(b"jump", word) {
-        Some(Keyword::Jump)
-    } else if is_word(b"jlt", word) {
-        Some(Keyword::Jlt)
-    } else if is_word(b"jeq", word) {
-        Some(Keyword::Jeq)
-    } else if is_word(b"dump", word) {
-        Some(Keyword::Dump)
-    } else if is_word(b"end", word) {
-        Some(Keyword::End)
-    } else {
-        None
-    }
+    None
 }
 
 /// The keyword that is spelled so.
 pub fn keyword_of(word: &[u8]) -> Option<Keyword>
     ensures { result ≡ keyword_of word.now }
 {
-    if let Some(keyword) = declaring(word) {
-        return Some(keyword);
-    }
-    if let Some(keyword) = computing(word) {
-        return Some(keyword);
-    }
-    if let Some(keyword) = locking(word) {
-        return Some(keyword);
-    }
-    remaining(word)
+    spelled_among(SPELLINGS, word)
 }
 
 /// Whether a line with this keyword stands outside sections.

@@ -23,8 +23,9 @@ use Rattle.program_syntax.proofs.CanonicalText.{is_word, AreWords, line_of, word
 use Rattle.program_syntax.proofs.CanonicalNames.{nth_is_among, number_among-nth}
 use Rattle.program_syntax.proofs.CanonicalReading as plain
 use Rattle.program_syntax.proofs.CanonicalRuns.{outside, opened}
-use Rattle.program_syntax.proofs.CanonicalInstructions.{keyword_for, operand_words, AreNamed, local_is_name, local_word}
+use Rattle.program_syntax.proofs.CanonicalInstructions.{operand_words, AreNamed, local_is_name, local_word}
 use Rattle.program_syntax.proofs.CanonicalInstructions.{instruction_is_words, instruction_allowed, instruction_meant}
+use Rattle.program_syntax.proofs.Rows.{keyword_for}
 use Rattle.sync_source.specs.declared.source.Test.{Test}
 use Rattle.sync_source.specs.Source.{Statements, Nothing, Plain, SyncThreadText}
 use Rattle.sync_source.specs.Valid.{most_depth, IsPlain, IsTest, is_end, assigns}
