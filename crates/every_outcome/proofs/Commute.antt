@@ -43,12 +43,7 @@ beside_hash h x t (NotifyAll o n) i = monitor_beside h x (notify_all x.monitor t
 beside_hash h x t (Get o k v) i = only_beside h _ x
 beside_hash h x t (Put o k v) i = only_beside h _ (record x { slots = slice_set x.slots k v })
 beside_hash h x t (Hash o v d) i = absurd (true≢false i)
-beside_hash h x t (New o c) i = refl
-beside_hash h x t (Print v) i = refl
-beside_hash h x t (Dump n) i = refl
-beside_hash h x t (Trap f k) i = refl
-beside_hash h x t Spent i = refl
-beside_hash h x t Done i = refl
+beside_hash h x t _ i = refl
 
 beside_some : (h : Option ℕ) (x y : PlainObject) (t : ℕ) (e : Entry) → is_hash e ≡ false → take_at x t e ≡ Some y
     → take_at (record x { hash = h }) t e ≡ Some (record y { hash = h })
@@ -77,14 +72,8 @@ not_resumed m u (Some n) h = rw h refl
 -- of the entries that name an object, another thread than the owner makes only hashes
 pub only_hashes : (x y : PlainObject) (t u o : ℕ) (f : Entry) → t ≢ u → owns x.monitor t ≡ true → named f ≡ Some o → take_at x u f ≡ Some y → is_hash f ≡ true
 only_hashes x y t u o (Enter k p) d own at takes = absurd (none-some y (rw (is_other x.monitor.owner t u d own, not_free x.monitor.owner t own) at takes))
-only_hashes x y t u o (Exit k) d own at takes = absurd (none-some y (rw (is_other x.monitor.owner t u d own) at takes))
-only_hashes x y t u o (Wait k) d own at takes = absurd (none-some y (rw (is_other x.monitor.owner t u d own) at takes))
 only_hashes x y t u o (Resume k) d own at takes =
     absurd (none-some y (rw (not_resumed x.monitor u (count_of x.monitor.called u) (not_free x.monitor.owner t own)) at takes))
-only_hashes x y t u o (Notify k w) d own at takes = absurd (none-some y (rw (is_other x.monitor.owner t u d own) at takes))
-only_hashes x y t u o (NotifyAll k n) d own at takes = absurd (none-some y (rw (is_other x.monitor.owner t u d own) at takes))
-only_hashes x y t u o (Get k s v) d own at takes = absurd (none-some y (rw (is_other x.monitor.owner t u d own) at takes))
-only_hashes x y t u o (Put k s v) d own at takes = absurd (none-some y (rw (is_other x.monitor.owner t u d own) at takes))
 only_hashes x y t u o (Hash k v w) d own at takes = refl
 only_hashes x y t u o (New k c) d own at takes = absurd (none-some o at)
 only_hashes x y t u o (Print v) d own at takes = absurd (none-some o at)
@@ -92,6 +81,7 @@ only_hashes x y t u o (Dump n) d own at takes = absurd (none-some o at)
 only_hashes x y t u o (Trap f k) d own at takes = absurd (none-some o at)
 only_hashes x y t u o Spent d own at takes = absurd (none-some o at)
 only_hashes x y t u o Done d own at takes = absurd (none-some o at)
+only_hashes x y t u o _ d own at takes = absurd (none-some y (rw (is_other x.monitor.owner t u d own) at takes))
 
 -- an object that took e of t, and then f of u, or the other way round
 pub record BothAt (x left right : PlainObject) (t u : ℕ) (e f : Entry) : Type 0 where

@@ -1,5 +1,5 @@
 -- Why machines without fuel, or with other holds than a reached one, aren't reached, and another entry leads elsewhere.
-use Rattle.std.proofs.Common.{◌≡◌, ◌≢◌, ℕ, true, false, slice_get, Some, sym, ap, ◌∙◌, subst, arith, eqb-true}
+use Rattle.std.proofs.Common.{◌≡◌, ◌≢◌, ℕ, true, slice_get, Some, sym, ap, ◌∙◌, subst, arith, eqb-true}
 use Rattle.std.proofs.lemmas.Bool.{false≢true}
 use Rattle.std.proofs.lemmas.Option.{same_Some}
 use Rattle.plain_monitor.specs.declared.entry.Entry.TheVariants.{Enter}

@@ -179,14 +179,7 @@ fault_with n = slice_index_or (IllegalMonitorState ∷ Unguarded ∷ NotRef ∷ 
 
 its_fault : (f : Fault) → fault_with (fault_number f) ≡ f
 its_fault IllegalMonitorState = refl
-its_fault Unguarded = refl
-its_fault NotRef = refl
-its_fault NotInt = refl
-its_fault Range = refl
-its_fault Overflow = refl
-its_fault TooDeep = refl
-its_fault TooManyDumps = refl
-its_fault TooMany = refl
+its_fault _ = refl
 
 same_fault : (f g : Fault) → (fault_number f == fault_number g) ≡ true → g ≡ f
 same_fault f g h = sym (its_fault g) ∙ ap fault_with (sym (eqb-true (fault_number f) (fault_number g) h)) ∙ its_fault f

@@ -6,8 +6,8 @@ use Rattle.std.proofs.lemmas.Bool.{false≢true}
 use Rattle.std.proofs.lemmas.Option.{none-some, same_Some}
 use Rattle.plain_monitor.specs.declared.entry.Ending.TheVariants as ending
 use Rattle.plain_monitor.specs.declared.entry.Entry.{Entry}
-use Rattle.plain_monitor.specs.declared.entry.Entry.TheVariants.{Enter, Exit, Get, Put, Wait, Resume, Notify, NotifyAll}
-use Rattle.plain_monitor.specs.declared.entry.Entry.TheVariants.{Hash, New, Print, Dump, Trap, Spent, Done}
+use Rattle.plain_monitor.specs.declared.entry.Entry.TheVariants.{Enter, Exit}
+use Rattle.plain_monitor.specs.declared.entry.Entry.TheVariants.{Print, Done}
 use Rattle.plain_monitor.specs.declared.entry.Logged.{Logged}
 use Rattle.plain_monitor.specs.declared.entry.Path.{Path}
 use Rattle.plain_monitor.specs.declared.entry.Path.TheVariants.{StackFirst}
@@ -73,22 +73,9 @@ enters_only f g zero (Enter o path) n h =
     let asked = same_Some (Calls (call.Enter 0)) k.asked (ap ask state ∙ k.asks) in
     let fit : (0 == o) ≡ true = subst (λ (a : NextEntry). fits a (Enter o path) ≡ true) (sym asked) k.fit in
     record { path = path; thread = refl; is = ap (λ (i : ℕ). Enter i path) (sym (eqb-true 0 o fit)) }
-enters_only f g zero (Exit o) n h = absurd (none-some n h)
-enters_only f g zero (Get o k v) n h = absurd (none-some n h)
-enters_only f g zero (Put o k v) n h = absurd (none-some n h)
-enters_only f g zero (Wait o) n h = absurd (none-some n h)
-enters_only f g zero (Resume o) n h = absurd (none-some n h)
-enters_only f g zero (Notify o woken) n h = absurd (none-some n h)
-enters_only f g zero (NotifyAll o woken) n h = absurd (none-some n h)
-enters_only f g zero (Hash o v drawn) n h = absurd (none-some n h)
-enters_only f g zero (New o c) n h = absurd (none-some n h)
-enters_only f g zero (Print v) n h = absurd (none-some n h)
-enters_only f g zero (Dump number) n h = absurd (none-some n h)
-enters_only f g zero (Trap fault index) n h = absurd (none-some n h)
-enters_only f g zero Spent n h = absurd (none-some n h)
-enters_only f g zero Done n h = absurd (none-some n h)
 enters_only f g (suc zero) e n h = absurd (none-some n h)
 enters_only f g (suc (suc t)) e n h = absurd (none-some n h)
+enters_only f g zero _ n h = absurd (none-some n h)
 
 over_takes_none : (f g t : ℕ) (e : Entry) (n : PlainMachine) → take (over f g) t e ≡ Some n → ⊥
 over_takes_none f g zero e n h = none-some n h

@@ -38,10 +38,7 @@ alone_no_hash m t o v d h = false≢true ((and_parts _ _ h).1)
 alone_next : (m : PlainMachine) (t : ℕ) (e : Entry) (made : Offer) → goes_alone m t e ≡ true → StandsFor made e → made ≡ offer.Next (bare e)
 alone_next m t e (offer.Next g) own h = ap offer.Next h
 alone_next m t (Hash o v d) (offer.NextHash k) own h = absurd (alone_no_hash m t o v d own)
-alone_next m t e (offer.NextHash k) own h = absurd h
-alone_next m t e (offer.Blocked k u) own h = absurd h
-alone_next m t e (offer.Waiting k) own h = absurd h
-alone_next m t e offer.Ended own h = absurd h
+alone_next m t e _ own h = absurd h
 
 offer_is : (g : Entry) (f : Entry) (made : Offer) → made ≡ offer.Next g → StandsFor made f → g ≡ bare f
 offer_is g f made is h = subst (λ (z : Offer). StandsFor z f) is h

@@ -8,7 +8,7 @@ use Rattle.object_program.specs.Program.{ProgramText}
 use Rattle.plain_machine.specs.declared.monitor_call.MonitorCall.{MonitorCall}
 use Rattle.plain_machine.specs.declared.monitor_call.MonitorCall.TheVariants as call
 use Rattle.plain_machine.specs.declared.monitor_call.Mode.{Mode}
-use Rattle.plain_machine.specs.declared.monitor_call.Mode.TheVariants.{Calling, Waiting, Unwinding, Ended}
+use Rattle.plain_machine.specs.declared.monitor_call.Mode.TheVariants.{Calling}
 use Rattle.plain_machine.specs.declared.monitor_call.NextEntry.{NextEntry}
 use Rattle.plain_machine.specs.declared.monitor_call.NextEntry.TheVariants as asked
 use Rattle.plain_machine.specs.Thread.{ThreadState, Step, Goes, Calls, Stops, step_of}
@@ -45,9 +45,7 @@ left_mode s (Calling c) o h p i u = absurd (no_call c h)
   where
     no_call : (c : MonitorCall) → ◌≡◌ {A = Option NextEntry} (Some (asked.Calls c)) (Some (asked.Leaves o)) → ⊥
     no_call c h = cc
-left_mode s (Waiting k) o h p i u = tt
-left_mode s (Unwinding x) o h p i u = tt
-left_mode s (Ended x) o h p i u = tt
+left_mode s _ o h p i u = tt
 
 -- so it is after each entry
 pub entry_stands : (p : ProgramText) (i : List Code) (s : ThreadState) (a : NextEntry) (e : Entry) → ask s ≡ Some a
@@ -77,9 +75,7 @@ all_stand_first p fuel = λ t s at. first_stands p.threads p fuel t s at
 
 stands_full : (top : ℕ) (p : ProgramText) (i : List Code) (s : ThreadState) (mode : Mode) → IsAtCall p i s mode → IsAtCall p i (with_fuel top s) mode
 stands_full top p i s (Calling c) h = step_same top s.mode p s (instruction_at i s.place) ∙ ap (step_with top s.mode) h
-stands_full top p i s (Waiting o) h = tt
-stands_full top p i s (Unwinding e) h = tt
-stands_full top p i s (Ended e) h = tt
+stands_full top p i s _ h = tt
 
 -- with any fuel
 pub all_stand_full : (top : ℕ) (m : PlainMachine) → AllStand m → AllStand (refuelled top m)

@@ -25,7 +25,7 @@ use Rattle.plain_machine.specs.declared.monitor_call.NextEntry.TheVariants.{Call
 use Rattle.plain_machine.specs.declared.monitor_call.MonitorCall.{MonitorCall}
 use Rattle.plain_machine.specs.declared.monitor_call.MonitorCall.TheVariants as call
 use Rattle.plain_machine.specs.declared.monitor_call.Mode.{Mode}
-use Rattle.plain_machine.specs.declared.monitor_call.Mode.TheVariants.{Calling, Waiting, Unwinding, Ended}
+use Rattle.plain_machine.specs.declared.monitor_call.Mode.TheVariants.{Ended}
 use Rattle.plain_machine.specs.Thread.{ThreadState}
 use Rattle.plain_machine.specs.Asking.{ask_in, fault_number, is_ending, is_call, is_resume, is_exit, fits, after_entry}
 use Rattle.plain_machine.specs.Legal.{IsLegal, after_all, machine_after}
@@ -40,14 +40,7 @@ fault_with n = slice_index_or (IllegalMonitorState ∷ Unguarded ∷ NotRef ∷ 
 
 its_fault : (f : Fault) → fault_with (fault_number f) ≡ f
 its_fault IllegalMonitorState = refl
-its_fault Unguarded = refl
-its_fault NotRef = refl
-its_fault NotInt = refl
-its_fault Range = refl
-its_fault Overflow = refl
-its_fault TooDeep = refl
-its_fault TooManyDumps = refl
-its_fault TooMany = refl
+its_fault _ = refl
 
 same_fault : (f g : Fault) → (fault_number f == fault_number g) ≡ true → f ≡ g
 same_fault f g h = sym (its_fault f) ∙ ap fault_with (eqb-true (fault_number f) (fault_number g) h) ∙ its_fault g
@@ -64,42 +57,15 @@ ending_fits g e x h s = absurd (cc h)
 -- no call is an end
 no_trap : (c : MonitorCall) (fault : Fault) (index : ℕ) → is_call c (Trap fault index) ≡ false
 no_trap (call.Enter o) fault index = refl
-no_trap (call.Exit o) fault index = refl
-no_trap (call.Wait o) fault index = refl
-no_trap (call.Notify o) fault index = refl
-no_trap (call.NotifyAll o) fault index = refl
-no_trap (call.Get z o k) fault index = refl
-no_trap (call.Put o k v) fault index = refl
-no_trap (call.Hash z o) fault index = refl
-no_trap (call.New z c) fault index = refl
-no_trap (call.Print v) fault index = refl
-no_trap (call.Dump n) fault index = refl
+no_trap _ fault index = refl
 
 no_spent : (c : MonitorCall) → is_call c Spent ≡ false
 no_spent (call.Enter o) = refl
-no_spent (call.Exit o) = refl
-no_spent (call.Wait o) = refl
-no_spent (call.Notify o) = refl
-no_spent (call.NotifyAll o) = refl
-no_spent (call.Get z o k) = refl
-no_spent (call.Put o k v) = refl
-no_spent (call.Hash z o) = refl
-no_spent (call.New z c) = refl
-no_spent (call.Print v) = refl
-no_spent (call.Dump n) = refl
+no_spent _ = refl
 
 no_done : (c : MonitorCall) → is_call c Done ≡ false
 no_done (call.Enter o) = refl
-no_done (call.Exit o) = refl
-no_done (call.Wait o) = refl
-no_done (call.Notify o) = refl
-no_done (call.NotifyAll o) = refl
-no_done (call.Get z o k) = refl
-no_done (call.Put o k v) = refl
-no_done (call.Hash z o) = refl
-no_done (call.New z c) = refl
-no_done (call.Print v) = refl
-no_done (call.Dump n) = refl
+no_done _ = refl
 
 no_call_ends : (c : MonitorCall) (x : Entry) (e : Ending) → is_call c x ≡ true → ending_said x ≡ Some e → ⊥
 no_call_ends c (Trap fault index) e h s = false≢true (sym (no_trap c fault index) ∙ h)
@@ -125,10 +91,8 @@ ended_after_entry m t s (Ends g) x e fit said = ap Some (ending_fits g e x fit s
 
 -- a thread that has ended asks for nothing
 ended_asks : (s : ThreadState) (mode : Mode) (e : Ending) (a : NextEntry) → ending_in mode ≡ Some e → ask_in s mode ≢ Some a
-ended_asks s (Calling c) e a h k = absurd (none-some e h)
-ended_asks s (Waiting o) e a h k = absurd (none-some e h)
-ended_asks s (Unwinding g) e a h k = absurd (none-some e h)
 ended_asks s (Ended g) e a h k = absurd (none-some a k)
+ended_asks s _ e a h k = absurd (none-some e h)
 
 ending_read : (m : PlainMachine) (t : ℕ) (s : ThreadState) → slice_get m.threads t ≡ Some s → ending_of m t ≡ ending_in s.mode
 ending_read m t s at = ap (λ (o : Option ThreadState). option_and_then (λ x. ending_in x.mode) o) at

@@ -10,7 +10,7 @@ use Rattle.plain_monitor.specs.declared.entry.Value.{Value}
 use Rattle.plain_monitor.specs.declared.entry.Value.TheVariants.{Nil, Int, Ref}
 use Rattle.plain_monitor.specs.declared.entry.Entry.{Entry}
 use Rattle.plain_monitor.specs.declared.entry.Entry.TheVariants.{Enter, Exit, Get, Put, Wait, Resume, Notify, NotifyAll}
-use Rattle.plain_monitor.specs.declared.entry.Entry.TheVariants.{Hash, New, Print, Dump, Trap, Spent, Done}
+use Rattle.plain_monitor.specs.declared.entry.Entry.TheVariants.{Hash, New, Print, Dump}
 use Rattle.plain_monitor.specs.Made.{Numbering, first_made, maker_of, place_of, made_by, creates, needs, refers, may_create, take_created, take_made}
 use Rattle.plain_monitor.specs.Monitor.{PlainMonitor, owns, enter, exit, wait, resume, notify, notify_all}
 use Rattle.plain_monitor.specs.Objects.{PlainObject, named, has_value, hashed, with_monitor, with_hash, take_at, take_named, take_entry}
@@ -135,12 +135,7 @@ module _ (These : ℕ → Type 0) where
       let r = cond_some (owns x.monitor t && nat_lt k (length x.slots)) (record x { slots = slice_set x.slots k v }) y e in
       subst (SlotsReferTo These) r.1 (all_set (RefersTo These) x.slots k v (handed v all.1) h)
   slots_after x y t (Hash o v drawn) h all e = hash_slots x y (hashed x.hash v) h e
-  slots_after x y t (New o c) h all e = same_slots x y h e
-  slots_after x y t (Print v) h all e = same_slots x y h e
-  slots_after x y t (Dump n) h all e = same_slots x y h e
-  slots_after x y t (Trap f i) h all e = same_slots x y h e
-  slots_after x y t Spent h all e = same_slots x y h e
-  slots_after x y t Done h all e = same_slots x y h e
+  slots_after x y t _ h all e = same_slots x y h e
 
   named_after : (objects after : List PlainObject) (t : ℕ) (e : Entry) (o : Option ℕ)
       → AllByRecursion (SlotsReferTo These) objects → AllByRecursion These (needs e)

@@ -71,13 +71,11 @@ ending_itself ending.Done = refl
 
 ending_makes : (g : Ending) → creates (ending_entry g) ≡ None
 ending_makes (ending.Trap f i) = refl
-ending_makes ending.Spent = refl
-ending_makes ending.Done = refl
+ending_makes _ = refl
 
 ending_taken : (objects : List PlainObject) (t : ℕ) (g : Ending) → is_some (take_entry objects t (ending_entry g)) ≡ true
 ending_taken objects t (ending.Trap f i) = refl
-ending_taken objects t ending.Spent = refl
-ending_taken objects t ending.Done = refl
+ending_taken objects t _ = refl
 
 -- an entry that is offered, as it is asked
 next_is : (x e : Entry) → offer.Next x ≡ offer.Next e → x ≡ e

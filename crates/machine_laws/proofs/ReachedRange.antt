@@ -13,7 +13,7 @@ use Rattle.plain_monitor.specs.declared.entry.Path.TheVariants.{StackFirst}
 use Rattle.plain_monitor.specs.declared.entry.Ending.TheVariants as ending
 use Rattle.plain_monitor.specs.declared.entry.Entry.{Entry}
 use Rattle.plain_monitor.specs.declared.entry.Entry.TheVariants.{Enter, Exit, Get, Put, Wait, Resume, Notify, NotifyAll}
-use Rattle.plain_monitor.specs.declared.entry.Entry.TheVariants.{Hash, New, Print, Dump, Trap, Spent, Done}
+use Rattle.plain_monitor.specs.declared.entry.Entry.TheVariants.{Hash, New, Print, Dump, Trap}
 use Rattle.plain_monitor.specs.Monitor.{PlainMonitor, is_thread, is_listed, owns, calls, notify}
 use Rattle.plain_monitor.specs.Objects.{PlainObject, new_object, same_value, hashed, with_monitor, with_hash, take_named, take_entry}
 use Rattle.plain_monitor.specs.Made.{is_there, may_create}
@@ -216,9 +216,7 @@ entry_of m t s a (Hash o v drawn) after made h asked fit makes takes =
 entry_of m t s a (New o c) after made h asked fit makes takes = new_of m t s a o c made h asked fit makes
 entry_of m t s a (Print v) after made h asked fit makes takes = of_machine m v h (print_of m s a v asked fit)
 entry_of m t s a (Dump n) after made h asked fit makes takes = (dump_of m s a n asked fit).1
-entry_of m t s a (Trap f i) after made h asked fit makes takes = tt
-entry_of m t s a Spent after made h asked fit makes takes = tt
-entry_of m t s a Done after made h asked fit makes takes = tt
+entry_of m t s a _ after made h asked fit makes takes = tt
 
 pub taken_in_range : (m next : PlainMachine) (t : ℕ) (e : Entry) → IsReached m → take m t e ≡ Some next → IsEntryOf (length m.objects) (length m.threads) e
 taken_in_range m next t e h takes =
@@ -266,10 +264,8 @@ resume_rest m t o false h l = unless_rest m o t (other_owner (monitor_at m o) t)
 asked_rest : (m : PlainMachine) (t : ℕ) (s : ThreadState) (a : NextEntry) → IsReached m → IsAskedOf m.program s a → IsRest m (asked_offer m t (Some a))
 asked_rest m t s (Calls (call.Enter o)) h asked = unless_rest m o t (other_owner (monitor_at m o) t) (Enter o StackFirst) h (of_program m o h asked.call.0) refl
 asked_rest m t s (Calls (call.Hash x o)) h asked = hash_rest m o (object_at m o).hash (of_program m o h asked.call)
-asked_rest m t s (Calls c) h asked = tt
 asked_rest m t s (Resumes o) h asked = resume_rest m t o (is_listed (monitor_at m o).waits t) h (of_program m o h asked.there)
-asked_rest m t s (Leaves o) h asked = tt
-asked_rest m t s (Ends g) h asked = tt
+asked_rest m t s _ h asked = tt
 
 state_rest : (m : PlainMachine) (t : ℕ) (s : ThreadState) → IsMaker m t s → IsRest m (asked_offer m t (ask s))
 state_rest m t s h = go (ask s) refl

@@ -4,8 +4,7 @@ use Rattle.std.specs.List.{list_all, list_any}
 use Rattle.std.proofs.lemmas.Bool.{false≢true}
 use Rattle.std.proofs.lemmas.Bool.Decides.{nat_tests}
 use Rattle.plain_monitor.specs.declared.entry.Entry.{Entry}
-use Rattle.plain_monitor.specs.declared.entry.Entry.TheVariants.{Enter, Exit, Get, Put, Wait, Resume, Notify, NotifyAll}
-use Rattle.plain_monitor.specs.declared.entry.Entry.TheVariants.{Hash, New, Print, Dump, Trap, Spent, Done}
+use Rattle.plain_monitor.specs.declared.entry.Entry.TheVariants.{New}
 use Rattle.plain_monitor.specs.Limits.{most_made}
 use Rattle.plain_monitor.specs.Made.{Numbering, made_number, made_by, is_there, creates, needs, take_created}
 use Rattle.object_program.specs.Program.{numbering_of}
@@ -31,20 +30,7 @@ not_all n made o (i ∷ os) h none = by_test (o == i) refl h (λ g. not_all n ma
 -- an entry that makes an object needs none
 maker_needs_none : (o : ℕ) (e : Entry) → list_any (λ i. o == i) (needs e) ≡ true → creates e ≡ None
 maker_needs_none o (New object class) h = absurd (false≢true h)
-maker_needs_none o (Enter object path) h = refl
-maker_needs_none o (Exit object) h = refl
-maker_needs_none o (Get object slot value) h = refl
-maker_needs_none o (Put object slot value) h = refl
-maker_needs_none o (Wait object) h = refl
-maker_needs_none o (Resume object) h = refl
-maker_needs_none o (Notify object woken) h = refl
-maker_needs_none o (NotifyAll object woken) h = refl
-maker_needs_none o (Hash object value drawn) h = refl
-maker_needs_none o (Print value) h = refl
-maker_needs_none o (Dump number) h = refl
-maker_needs_none o (Trap fault index) h = refl
-maker_needs_none o Spent h = refl
-maker_needs_none o Done h = refl
+maker_needs_none o _ h = refl
 
 pub not_there : (m : PlainMachine) (t o : ℕ) (e : Entry) → list_any (λ i. o == i) (needs e) ≡ true
     → is_there (numbering_of m.program) m.made o ≡ false → take m t e ≡ None

@@ -1,6 +1,5 @@
 -- What words tell, while they are read, word by word and item by item.
-use Rattle.std.proofs.Common.{◌≡◌, ℕ, zero, suc, ◌+◌, ◌-◌, ◌<◌, ◌≤◌, ◌^◌, List, [], ◌∷◌, length, refl, sym, ap, ◌∙◌, subst, arith}
-use Rattle.plain_monitor.specs.Limits.{most_made}
+use Rattle.std.proofs.Common.{◌≡◌, ℕ, suc, ◌<◌, ◌^◌, List, [], ◌∷◌, subst}
 use Rattle.machine_words.specs.declared.unread.Unread.{Unread}
 use Rattle.machine_words.specs.declared.unread.Unread.TheVariants.{NoMemory, NoMachine}
 use Rattle.machine_words.specs.inner.Telling.{IsLost, GoesOn, HasWord, HasNumber, TellsNumbers, TellsPairs, TellsValue, TellsValues, TellsThread, TellsThreads}

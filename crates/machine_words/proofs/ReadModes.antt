@@ -12,14 +12,7 @@ use Rattle.machine_words.specs.ModeWords.{ending_kind, ending_rest, mode_kind, m
 
 fault_small : (f : Fault) → fault_number f ≤ 8
 fault_small IllegalMonitorState = omega arith
-fault_small Unguarded = omega arith
-fault_small NotRef = omega arith
-fault_small NotInt = omega arith
-fault_small Range = omega arith
-fault_small Overflow = omega arith
-fault_small TooDeep = omega arith
-fault_small TooManyDumps = omega arith
-fault_small TooMany = omega arith
+fault_small _ = omega arith
 
 ending_small : (e : Ending) → ending_kind e ≤ 10
 ending_small Done = omega arith

@@ -10,7 +10,7 @@ use Rattle.plain_monitor.proofs.Lists.{all_at}
 use Rattle.object_program.specs.declared.program.Code.{Code}
 use Rattle.object_program.specs.Program.{ProgramText}
 use Rattle.plain_machine.specs.declared.monitor_call.Mode.{Mode}
-use Rattle.plain_machine.specs.declared.monitor_call.Mode.TheVariants.{Calling, Waiting, Unwinding, Ended}
+use Rattle.plain_machine.specs.declared.monitor_call.Mode.TheVariants.{Calling, Unwinding}
 use Rattle.plain_machine.specs.Thread.{ThreadState, step_of}
 use Rattle.plain_machine.specs.Running.{instruction_at}
 use Rattle.plain_machine.specs.Machine.{PlainMachine, code_of}
@@ -64,9 +64,7 @@ threads_back (s ∷ ss) ws all =
 told : (fuel : ℕ) (p : ProgramText) (i : List Code) (s : ThreadState) (mode : Mode) → IsAtCall p i s mode
     → IsCallingIn (calling_in (step_of p (in_mode fuel (Unwinding Done) s) (instruction_at i s.place))) mode
 told fuel p i s (Calling c) h = ap calling_in (step_same fuel (Unwinding Done) p s (instruction_at i s.place) ∙ ap (step_with fuel (Unwinding Done)) h)
-told fuel p i s (Waiting o) h = tt
-told fuel p i s (Unwinding e) h = tt
-told fuel p i s (Ended e) h = tt
+told fuel p i s _ h = tt
 
 thread_is : (fuel t : ℕ) (p : ProgramText) (i : List Code) (objects : List PlainObject) (s : ThreadState) → holds_in t objects ≡ s.holds
     → IsAtCall p i s s.mode → thread_with p i (parts_of s) (unmoded fuel t objects (parts_of s)) ≡ with_fuel fuel s

@@ -8,7 +8,7 @@ use Rattle.plain_monitor.specs.ValueWords.{IsSpellable, word_of}
 use Rattle.object_program.specs.Program.{ProgramText, objects_total, slots_of}
 use Rattle.object_program.specs.Valid.{IsProgram}
 use Rattle.machine_words.specs.Numbers.{HasSmall, HasNumbers}
-use Rattle.machine_words.specs.inner.Telling.{TellsNumbers, TellsPairs, TellsValues, TellsThread, TellsThreads, TellsRow, TellsRows}
+use Rattle.machine_words.specs.inner.Telling.{TellsNumbers, TellsPairs, TellsValues, TellsThread, TellsThreads, TellsRows}
 use Rattle.machine_words.specs.inner.Telling.{TellsLists, TellsObject, AreTold}
 use Rattle.machine_words.proofs.ReadModes.{mode_small}
 use Rattle.machine_words.proofs.ReadWords.{all_spelled, pairs_back}

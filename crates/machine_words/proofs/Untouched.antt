@@ -8,8 +8,7 @@ use Rattle.std.proofs.lemmas.List.{get_or-set_same, get_or-set_other}
 use Rattle.std.proofs.lemmas.Option.{none-some, same_Some, cond_some}
 use Rattle.plain_monitor.specs.declared.entry.Value.TheVariants.{Int}
 use Rattle.plain_monitor.specs.declared.entry.Entry.{Entry}
-use Rattle.plain_monitor.specs.declared.entry.Entry.TheVariants.{Enter, Exit, Get, Put, Wait, Resume, Notify, NotifyAll}
-use Rattle.plain_monitor.specs.declared.entry.Entry.TheVariants.{Hash, New, Print, Dump, Trap, Spent, Done}
+use Rattle.plain_monitor.specs.declared.entry.Entry.TheVariants.{New}
 use Rattle.plain_monitor.specs.Made.{Numbering, first_made, maker_of, place_of, made_by, is_there}
 use Rattle.plain_monitor.specs.Made.{creates, needs, one_or_none, hands_on, may_create, take_created}
 use Rattle.plain_monitor.specs.Objects.{PlainObject, new_object, new_objects, same_value, named, take_named}
@@ -36,20 +35,7 @@ untouched_first p fuel o x at none =
 -- an entry that makes an object names none
 new_names_none : (e : Entry) (p : ℕ × ℕ) → creates e ≡ Some p → named e ≡ None
 new_names_none (New o c) p h = refl
-new_names_none (Enter o path) p h = absurd (none-some p h)
-new_names_none (Exit o) p h = absurd (none-some p h)
-new_names_none (Get o k v) p h = absurd (none-some p h)
-new_names_none (Put o k v) p h = absurd (none-some p h)
-new_names_none (Wait o) p h = absurd (none-some p h)
-new_names_none (Resume o) p h = absurd (none-some p h)
-new_names_none (Notify o u) p h = absurd (none-some p h)
-new_names_none (NotifyAll o u) p h = absurd (none-some p h)
-new_names_none (Hash o v d) p h = absurd (none-some p h)
-new_names_none (Print v) p h = absurd (none-some p h)
-new_names_none (Dump n) p h = absurd (none-some p h)
-new_names_none (Trap f i) p h = absurd (none-some p h)
-new_names_none Spent p h = absurd (none-some p h)
-new_names_none Done p h = absurd (none-some p h)
+new_names_none _ p h = absurd (none-some p h)
 
 -- thread t has made one object more
 abbrev grown : List (List ℕ) → ℕ → ℕ → List (List ℕ)

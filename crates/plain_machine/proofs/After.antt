@@ -399,9 +399,7 @@ sound_after m t e a made after s next lt at f h w k =
 
 wait_awake : (a : NextEntry) (o k : ℕ) → fits a (entry.Wait o) ≡ true → waits_asked a k ≡ false
 wait_awake (Resumes p) o k f = absurd (cc f)
-wait_awake (Calls c) o k f = refl
-wait_awake (Leaves p) o k f = refl
-wait_awake (Ends x) o k f = refl
+wait_awake _ o k f = refl
 
 one_place : (s : ThreadState) (o : ℕ) (b : Bool) → waits_on s.mode o ≡ b → while_waiting s o 1 ≤ 1
 one_place s o true e = rw e (omega arith)

@@ -7,7 +7,7 @@ use Rattle.plain_monitor.specs.Monitor.{PlainMonitor}
 use Rattle.plain_machine.specs.declared.monitor_call.MonitorCall.{MonitorCall}
 use Rattle.plain_machine.specs.declared.monitor_call.MonitorCall.TheVariants as call
 use Rattle.plain_machine.specs.declared.monitor_call.Mode.{Mode}
-use Rattle.plain_machine.specs.declared.monitor_call.Mode.TheVariants.{Calling, Waiting, Unwinding, Ended}
+use Rattle.plain_machine.specs.declared.monitor_call.Mode.TheVariants.{Calling}
 use Rattle.plain_machine.specs.Thread.{ThreadState, holds_of}
 use Rattle.plain_machine.specs.Machine.{PlainMachine}
 use Rattle.plain_machine.specs.Ready.{HasRoomFor}
@@ -15,22 +15,11 @@ use Rattle.plain_machine.specs.Sound.{IsReadyIn, monitor_in, owner_holds, while_
 
 room : (fuel : ℕ) (s : ThreadState) (c : MonitorCall) → HasRoomFor s c → HasRoomFor (record s { fuel = fuel }) c
 room fuel s (call.Enter o) h = h
-room fuel s (call.Exit o) h = h
-room fuel s (call.Wait o) h = h
-room fuel s (call.Notify o) h = h
-room fuel s (call.NotifyAll o) h = h
-room fuel s (call.Get x o k) h = h
-room fuel s (call.Put o k v) h = h
-room fuel s (call.Hash x o) h = h
-room fuel s (call.New x c) h = h
-room fuel s (call.Print v) h = h
-room fuel s (call.Dump n) h = h
+room fuel s _ h = h
 
 ready : (fuel : ℕ) (s : ThreadState) (mode : Mode) → IsReadyIn s mode → IsReadyIn (record s { fuel = fuel }) mode
 ready fuel s (Calling c) h = (h.0, room fuel s c h.1)
-ready fuel s (Waiting o) h = tt
-ready fuel s (Unwinding e) h = tt
-ready fuel s (Ended e) h = tt
+ready fuel s _ h = tt
 
 kept : (n fuel : ℕ) (s : ThreadState) → IsKept n s → IsKept n (record s { fuel = fuel })
 kept n fuel s h = record { objects = h.objects; few = h.few; ready = ready fuel s s.mode h.ready }

@@ -85,9 +85,7 @@ module _ (code : List Code) (classes : List ClassDef) (objects : List ObjectDef)
   -- the ending of a thread that has left its holds
   end_fits : (ending : Ending) (e : Entry) → is_ending (unplaced ending) (with_index 0 e) ≡ is_ending ending (with_index (index_in (Unwinding ending)) e)
   end_fits (ending.Trap f i) (Trap g j) = ap (λ (b : Bool). (fault_number f == fault_number g) && b) (sym (same_thread i))
-  end_fits (ending.Trap f i) e = refl
-  end_fits ending.Spent e = refl
-  end_fits ending.Done e = refl
+  end_fits _ e = refl
 
   exit_fits : (o i : ℕ) (e : Entry) → is_exit o (with_index 0 e) ≡ is_exit o (with_index i e)
   exit_fits o i (Trap g j) = refl

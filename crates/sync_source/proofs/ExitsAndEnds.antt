@@ -223,21 +223,15 @@ module _ (code : List Code) (classes : List ClassDef) (objects : List ObjectDef)
       let there : o < length s.holds = omega (arith, a.call.0, n) in
       goes_on s (holds_less s o) left refl h (same_open left s.locals _ _ (λ k. less_holds s o k there) r.kept)
   call_fine s (call.Wait o) e left a n h r = (left, h, r.kept)
-  call_fine s (call.Notify o) e left a n h r = goes_on s s left refl h r.kept
-  call_fine s (call.NotifyAll o) e left a n h r = goes_on s s left refl h r.kept
   call_fine s (call.Get x o k) (entry.Get object slot value) left a n h r =
       goes_on s (with_local s x value) left refl h (given_fine s x value left r.spares r.kept)
-  call_fine s (call.Get x o k) e left a n h r = goes_on s s left refl h r.kept
-  call_fine s (call.Put o k v) e left a n h r = goes_on s s left refl h r.kept
   call_fine s (call.Hash x o) (entry.Hash object value drawn) left a n h r =
       goes_on s (with_local s x _) left refl h (given_fine s x _ left r.spares r.kept)
-  call_fine s (call.Hash x o) e left a n h r = goes_on s s left refl h r.kept
   call_fine s (call.New x c) (entry.New object class) left a n h r =
       goes_on s (with_local (record s { made = s.made + 1 }) x _) left refl h
       (given_fine (record s { made = s.made + 1 }) x _ left r.spares r.kept)
-  call_fine s (call.New x c) e left a n h r = goes_on s s left refl h r.kept
-  call_fine s (call.Print v) e left a n h r = goes_on s s left refl h r.kept
   call_fine s (call.Dump m) e left a n h r = goes_on s (record s { dumps = m }) left refl h r.kept
+  call_fine s _ e left a n h r = goes_on s s left refl h r.kept
 
   -- after an entry that it asked for
   entry_fine : (s : ThreadState) (a : NextEntry) (e : Entry) → IsThreadOf p' s → IsAskedOf p' s a → IsFine code s → IsFine code (after_entry p' code s a e)
@@ -255,10 +249,8 @@ module _ (code : List Code) (classes : List ClassDef) (objects : List ObjectDef)
       free ending.Done l h = absurd (omega (arith, h o, l))
 
       left_fine : (m : Mode) (g : Ending) → m ≡ Unwinding g → 1 ≤ holds_of s o → IsFineIn code s m → IsFineIn code (holds_less s o) m
-      left_fine (Calling c) g e l f = absurd (cc)
-      left_fine (Waiting k) g e l f = absurd (cc)
       left_fine (Unwinding g') g e l f = (f.0, free g' l f.1)
-      left_fine (Ended g') g e l f = absurd (cc)
+      left_fine _ g e l f = absurd (cc)
   entry_fine s (asked.Ends g) e is a h = subst (IsFineIn code s) a.mode h
 
 -- where something follows from what is there, it is there

@@ -8,7 +8,7 @@ use Rattle.plain_monitor.specs.declared.entry.Entry.{Entry}
 use Rattle.plain_monitor.specs.declared.entry.Entry.TheVariants.{Trap}
 use Rattle.plain_monitor.specs.declared.entry.Logged.{Logged}
 use Rattle.plain_machine.specs.declared.monitor_call.Mode.{Mode}
-use Rattle.plain_machine.specs.declared.monitor_call.Mode.TheVariants.{Calling, Waiting, Unwinding, Ended}
+use Rattle.plain_machine.specs.declared.monitor_call.Mode.TheVariants.{Ended}
 use Rattle.plain_machine.specs.Thread.{ThreadState}
 use Rattle.plain_machine.specs.Machine.{PlainMachine, take}
 use Rattle.plain_machine.specs.Legal.{after_all}
@@ -37,9 +37,7 @@ final_index m t = final_of (slice_get m.threads t)
 
 ended_asks_none : (s : ThreadState) (mode : Mode) → HasEnded mode → ask_in s mode ≡ None
 ended_asks_none s (Ended x) h = refl
-ended_asks_none s (Calling c) h = absurd h
-ended_asks_none s (Waiting o) h = absurd h
-ended_asks_none s (Unwinding x) h = absurd h
+ended_asks_none s _ h = absurd h
 
 -- a thread that has ended stays as it is
 keeps_ended : (m n : PlainMachine) (u t : ℕ) (e : Entry) (s : ThreadState)

@@ -8,7 +8,7 @@ use Rattle.plain_monitor.specs.declared.entry.Logged.{Logged}
 use Rattle.plain_monitor.specs.Order.{order}
 use Rattle.plain_monitor.specs.History.{RisesAbove}
 use Rattle.plain_machine.specs.declared.monitor_call.Mode.{Mode}
-use Rattle.plain_machine.specs.declared.monitor_call.Mode.TheVariants.{Calling, Waiting, Unwinding, Ended}
+use Rattle.plain_machine.specs.declared.monitor_call.Mode.TheVariants.{Unwinding}
 use Rattle.plain_machine.specs.Thread.{ThreadState}
 use Rattle.plain_machine.specs.Asking.{ask, ask_in, unwinds, held_from}
 use Rattle.plain_machine.specs.Machine.{PlainMachine, new_machine, code_of}
@@ -32,10 +32,8 @@ unwinds_same e None = refl
 unwinds_same e (Some o) = refl
 
 asks_in : (s : ThreadState) (mode : Mode) → ask_in (erased s) (unplaced_mode mode) ≡ option_map unplaced_asked (ask_in s mode)
-asks_in s (Calling c) = refl
-asks_in s (Waiting o) = refl
 asks_in s (Unwinding e) = unwinds_same e (held_from 0 s.holds)
-asks_in s (Ended e) = refl
+asks_in s _ = refl
 
 asks_same : (code : List Code) (a : Option SyncState) (s : Option ThreadState) → OptionAlike code a s
     → option_and_then (λ x. ask x.thread) a ≡ option_map unplaced_asked (option_and_then ask s)

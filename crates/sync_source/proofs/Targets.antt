@@ -74,10 +74,7 @@ module _ (classes locals objects m : ℕ) where
 
   some_left : (b : Statements) → EndsWell b → 1 ≤ size b
   some_left Nothing h = absurd h
-  some_left (Plain c r) h = omega arith
-  some_left (Sync x b r) h = omega arith
-  some_left (If t b c r) h = omega arith
-  some_left (While t b r) h = omega arith
+  some_left _ h = omega arith
 
   -- a body that ends well goes on in itself
   stays_within : (b : Statements) (at : ℕ) → AreStatements classes locals objects b → EndsWell b → at + size b ≤ m → AllByRecursion (Within m) (code_at at b)

@@ -12,7 +12,7 @@ use Rattle.plain_machine.specs.declared.monitor_call.MonitorCall.TheVariants as 
 use Rattle.plain_machine.specs.declared.monitor_call.Mode.{Mode}
 use Rattle.plain_machine.specs.declared.monitor_call.Mode.TheVariants.{Calling, Waiting, Unwinding, Ended}
 use Rattle.plain_machine.specs.declared.monitor_call.NextEntry.{NextEntry}
-use Rattle.plain_machine.specs.declared.monitor_call.NextEntry.TheVariants.{Calls, Resumes, Leaves, Ends}
+use Rattle.plain_machine.specs.declared.monitor_call.NextEntry.TheVariants.{Calls, Ends}
 use Rattle.plain_machine.specs.Thread.{ThreadState}
 use Rattle.plain_machine.specs.Asking.{held_from, unwinds, ask_in, is_call, fits, fault_number, after_entry}
 use Rattle.plain_machine.specs.Machine.{PlainMachine, code_of, take}
@@ -28,26 +28,14 @@ pub record IsTrapped (m : PlainMachine) (t j : ℕ) (next : PlainMachine) : Type
 
 no_call : (c : MonitorCall) (f : Fault) (j : ℕ) → is_call c (Trap f j) ≡ false
 no_call (call.Enter o) f j = refl
-no_call (call.Exit o) f j = refl
-no_call (call.Wait o) f j = refl
-no_call (call.Notify o) f j = refl
-no_call (call.NotifyAll o) f j = refl
-no_call (call.Get x o k) f j = refl
-no_call (call.Put o k v) f j = refl
-no_call (call.Hash x o) f j = refl
-no_call (call.New x c) f j = refl
-no_call (call.Print v) f j = refl
-no_call (call.Dump n) f j = refl
+no_call _ f j = refl
 
 -- what a trap fits
 ends_by : (a : NextEntry) (f : Fault) (j : ℕ) → fits a (Trap f j) ≡ true → (g : Fault) × (a ≡ Ends (ending.Trap g j))
 ends_by (Calls c) f j h = absurd (false≢true (sym (no_call c f j) ∙ h))
-ends_by (Resumes o) f j h = absurd (false≢true h)
-ends_by (Leaves o) f j h = absurd (false≢true h)
 ends_by (Ends (ending.Trap g i)) f j h =
     (g, ap (λ k. Ends (ending.Trap g k)) (eqb-true i j (and_parts (fault_number g == fault_number f) (i == j) h).1))
-ends_by (Ends ending.Spent) f j h = absurd (false≢true h)
-ends_by (Ends ending.Done) f j h = absurd (false≢true h)
+ends_by _ f j h = absurd (false≢true h)
 
 -- who asks for an end unwinds by it
 unwinds_by : (g e : Ending) (held : Option ℕ) → ◌≡◌ {A = Option NextEntry} (Some (unwinds g held)) (Some (Ends e)) → g ≡ e

@@ -29,19 +29,9 @@ goes_on place fuel f = record f { place = place; fuel = fuel; mode = None }
 pub answered_later : (f : FrameSeen) (c : MonitorCall) (e : Entry) (place fuel : ℕ) (mode : Option Mode)
     → frame_answered (record f { place = place; fuel = fuel; mode = mode }) c e ≡ record (frame_answered f c e) { place = place; fuel = fuel; mode = mode }
 answered_later f (call.Get x o k) (entry.Get object slot value) place fuel mode = refl
-answered_later f (call.Get x o k) e place fuel mode = refl
 answered_later f (call.Hash x o) (entry.Hash object value drawn) place fuel mode = refl
-answered_later f (call.Hash x o) e place fuel mode = refl
 answered_later f (call.New x c) (entry.New object class) place fuel mode = refl
-answered_later f (call.New x c) e place fuel mode = refl
-answered_later f (call.Dump n) e place fuel mode = refl
-answered_later f (call.Enter o) e place fuel mode = refl
-answered_later f (call.Exit o) e place fuel mode = refl
-answered_later f (call.Wait o) e place fuel mode = refl
-answered_later f (call.Notify o) e place fuel mode = refl
-answered_later f (call.NotifyAll o) e place fuel mode = refl
-answered_later f (call.Put o k v) e place fuel mode = refl
-answered_later f (call.Print v) e place fuel mode = refl
+answered_later f _ e place fuel mode = refl
 
 -- a frame that doesn't stand before the call goes on after it as one that does
 pub after_before : (f : FrameSeen) (c : MonitorCall) (e : Entry) → frame_after_call (before_call f c) c e ≡ frame_after_call f c e

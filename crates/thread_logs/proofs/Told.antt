@@ -50,10 +50,8 @@ asking_mode s (Unwinding e) a h =
 asking_mode s (Ended e) a h = absurd (none-some a h)
 
 asking_lives : (s : ThreadState) (m : Mode) (a : NextEntry) → ask_in s m ≡ Some a → is_live (record s { mode = m }) ≡ true
-asking_lives s (Calling c) a h = refl
-asking_lives s (Waiting o) a h = refl
-asking_lives s (Unwinding e) a h = refl
 asking_lives s (Ended e) a h = absurd (none-some a h)
+asking_lives s _ a h = refl
 
 -- the thread after an entry stands as that tells
 pub record IsTold (s next : ThreadState) (e : Entry) : Type 0 where
