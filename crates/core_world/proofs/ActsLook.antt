@@ -1,7 +1,7 @@
 -- A load leaves what its thread knows of its own words and of its running as it was.
 use Rattle.std.proofs.Common.{Option, ◌≡◌, ℕ, ◌&&◌, not, Bool, true, false, cond, List, [], ◌∷◌, Some, refl, ap, ◌∙◌}
 use Rattle.core_world.specs.declared.act.Act.{Act}
-use Rattle.core_world.specs.declared.act.Act.TheVariants.{Load, Store, CompareExchange, FetchMax, FetchAnd, FetchAdd}
+use Rattle.core_world.specs.declared.act.Act.TheVariants.{Load, CompareExchange}
 use Rattle.core_world.specs.declared.word_id.WordId.{WordId}
 use Rattle.core_world.specs.declared.word_id.WordId.TheVariants as id
 use Rattle.core_world.specs.Words.Acts.{word_after, hits}
@@ -72,17 +72,9 @@ headers_are_part u (m ∷ ms) n v h = by_header (headers_are_part u ms n v) (is_
 -- an exchange that misses leaves its word
 pub missed_word : (act : Act) (n : ℕ) → hits act n ≡ false → word_after act n ≡ n
 missed_word (CompareExchange expected word) n e = ap (λ b. cond b word n) e
-missed_word Load n e = absurd (cc e)
-missed_word (Store word) n e = absurd (cc e)
-missed_word (FetchMax word) n e = absurd (cc e)
-missed_word (FetchAnd bits) n e = absurd (cc e)
-missed_word FetchAdd n e = absurd (cc e)
+missed_word _ n e = absurd (cc e)
 
 -- and it is no store
 pub missed_write : (at : WordId) (act : Act) (n : ℕ) → hits act n ≡ false → write_by at act ≡ []
 missed_write at (CompareExchange expected word) n e = refl
-missed_write at Load n e = absurd (cc e)
-missed_write at (Store word) n e = absurd (cc e)
-missed_write at (FetchMax word) n e = absurd (cc e)
-missed_write at (FetchAnd bits) n e = absurd (cc e)
-missed_write at FetchAdd n e = absurd (cc e)
+missed_write at _ n e = absurd (cc e)

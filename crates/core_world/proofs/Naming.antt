@@ -41,24 +41,7 @@ named_by k a b =
 
 named_again : (n : WordId) → named_by (kind_of n) (first_index n) (second_index n) ≡ n
 named_again Safepoint = refl
-named_again (Prototype a) = refl
-named_again (Revocations a) = refl
-named_again (LastBulk a) = refl
-named_again (Mark a) = refl
-named_again (Stamp a) = refl
-named_again (Slot a b) = refl
-named_again (Hold a b) = refl
-named_again (Displaced a b) = refl
-named_again (Waiting a) = refl
-named_again (Length a) = refl
-named_again (Owner a) = refl
-named_again (Recursions a) = refl
-named_again (Header a) = refl
-named_again (Object a) = refl
-named_again Claim = refl
-named_again End = refl
-named_again (Ring a) = refl
-named_again (Class a) = refl
+named_again _ = refl
 
 both_true : (a b : Bool) → (a && b) ≡ true → (a ≡ true) × (b ≡ true)
 both_true true b h = (refl, h)

@@ -2,8 +2,8 @@
 use Rattle.std.proofs.Common.{◌≡◌, ℕ, ◌||◌, Bool, true, Some, None, subst, inl, inr}
 use Rattle.mark_word.specs.Mark.{read_mark}
 use Rattle.core_world.specs.declared.word_id.WordId.{WordId}
-use Rattle.core_world.specs.declared.word_id.WordId.TheVariants.{Safepoint, Prototype, Revocations, LastBulk, Mark, Stamp, Slot, Hold, Displaced}
-use Rattle.core_world.specs.declared.word_id.WordId.TheVariants.{Waiting, Length, Owner, Recursions, Header, Object, Claim, End, Ring, Class}
+use Rattle.core_world.specs.declared.word_id.WordId.TheVariants.{Mark, Stamp, Slot, Displaced}
+use Rattle.core_world.specs.declared.word_id.WordId.TheVariants.{Waiting, Owner, Recursions, Header, Object}
 use Rattle.core_world.specs.Words.Forms.{monitor_in}
 use Rattle.core_world.specs.Threads.Stages.{Inflation, inflation_in, bears, revocation_in}
 use Rattle.core_world.specs.Threads.ThreadView.{ThreadView}
@@ -28,53 +28,27 @@ module _ (w x : World) (k l : ThreadView) (owner next : ℕ → ℕ → Bool) (u
   own_back m h = (h.0, b.monitor h.0 m h.1, b.held h.0 m h.1 h.2)
 
   running_back : (n : WordId) (v : ℕ) → StaysWhileRunning x l next u n v → StaysWhileRunning w k owner u n v
-  running_back Safepoint v h = h
-  running_back (Prototype c) v h = h
-  running_back (Revocations c) v h = h
-  running_back (LastBulk c) v h = h
   running_back (Mark o) v (inl h) = inl (subst (IsValidBias (read_mark v)) (b.prototype o) h)
   running_back (Mark o) v (inr (inl h)) = inr (inl h)
   running_back (Mark o) v (inr (inr (inl h))) = inr (inr (inl (h.0, b.inflates h.0 h.1, h.2)))
   running_back (Mark o) v (inr (inr (inr h))) = inr (inr (inr (h.0, b.owned o h.1)))
   running_back (Stamp o) v h = b.owned o h
   running_back (Slot o i) v h = b.owned o h
-  running_back (Hold t p) v h = h
   running_back (Displaced t p) v (inl h) = inl h
   running_back (Displaced t p) v (inr h) = inr (h.0, b.inflates h.0 h.1, h.2)
   running_back (Waiting t) v (inl h) = inl (h.0, b.owned h.0 h.1, h.2)
   running_back (Waiting t) v (inr h) = inr h
-  running_back (Length t) v h = h
   running_back (Owner m) v (inl h) = inl (b.kept m h)
   running_back (Owner m) v (inr h) = inr (own_back m h)
   running_back (Recursions m) v (inl h) = inl (b.kept m h)
   running_back (Recursions m) v (inr h) = inr (own_back m h)
   running_back (Header m) v h = b.kept m h
   running_back (Object m) v h = b.kept m h
-  running_back Claim v h = h
-  running_back End v h = h
-  running_back (Ring p) v h = h
-  running_back (Class o) v h = h
+  running_back _ v h = h
 
   asking_back : (n : WordId) (v : ℕ) → StaysWhileAsking x n v → StaysWhileAsking w n v
-  asking_back (Prototype c) v h = h
-  asking_back (Revocations c) v h = h
-  asking_back (LastBulk c) v h = h
   asking_back (Mark o) v h = subst (IsValidBias (read_mark v)) (b.prototype o) h
-  asking_back Safepoint v h = h
-  asking_back (Stamp o) v h = h
-  asking_back (Slot o i) v h = h
-  asking_back (Hold t p) v h = h
-  asking_back (Displaced t p) v h = h
-  asking_back (Waiting t) v h = h
-  asking_back (Length t) v h = h
-  asking_back (Owner m) v h = h
-  asking_back (Recursions m) v h = h
-  asking_back (Header m) v h = h
-  asking_back (Object m) v h = h
-  asking_back Claim v h = h
-  asking_back End v h = h
-  asking_back (Ring p) v h = h
-  asking_back (Class o) v h = h
+  asking_back _ v h = h
 
   pub stays_back : (n : WordId) (v : ℕ) → Stays x l next u n v → Stays w k owner u n v
   stays_back n v (inl h) = inl (b.run h.0, running_back n v h.1)

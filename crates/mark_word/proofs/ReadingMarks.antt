@@ -6,7 +6,7 @@ use Rattle.std.proofs.lemmas.Option.{MatchOption-at_some}
 use Rattle.std.specs.Bool.{⊤}
 use Rattle.mark_word.specs.Record.{is_record_word}
 use Rattle.mark_word.specs.declared.mark.MarkForm.{MarkForm}
-use Rattle.mark_word.specs.declared.mark.MarkForm.TheVariants.{Inflating, Neutral, Anonymous, Biased, Locked, Inflated, Marked}
+use Rattle.mark_word.specs.declared.mark.MarkForm.TheVariants.{Inflating, Marked}
 use Rattle.mark_word.specs.Mark.{IsMarkInRange, mark_of, SpellsMark, read_neutral, read_inflated, biased_in, read_biased, read_mark}
 use Rattle.mark_word.proofs.ReadingRecords.{record_told}
 
@@ -14,12 +14,8 @@ use Rattle.mark_word.proofs.ReadingRecords.{record_told}
 pub read_mark-mark_of : (f : MarkForm) → IsMarkInRange f → read_mark (mark_of f) ≡ Some f
 unfolding read_mark
 read_mark-mark_of Inflating h = refl
-read_mark-mark_of (Neutral hash age) h = grind (arith, nat_tests)
-read_mark-mark_of (Anonymous epoch age) h = grind (arith, nat_tests)
-read_mark-mark_of (Biased thread epoch age) h = grind (arith, nat_tests)
-read_mark-mark_of (Locked thread place) h = grind (arith, nat_tests)
-read_mark-mark_of (Inflated monitor) h = grind (arith, nat_tests)
 read_mark-mark_of Marked h = refl
+read_mark-mark_of _ h = grind (arith, nat_tests)
 
 -- the word spells what is read from it, if anything
 abbrev IsSpelled : ℕ → Option MarkForm → Type 0

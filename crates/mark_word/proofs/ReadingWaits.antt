@@ -5,17 +5,15 @@ use Rattle.std.proofs.lemmas.Bool.Decides.{nat_tests}
 use Rattle.std.proofs.lemmas.Option.{MatchOption-at_some}
 use Rattle.std.specs.Bool.{⊤}
 use Rattle.mark_word.specs.declared.wait.WaitForm.{WaitForm}
-use Rattle.mark_word.specs.declared.wait.WaitForm.TheVariants.{Ready, Entering, Waiting, Notified, Ended}
+use Rattle.mark_word.specs.declared.wait.WaitForm.TheVariants.{Ready, Ended}
 use Rattle.mark_word.specs.Wait.{IsWaitInRange, wait_of, SpellsWait, read_wait}
 
 -- a wait in range is read back from its word
 pub read_wait-wait_of : (f : WaitForm) → IsWaitInRange f → read_wait (wait_of f) ≡ Some f
 unfolding read_wait
 read_wait-wait_of Ready h = refl
-read_wait-wait_of (Entering object) h = grind (arith, nat_tests)
-read_wait-wait_of (Waiting object stamp) h = grind (arith, nat_tests)
-read_wait-wait_of (Notified object) h = grind (arith, nat_tests)
 read_wait-wait_of Ended h = refl
+read_wait-wait_of _ h = grind (arith, nat_tests)
 
 -- the word spells what is read from it, if anything
 abbrev IsSpelled : ℕ → Option WaitForm → Type 0

@@ -67,47 +67,18 @@ at_object x y u t (entry.Put o i v) s h = same_held (u == t) _ _
     (only_kept (λ n. holds_by_monitor n t ≡ holds_by_monitor x.monitor t) x (record x { slots = slice_set x.slots i v }) y _ refl refl h)
 at_object x y u t (entry.Hash o v d) s h =
     same_held (u == t) _ _ (hash_kept (λ n. holds_by_monitor n t ≡ holds_by_monitor x.monitor t) x y (hashed x.hash v) refl h)
-at_object x y u t (entry.New o c) s h = same_held (u == t) _ _ (ap (λ (z : PlainObject). holds_by_monitor z.monitor t) (sym (same_Some x y h)))
-at_object x y u t (entry.Print v) s h = same_held (u == t) _ _ (ap (λ (z : PlainObject). holds_by_monitor z.monitor t) (sym (same_Some x y h)))
-at_object x y u t (entry.Dump n) s h = same_held (u == t) _ _ (ap (λ (z : PlainObject). holds_by_monitor z.monitor t) (sym (same_Some x y h)))
-at_object x y u t (entry.Trap f i) s h = same_held (u == t) _ _ (ap (λ (z : PlainObject). holds_by_monitor z.monitor t) (sym (same_Some x y h)))
-at_object x y u t entry.Spent s h = same_held (u == t) _ _ (ap (λ (z : PlainObject). holds_by_monitor z.monitor t) (sym (same_Some x y h)))
-at_object x y u t entry.Done s h = same_held (u == t) _ _ (ap (λ (z : PlainObject). holds_by_monitor z.monitor t) (sym (same_Some x y h)))
+at_object x y u t _ s h = same_held (u == t) _ _ (ap (λ (z : PlainObject). holds_by_monitor z.monitor t) (sym (same_Some x y h)))
 
 -- the holds by the log, at the object that an entry names, and elsewhere
 log_here : (e : Entry) (held : ℕ → ℕ) (o : ℕ) → named e ≡ Some o → held_after e held o ≡ held_here e (held o)
 log_here (entry.Enter i p) held o h = ap (λ (b : Bool). held o + one_if b) (eq-eqb i o (same_Some i o h))
 log_here (entry.Exit i) held o h = ap (λ (b : Bool). held o - one_if b) (eq-eqb i o (same_Some i o h))
-log_here (entry.Wait i) held o h = refl
-log_here (entry.Resume i) held o h = refl
-log_here (entry.Notify i w) held o h = refl
-log_here (entry.NotifyAll i w) held o h = refl
-log_here (entry.Get i j v) held o h = refl
-log_here (entry.Put i j v) held o h = refl
-log_here (entry.Hash i v d) held o h = refl
-log_here (entry.New i c) held o h = refl
-log_here (entry.Print v) held o h = refl
-log_here (entry.Dump n) held o h = refl
-log_here (entry.Trap f i) held o h = refl
-log_here entry.Spent held o h = refl
-log_here entry.Done held o h = refl
+log_here _ held o h = refl
 
 log_else : (e : Entry) (held : ℕ → ℕ) (o : ℕ) → (named e ≡ Some o → ⊥) → held_after e held o ≡ held o
 log_else (entry.Enter i p) held o h = let a = ap one_if (ne_eqb i o (λ s. h (ap Some s))) in omega (arith, a)
 log_else (entry.Exit i) held o h = let a = ap one_if (ne_eqb i o (λ s. h (ap Some s))) in omega (arith, a)
-log_else (entry.Wait i) held o h = refl
-log_else (entry.Resume i) held o h = refl
-log_else (entry.Notify i w) held o h = refl
-log_else (entry.NotifyAll i w) held o h = refl
-log_else (entry.Get i j v) held o h = refl
-log_else (entry.Put i j v) held o h = refl
-log_else (entry.Hash i v d) held o h = refl
-log_else (entry.New i c) held o h = refl
-log_else (entry.Print v) held o h = refl
-log_else (entry.Dump n) held o h = refl
-log_else (entry.Trap f i) held o h = refl
-log_else entry.Spent held o h = refl
-log_else entry.Done held o h = refl
+log_else _ held o h = refl
 
 -- an object that is there
 pub there : (P : List PlainObject) (o : ℕ) (x : PlainObject) → slice_get P o ≡ Some x → o < length P

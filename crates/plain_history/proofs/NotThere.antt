@@ -3,8 +3,7 @@ use Rattle.std.proofs.Common.{◌≡◌, ◌≢◌, ℕ, true, false, List, [], 
 use Rattle.std.proofs.lemmas.Option.{cond_some, same_Some}
 use Rattle.std.specs.List.{AllByRecursion}
 use Rattle.plain_monitor.specs.declared.entry.Entry.{Entry}
-use Rattle.plain_monitor.specs.declared.entry.Entry.TheVariants.{Enter, Exit, Get, Put, Wait, Resume, Notify, NotifyAll}
-use Rattle.plain_monitor.specs.declared.entry.Entry.TheVariants.{Hash, New, Print, Dump, Trap, Spent, Done}
+use Rattle.plain_monitor.specs.declared.entry.Entry.TheVariants.{New, Print, Dump, Trap, Spent, Done}
 use Rattle.plain_monitor.specs.declared.entry.Logged.{Logged}
 use Rattle.plain_monitor.specs.Objects.{PlainObject, new_objects, named, take_named, take_entry}
 use Rattle.plain_monitor.specs.Order.{order}
@@ -18,21 +17,13 @@ use Rattle.plain_history.proofs.MadeHistories.{all_stay, there_stays}
 
 -- an entry that makes an object names none
 pub creates_unnamed : (e : Entry) (p : ℕ × ℕ) → creates e ≡ Some p → named e ≡ None
-creates_unnamed (Enter o r) p h = absurd (cc h)
-creates_unnamed (Exit o) p h = absurd (cc h)
-creates_unnamed (Get o s v) p h = absurd (cc h)
-creates_unnamed (Put o s v) p h = absurd (cc h)
-creates_unnamed (Wait o) p h = absurd (cc h)
-creates_unnamed (Resume o) p h = absurd (cc h)
-creates_unnamed (Notify o w) p h = absurd (cc h)
-creates_unnamed (NotifyAll o w) p h = absurd (cc h)
-creates_unnamed (Hash o v d) p h = absurd (cc h)
 creates_unnamed (New o c) p h = refl
 creates_unnamed (Print v) p h = refl
 creates_unnamed (Dump k) p h = refl
 creates_unnamed (Trap f k) p h = refl
 creates_unnamed Spent p h = refl
 creates_unnamed Done p h = refl
+creates_unnamed _ p h = absurd (cc h)
 
 -- an entry that is taken names an object that is there
 pub named_there : (n : Numbering) (before after : List (List ℕ)) (t : ℕ) (e : Entry) (o : ℕ)

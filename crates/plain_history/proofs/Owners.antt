@@ -6,7 +6,7 @@ use Rattle.std.proofs.lemmas.List.{get_or-set_same, get_or-set_other}
 use Rattle.std.proofs.lemmas.Option.{cond_some, same_Some, get_or_from_slice_get}
 use Rattle.plain_monitor.specs.declared.entry.Entry.{Entry}
 use Rattle.plain_monitor.specs.declared.entry.Entry.TheVariants.{Enter, Exit, Get, Put, Wait, Resume, Notify, NotifyAll}
-use Rattle.plain_monitor.specs.declared.entry.Entry.TheVariants.{Hash, New, Print, Dump, Trap, Spent, Done}
+use Rattle.plain_monitor.specs.declared.entry.Entry.TheVariants.{Hash}
 use Rattle.plain_monitor.specs.Monitor.{PlainMonitor, owns, count_of, enter, exit, wait, resumed, resume, calls, notify, notify_all}
 use Rattle.plain_monitor.specs.Objects.{PlainObject, new_object, take_at, take_named, take_entry, named, hashed}
 use Rattle.plain_history.proofs.Swaps.{taken_at}
@@ -75,12 +75,7 @@ object_keeps x y u t (NotifyAll o w) own d h = monitor_kept (λ n. n.owner ≡ S
 object_keeps x y u t (Get o i v) own d h = only_kept (λ n. n.owner ≡ Some u) x x y _ own refl h
 object_keeps x y u t (Put o i v) own d h = only_kept (λ n. n.owner ≡ Some u) x (record x { slots = slice_set x.slots i v }) y _ own refl h
 object_keeps x y u t (Hash o v k) own d h = hash_kept (λ n. n.owner ≡ Some u) x y (hashed x.hash v) own h
-object_keeps x y u t (New o c) own d h = subst (λ z. z.monitor.owner ≡ Some u) (same_Some x y h) own
-object_keeps x y u t (Print v) own d h = subst (λ z. z.monitor.owner ≡ Some u) (same_Some x y h) own
-object_keeps x y u t (Dump n) own d h = subst (λ z. z.monitor.owner ≡ Some u) (same_Some x y h) own
-object_keeps x y u t (Trap f i) own d h = subst (λ z. z.monitor.owner ≡ Some u) (same_Some x y h) own
-object_keeps x y u t Spent own d h = subst (λ z. z.monitor.owner ≡ Some u) (same_Some x y h) own
-object_keeps x y u t Done own d h = subst (λ z. z.monitor.owner ≡ Some u) (same_Some x y h) own
+object_keeps x y u t _ own d h = subst (λ z. z.monitor.owner ≡ Some u) (same_Some x y h) own
 
 -- ALL OBJECTS. The owner of object o, at any entry
 abbrev pub owner_of : List PlainObject → ℕ → Option ℕ

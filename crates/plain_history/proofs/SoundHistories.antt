@@ -4,7 +4,7 @@ use Rattle.std.proofs.lemmas.Option.{cond_some, same_Some}
 use Rattle.std.specs.List.{AllByRecursion}
 use Rattle.plain_monitor.specs.declared.entry.Entry.{Entry}
 use Rattle.plain_monitor.specs.declared.entry.Entry.TheVariants.{Enter, Exit, Get, Put, Wait, Resume, Notify, NotifyAll}
-use Rattle.plain_monitor.specs.declared.entry.Entry.TheVariants.{Hash, New, Print, Dump, Trap, Spent, Done}
+use Rattle.plain_monitor.specs.declared.entry.Entry.TheVariants.{Hash}
 use Rattle.plain_monitor.specs.declared.entry.Logged.{Logged}
 use Rattle.plain_monitor.specs.Monitor.{PlainMonitor, only_if, owns, enter, exit, wait, resume, notify, notify_all}
 use Rattle.plain_monitor.specs.Objects.{PlainObject, new_objects, take_at, take_named, take_entry, named, with_monitor, with_hash, hashed, has_value}
@@ -42,12 +42,7 @@ take_sound x y t (NotifyAll o w) s h = monitor_kept IsSound x y (notify_all x.mo
 take_sound x y t (Get o i v) s h = only_kept IsSound x x y (owns x.monitor t && has_value (slice_get x.slots i) v) s refl h
 take_sound x y t (Put o i v) s h = only_kept IsSound x (record x { slots = slice_set x.slots i v }) y (owns x.monitor t && nat_lt i (length x.slots)) s refl h
 take_sound x y t (Hash o v d) s h = hash_kept IsSound x y (hashed x.hash v) s h
-take_sound x y t (New o c) s h = subst (λ z. IsSound z.monitor) (same_Some x y h) s
-take_sound x y t (Print v) s h = subst (λ z. IsSound z.monitor) (same_Some x y h) s
-take_sound x y t (Dump n) s h = subst (λ z. IsSound z.monitor) (same_Some x y h) s
-take_sound x y t (Trap f i) s h = subst (λ z. IsSound z.monitor) (same_Some x y h) s
-take_sound x y t Spent s h = subst (λ z. IsSound z.monitor) (same_Some x y h) s
-take_sound x y t Done s h = subst (λ z. IsSound z.monitor) (same_Some x y h) s
+take_sound x y t _ s h = subst (λ z. IsSound z.monitor) (same_Some x y h) s
 
 -- the monitor of each object is sound
 abbrev pub AllSound : List PlainObject → Type 0

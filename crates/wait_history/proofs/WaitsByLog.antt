@@ -76,47 +76,18 @@ module _ (x y : PlainObject) (u t : ℕ) where
   at_object (entry.Get o i v) s h = same_waits (u == t) _ _ (only_kept Unchanged x x y _ refl refl h)
   at_object (entry.Put o i v) s h = same_waits (u == t) _ _ (only_kept Unchanged x (record x { slots = slice_set x.slots i v }) y _ refl refl h)
   at_object (entry.Hash o v d) s h = same_waits (u == t) _ _ (hash_kept Unchanged x y (hashed x.hash v) refl h)
-  at_object (entry.New i c) s h = same_waits (u == t) _ _ (subst (λ z. Unchanged z.monitor) (same_Some x y h) refl)
-  at_object (entry.Print v) s h = same_waits (u == t) _ _ (subst (λ z. Unchanged z.monitor) (same_Some x y h) refl)
-  at_object (entry.Dump n) s h = same_waits (u == t) _ _ (subst (λ z. Unchanged z.monitor) (same_Some x y h) refl)
-  at_object (entry.Trap f i) s h = same_waits (u == t) _ _ (subst (λ z. Unchanged z.monitor) (same_Some x y h) refl)
-  at_object entry.Spent s h = same_waits (u == t) _ _ (subst (λ z. Unchanged z.monitor) (same_Some x y h) refl)
-  at_object entry.Done s h = same_waits (u == t) _ _ (subst (λ z. Unchanged z.monitor) (same_Some x y h) refl)
+  at_object _ s h = same_waits (u == t) _ _ (subst (λ z. Unchanged z.monitor) (same_Some x y h) refl)
 
 -- by the log, at the object that an entry names, and elsewhere
 log_here : (e : Entry) (a : Bool) (o : ℕ) → named e ≡ Some o → waits_after e a o ≡ waits_here e a
 log_here (entry.Wait i) a o h = ap (λ b. a || b) (eq-eqb i o (same_Some i o h)) ∙ or-true a
 log_here (entry.Resume i) a o h = ap (λ b. a && not b) (eq-eqb i o (same_Some i o h)) ∙ and-false a
-log_here (entry.Enter i p) a o h = refl
-log_here (entry.Exit i) a o h = refl
-log_here (entry.Notify i w) a o h = refl
-log_here (entry.NotifyAll i w) a o h = refl
-log_here (entry.Get i j v) a o h = refl
-log_here (entry.Put i j v) a o h = refl
-log_here (entry.Hash i v d) a o h = refl
-log_here (entry.New i c) a o h = refl
-log_here (entry.Print v) a o h = refl
-log_here (entry.Dump n) a o h = refl
-log_here (entry.Trap f i) a o h = refl
-log_here entry.Spent a o h = refl
-log_here entry.Done a o h = refl
+log_here _ a o h = refl
 
 log_else : (e : Entry) (a : Bool) (o : ℕ) → (named e ≡ Some o → ⊥) → waits_after e a o ≡ a
 log_else (entry.Wait i) a o h = ap (λ b. a || b) (ne_eqb i o (λ s. h (ap Some s))) ∙ or-false a
 log_else (entry.Resume i) a o h = ap (λ b. a && not b) (ne_eqb i o (λ s. h (ap Some s))) ∙ and-true a
-log_else (entry.Enter i p) a o h = refl
-log_else (entry.Exit i) a o h = refl
-log_else (entry.Notify i w) a o h = refl
-log_else (entry.NotifyAll i w) a o h = refl
-log_else (entry.Get i j v) a o h = refl
-log_else (entry.Put i j v) a o h = refl
-log_else (entry.Hash i v d) a o h = refl
-log_else (entry.New i c) a o h = refl
-log_else (entry.Print v) a o h = refl
-log_else (entry.Dump n) a o h = refl
-log_else (entry.Trap f i) a o h = refl
-log_else entry.Spent a o h = refl
-log_else entry.Done a o h = refl
+log_else _ a o h = refl
 
 -- an entry of u changes u's own waits alone, as its log says
 step_awaits : (P Q : List PlainObject) (u t : ℕ) (e : Entry) → AllSound P → take_entry P u e ≡ Some Q → (i : ℕ)

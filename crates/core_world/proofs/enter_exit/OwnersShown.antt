@@ -13,8 +13,7 @@ use Rattle.plain_history.specs.Sound.{IsSound}
 use Rattle.core_world.specs.declared.word_id.WordId.{WordId}
 use Rattle.core_world.specs.declared.word_id.WordId.TheVariants.{Mark}
 use Rattle.core_world.specs.declared.stage.Stage.{Stage}
-use Rattle.core_world.specs.declared.stage.Stage.TheVariants.{Settled, RecordLocked, MonitorAcquired, BiasAcquired, Enters, Resumes, Exits, Waits}
-use Rattle.core_world.specs.declared.stage.Stage.TheVariants.{OwnerConverted, RecursionsRaised, RecursionsLowered, Inflates, Notifies, Revokes}
+use Rattle.core_world.specs.declared.stage.Stage.TheVariants.{Settled, BiasAcquired, Enters, Exits, Waits}
 use Rattle.core_world.specs.Words.Names.{same_name, with_word}
 use Rattle.core_world.specs.Words.Forms.{monitor_form}
 use Rattle.core_world.specs.Threads.Stages.{one_if, bears, hold_words_ahead, revocation_in}
@@ -69,18 +68,7 @@ owner_even w objects o t fits owner rest = by_stage (w.known t).stage refl
     by_stage : (s : Stage) → (w.known t).stage ≡ s → hold_words_ahead s o ≡ 0
     by_stage (Enters i p path) e = by_test (i == o) (sym (ap (λ x. bears x o) e) ∙ rest)
     by_stage (Exits i p) e = by_object i p (i == o) refl e
-    by_stage Settled e = refl
-    by_stage (RecordLocked i p) e = refl
-    by_stage (MonitorAcquired i) e = refl
-    by_stage (BiasAcquired i) e = refl
-    by_stage (Resumes i) e = refl
-    by_stage (Waits i) e = refl
-    by_stage (OwnerConverted i) e = refl
-    by_stage (RecursionsRaised i) e = refl
-    by_stage (RecursionsLowered i) e = refl
-    by_stage (Inflates i u p) e = refl
-    by_stage (Notifies i n) e = refl
-    by_stage (Revokes i r n) e = refl
+    by_stage _ e = refl
 
 -- an object that no thread is taking, or has to let go since its Wait, shows its plain owner and count
 pub at_rest_shown : (w : World) (objects : List PlainObject) (o : ℕ) → Fits w objects → ((t : ℕ) → bears (w.known t).stage o ≡ false)

@@ -4,8 +4,7 @@ use Rattle.std.proofs.Common.{Some, None, refl, sym, ap, ◌∙◌, subst, arith
 use Rattle.std.proofs.lemmas.List.{length-set, length-map, map-append, take-append-le}
 use Rattle.std.proofs.lemmas.Option.{same_Some}
 use Rattle.plain_monitor.specs.declared.entry.Entry.{Entry}
-use Rattle.plain_monitor.specs.declared.entry.Entry.TheVariants.{Enter, Exit, Get, Put, Wait, Resume, Notify, NotifyAll}
-use Rattle.plain_monitor.specs.declared.entry.Entry.TheVariants.{Hash, New, Print, Dump, Trap, Spent, Done}
+use Rattle.plain_monitor.specs.declared.entry.Entry.TheVariants.{Dump}
 use Rattle.plain_monitor.specs.declared.entry.Logged.{Logged}
 use Rattle.plain_monitor.specs.History.{LegalObjects, objects_after, log_of, appended}
 use Rattle.plain_history.specs.Appending.{MayAppend}
@@ -80,21 +79,8 @@ abbrev pub IsNoDump : Entry → Type 0
 IsNoDump e = (n : ℕ) (rest : List (ℕ × ℕ)) → placed n e rest ≡ rest
 
 pub dump_or_not : (e : Entry) → IsDump e ⊎ IsNoDump e
-dump_or_not (Enter o path) = inr (λ n rest. refl)
-dump_or_not (Exit o) = inr (λ n rest. refl)
-dump_or_not (Get o k v) = inr (λ n rest. refl)
-dump_or_not (Put o k v) = inr (λ n rest. refl)
-dump_or_not (Wait o) = inr (λ n rest. refl)
-dump_or_not (Resume o) = inr (λ n rest. refl)
-dump_or_not (Notify o woken) = inr (λ n rest. refl)
-dump_or_not (NotifyAll o woken) = inr (λ n rest. refl)
-dump_or_not (Hash o v drawn) = inr (λ n rest. refl)
-dump_or_not (New o c) = inr (λ n rest. refl)
-dump_or_not (Print v) = inr (λ n rest. refl)
 dump_or_not (Dump number) = inl (record { number = number; is = refl })
-dump_or_not (Trap fault index) = inr (λ n rest. refl)
-dump_or_not Spent = inr (λ n rest. refl)
-dump_or_not Done = inr (λ n rest. refl)
+dump_or_not _ = inr (λ n rest. refl)
 
 -- what stands after the dumps stays after them
 placed_append : (n : ℕ) (e : Entry) (xs ys : List (ℕ × ℕ)) → IsDump e ⊎ IsNoDump e → placed n e (xs ++ ys) ≡ placed n e xs ++ ys
