@@ -11,7 +11,7 @@ use Rattle.plain_monitor.specs.declared.entry.Value.TheVariants.{Nil, Int, Ref}
 use Rattle.plain_monitor.specs.declared.entry.Fault.{Fault}
 use Rattle.plain_monitor.specs.declared.entry.Ending.TheVariants as ending
 use Rattle.plain_monitor.specs.declared.entry.Entry.{Entry}
-use Rattle.plain_monitor.specs.declared.entry.Entry.TheVariants.{Enter, Exit, Get, Put, Wait, Resume, Notify, NotifyAll}
+use Rattle.plain_monitor.specs.declared.entry.Entry.TheVariants.{Get, Put, Notify, NotifyAll}
 use Rattle.plain_monitor.specs.declared.entry.Entry.TheVariants.{Hash, New, Print, Dump, Trap, Spent, Done}
 use Rattle.plain_monitor.specs.declared.entry.Logged.{Logged}
 use Rattle.plain_monitor.specs.Monitor.{PlainMonitor, notify_all, owns}
@@ -100,10 +100,8 @@ module _ (p : ProgramText) (is : IsProgram p) (s : ThreadState) where
       let there : j ≤ most_code = subst (UnwindsWithin most_code) asked.mode near in
       let same = eqb-true j i (and_parts (fault_number g == fault_number f) (j == i) fit).1 in
       omega (arith, there, same)
-  trap_number (Ends g) f i near asked fit = absurd (false≢true fit)
   trap_number (Calls c) f i near asked fit = absurd (false≢true (sym (not_called c f i) ∙ fit))
-  trap_number (Resumes q) f i near asked fit = absurd (false≢true fit)
-  trap_number (Leaves q) f i near asked fit = absurd (false≢true fit)
+  trap_number _ f i near asked fit = absurd (false≢true fit)
 
 -- a notify of all wakes no more than there are threads
 many_few : (m : PlainMachine) (t o many : ℕ) (after : List PlainObject) → IsReached m → take_entry m.objects t (NotifyAll o many) ≡ Some after → many < 2 ^ 32
@@ -131,42 +129,32 @@ value_of_more n m (Ref o) le h = let below = h.0 in (omega (arith, below, le), t
 
 -- and so is an entry
 entry_of_more : (n m threads : ℕ) (e : Entry) → n ≤ m → IsEntryOf n threads e → IsEntryOf m threads e
-entry_of_more n m threads (Enter o path) le h = omega (arith, h, le)
-entry_of_more n m threads (Exit o) le h = omega (arith, h, le)
-entry_of_more n m threads (Wait o) le h = omega (arith, h, le)
-entry_of_more n m threads (Resume o) le h = omega (arith, h, le)
 entry_of_more n m threads (Get o k v) le h = let below = h.0 in (omega (arith, below, le), value_of_more n m v le h.1)
 entry_of_more n m threads (Put o k v) le h = let below = h.0 in (omega (arith, below, le), value_of_more n m v le h.1)
 entry_of_more n m threads (Notify o woken) le h = let below = h.0 in (omega (arith, below, le), h.1)
-entry_of_more n m threads (NotifyAll o many) le h = omega (arith, h, le)
 entry_of_more n m threads (Hash o v drawn) le h = let below = h.0 in (omega (arith, below, le), h.1)
-entry_of_more n m threads (New o c) le h = omega (arith, h, le)
 entry_of_more n m threads (Print v) le h = value_of_more n m v le h
 entry_of_more n m threads (Dump number) le h = h
 entry_of_more n m threads (Trap f i) le h = tt
 entry_of_more n m threads Spent le h = tt
 entry_of_more n m threads Done le h = tt
+entry_of_more n m threads _ le h = omega (arith, h, le)
 
 -- an entry that was asked for and that the objects took
 told : (m : PlainMachine) (t : ℕ) (s : ThreadState) (a : NextEntry) (e : Entry) (after : List PlainObject)
     → IsReached m → UnwindsWithin most_code s.mode → IsAskedOf m.program s a
     → fits a e ≡ true → take_entry m.objects t e ≡ Some after
     → IsEntryOf (numbers_total m.program) (length m.program.threads) e → HasShortDraw e → IsEntryIn m.program e
-told m t s a (Enter o path) after h near asked fit takes is draw = is
-told m t s a (Exit o) after h near asked fit takes is draw = is
-told m t s a (Wait o) after h near asked fit takes is draw = is
-told m t s a (Resume o) after h near asked fit takes is draw = is
 told m t s a (Get o k v) after h near asked fit takes is draw = (is.0, got_slot m.program h.program s a o k v asked fit, is.1)
 told m t s a (Put o k v) after h near asked fit takes is draw = (is.0, put_slot m.program h.program s a o k v asked fit, is.1)
-told m t s a (Notify o woken) after h near asked fit takes is draw = is
 told m t s a (NotifyAll o many) after h near asked fit takes is draw = (is, many_few m t o many after h takes)
 told m t s a (Hash o v drawn) after h near asked fit takes is draw = let below = is.1.1 in (is.0, omega (arith, below), draw)
 told m t s a (New o c) after h near asked fit takes is draw = (is, new_class m.program h.program s a o c asked fit)
-told m t s a (Print v) after h near asked fit takes is draw = is
 told m t s a (Dump n) after h near asked fit takes is draw = omega (arith, is)
 told m t s a (Trap f i) after h near asked fit takes is draw = trap_number m.program h.program s a f i near asked fit
 told m t s a Spent after h near asked fit takes is draw = tt
 told m t s a Done after h near asked fit takes is draw = tt
+told m t s a _ after h near asked fit takes is draw = is
 
 module _ (m next : PlainMachine) (t : ℕ) (e : Entry) (h : IsReached m) (near : TrapsAreNear m) (takes : take m t e ≡ Some next) where
   taken_is_told : HasShortDraw e → IsEntryIn m.program e

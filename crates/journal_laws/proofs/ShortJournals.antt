@@ -13,11 +13,10 @@ use Rattle.plain_monitor.specs.declared.entry.Entry.{Entry}
 use Rattle.plain_monitor.specs.declared.entry.Entry.TheVariants.{Enter, Exit, Get, Put, Wait, Resume, Notify, NotifyAll}
 use Rattle.plain_monitor.specs.declared.entry.Entry.TheVariants.{Hash, New, Print, Dump, Trap, Spent, Done}
 use Rattle.plain_monitor.specs.declared.entry.Fault.{Fault}
-use Rattle.plain_monitor.specs.declared.entry.Fault.TheVariants.{IllegalMonitorState, Unguarded, NotRef, NotInt}
-use Rattle.plain_monitor.specs.declared.entry.Fault.TheVariants.{Range, Overflow, TooDeep, TooManyDumps, TooMany}
+use Rattle.plain_monitor.specs.declared.entry.Fault.TheVariants.{IllegalMonitorState}
 use Rattle.plain_monitor.specs.declared.entry.Logged.{Logged}
 use Rattle.plain_monitor.specs.declared.entry.Path.{Path}
-use Rattle.plain_monitor.specs.declared.entry.Path.TheVariants.{BiasOwn, BiasTaken, StackFirst, StackAgain, MonitorFirst, MonitorAgain}
+use Rattle.plain_monitor.specs.declared.entry.Path.TheVariants.{BiasOwn}
 use Rattle.plain_monitor.specs.declared.entry.Value.{Value}
 use Rattle.plain_monitor.specs.declared.entry.Value.TheVariants.{Nil, Int, Ref}
 use Rattle.plain_monitor.specs.Numbers.{IsInRange}
@@ -80,22 +79,11 @@ element_short i d few name = by_array d.array
 
 path_short : (path : Path) → length (path_text path) ≤ 13
 path_short BiasOwn = omega arith
-path_short BiasTaken = omega arith
-path_short StackFirst = omega arith
-path_short StackAgain = omega arith
-path_short MonitorFirst = omega arith
-path_short MonitorAgain = omega arith
+path_short _ = omega arith
 
 fault_short : (fault : Fault) → length (fault_text fault) ≤ 19
 fault_short IllegalMonitorState = omega arith
-fault_short Unguarded = omega arith
-fault_short NotRef = omega arith
-fault_short NotInt = omega arith
-fault_short Range = omega arith
-fault_short Overflow = omega arith
-fault_short TooDeep = omega arith
-fault_short TooManyDumps = omega arith
-fault_short TooMany = omega arith
+fault_short _ = omega arith
 
 draw_short : (drawn : Option ℕ) → MatchOption drawn (Unit {0}) (λ n. n < 2 ^ 32) → length (draw_text drawn) ≤ 16
 draw_short None few = omega arith

@@ -1,26 +1,18 @@
 -- A thread traps only at an instruction that it has, so that no trap's number is above 4096.
-use Rattle.std.proofs.Common.{◌≡◌, inl, inr, ℤ, ◌+ℤ◌, ◌-ℤ◌, ◌*ℤ◌, nat_abs, ℕ, zero, suc, ◌+◌, ◌<◌, ◌≤◌, nat_le, nat_lt, Bool, true}
-use Rattle.std.proofs.Common.{false, if◌then◌else◌, List, [], length, map, sum, slice_get, Option, Some, sym, subst, arith}
+use Rattle.std.proofs.Common.{◌≡◌, inl, inr, ℕ, zero, suc, ◌<◌, ◌≤◌}
+use Rattle.std.proofs.Common.{List, [], length, map, Some, sym, subst, arith}
 use Rattle.std.specs.List.{AllByRecursion}
 use Rattle.std.proofs.lemmas.Bool.{cases_lt}
 use Rattle.std.proofs.lemmas.List.{get_or_past}
-use Rattle.plain_monitor.specs.Limits.{most_holds, most_made}
-use Rattle.plain_monitor.specs.declared.entry.Value.{Value}
-use Rattle.plain_monitor.specs.declared.entry.Value.TheVariants.{Int, Ref}
-use Rattle.plain_monitor.specs.declared.entry.Fault.{Fault}
-use Rattle.plain_monitor.specs.declared.entry.Fault.TheVariants.{IllegalMonitorState, Unguarded, NotRef, NotInt}
-use Rattle.plain_monitor.specs.declared.entry.Fault.TheVariants.{Range, Overflow, TooDeep, TooManyDumps, TooMany}
 use Rattle.plain_monitor.specs.declared.entry.Ending.{Ending}
 use Rattle.plain_monitor.specs.declared.entry.Ending.TheVariants as ending
 use Rattle.plain_monitor.specs.declared.entry.Entry.{Entry}
-use Rattle.plain_monitor.specs.Numbers.{is_in_range}
 use Rattle.plain_monitor.proofs.Lists.{all_at, all_map, all_or, all_set, all_weaker}
 use Rattle.object_program.specs.Limits.{most_code}
 use Rattle.object_program.specs.declared.program.Code.{Code}
 use Rattle.object_program.specs.declared.program.Code.TheVariants as code
-use Rattle.object_program.specs.declared.program.ObjectDef.{ObjectDef}
 use Rattle.object_program.specs.declared.program.ThreadDef.{ThreadDef}
-use Rattle.object_program.specs.Program.{ProgramText, slots_of}
+use Rattle.object_program.specs.Program.{ProgramText}
 use Rattle.object_program.specs.Valid.{IsProgram, IsThread}
 use Rattle.plain_machine.specs.declared.monitor_call.MonitorCall.{MonitorCall}
 use Rattle.plain_machine.specs.declared.monitor_call.MonitorCall.TheVariants as call
@@ -31,8 +23,8 @@ use Rattle.plain_machine.specs.declared.monitor_call.NextEntry.TheVariants as as
 use Rattle.plain_machine.specs.Asking.{after_call, after_entry}
 use Rattle.plain_machine.specs.Machine.{PlainMachine, code_of, new_machine, take}
 use Rattle.plain_machine.specs.Running.{instruction_at, after_step, run_on, first_state}
-use Rattle.plain_machine.specs.Thread.{ThreadState, Step, Goes, Calls, Stops, combines, dumps_next, element, enters, faults, first_of}
-use Rattle.plain_machine.specs.Thread.{holds_of, is_element, jumps_below, local, on_object, on_slot, owner_only, sets, size_of, step_of}
+use Rattle.plain_machine.specs.Thread.{ThreadState, Step, Goes, Calls, Stops, step_of}
+use Rattle.plain_machine.proofs.Effects.{Effect, Faults, apply, by_effect}
 use Rattle.machine_laws.proofs.ReachedAsked.{taken}
 
 -- an ending that is no trap at an instruction after the n-th
@@ -50,68 +42,12 @@ StopsWithin n (Calls c) = Unit {0}
 StopsWithin n (Stops e) = EndsWithin n e
 
 -- STEPS
-module _ (s : ThreadState) (n : ℕ) (h : s.place < n) where
-  faulting : (f : Fault) → StopsWithin n (faults s f)
-  faulting f = omega (arith, h)
+applying : (s : ThreadState) (n : ℕ) → s.place < n → (x : Effect) → StopsWithin n (apply s x)
+applying s n h (Faults f) = omega (arith, h)
+applying s n h _ = tt
 
-  by_test : (b : Bool) (f : Fault) (step : Step) → StopsWithin n step → StopsWithin n (if b then step else faults s f)
-  by_test true f step k = k
-  by_test false f step k = faulting f
-
-  combining : (x : ℕ) (op : ℤ → ℤ → ℤ) (v w : Value) → StopsWithin n (combines s x op v w)
-  combining x op (Int y) (Int z) = by_test (is_in_range (op y z)) Overflow (sets s x (Int (op y z))) tt
-  combining x op v w = faulting NotInt
-
-  elementing : (x : ℕ) (d : Option ObjectDef) (v : Value) → StopsWithin n (element s x d v)
-  elementing x d (Int i) = by_test (is_element i (size_of d)) Range (sets s x (Ref (first_of d + nat_abs i))) tt
-  elementing x d v = faulting NotInt
-
-  objecting : (v : Value) (f : ℕ → Step) → ((o : ℕ) → StopsWithin n (f o)) → StopsWithin n (on_object s v f)
-  objecting (Ref o) f k = k o
-  objecting v f k = faulting NotRef
-
-  entering : (o : ℕ) → StopsWithin n (enters s o)
-  entering o = by_test (nat_lt (sum s.holds) most_holds) TooDeep (Calls (call.Enter o)) tt
-
-  owning : (o : ℕ) (f : Fault) (c : MonitorCall) → StopsWithin n (owner_only s o f (Calls c))
-  owning o f c = by_test (nat_le 1 (holds_of s o)) f (Calls c) tt
-
-  slotting : (p : ProgramText) (o k : ℕ) (c : MonitorCall) → StopsWithin n (on_slot p s o k c)
-  slotting p o k c = by_test (nat_lt k (slots_of p o)) Range (owner_only s o Unguarded (Calls c)) (owning o Unguarded c)
-
-  comparing : (v w : Value) (l : ℕ) → StopsWithin n (jumps_below s v w l)
-  comparing (Int y) (Int z) l = tt
-  comparing v w l = faulting NotInt
-
-  dumping : StopsWithin n (dumps_next s)
-  dumping = by_test (nat_lt s.dumps 4) TooManyDumps (Calls (call.Dump (s.dumps + 1))) tt
-
-  stepping : (p : ProgramText) (c : Code) → StopsWithin n (step_of p s c)
-  stepping p (code.Set x v) = tt
-  stepping p (code.Add x y z) = combining x (λ a b. a +ℤ b) (local s y) (local s z)
-  stepping p (code.Sub x y z) = combining x (λ a b. a -ℤ b) (local s y) (local s z)
-  stepping p (code.Mul x y z) = combining x (λ a b. a *ℤ b) (local s y) (local s z)
-  stepping p (code.Ref x k) = tt
-  stepping p (code.Elem x k i) = elementing x (slice_get p.objects k) (local s i)
-  stepping p (code.Enter x) = objecting (local s x) (enters s) entering
-  stepping p (code.Exit x) =
-      objecting (local s x) (λ o. owner_only s o IllegalMonitorState (Calls (call.Exit o))) (λ o. owning o IllegalMonitorState (call.Exit o))
-  stepping p (code.Wait x) =
-      objecting (local s x) (λ o. owner_only s o IllegalMonitorState (Calls (call.Wait o))) (λ o. owning o IllegalMonitorState (call.Wait o))
-  stepping p (code.Notify x) =
-      objecting (local s x) (λ o. owner_only s o IllegalMonitorState (Calls (call.Notify o))) (λ o. owning o IllegalMonitorState (call.Notify o))
-  stepping p (code.NotifyAll x) =
-      objecting (local s x) (λ o. owner_only s o IllegalMonitorState (Calls (call.NotifyAll o))) (λ o. owning o IllegalMonitorState (call.NotifyAll o))
-  stepping p (code.Get x o k) = objecting (local s o) (λ r. on_slot p s r k (call.Get x r k)) (λ r. slotting p r k (call.Get x r k))
-  stepping p (code.Put o k x) = objecting (local s o) (λ r. on_slot p s r k (call.Put r k (local s x))) (λ r. slotting p r k (call.Put r k (local s x)))
-  stepping p (code.Hash x o) = objecting (local s o) (λ r. Calls (call.Hash x r)) (λ r. tt)
-  stepping p (code.New x c) = by_test (nat_lt s.made most_made) TooMany (Calls (call.New x c)) tt
-  stepping p (code.Print x) = tt
-  stepping p (code.Jump l) = tt
-  stepping p (code.Jlt x y l) = comparing (local s x) (local s y) l
-  stepping p (code.Jeq x y l) = tt
-  stepping p code.Dump = dumping
-  stepping p code.End = tt
+stepping : (s : ThreadState) (n : ℕ) → s.place < n → (p : ProgramText) (c : Code) → StopsWithin n (step_of p s c)
+stepping s n h p c = by_effect p s (StopsWithin n) c (λ x is. applying s n h x)
 
 -- after the last instruction stands an end
 stepping_there : (p : ProgramText) (cs : List Code) (s : ThreadState) → StopsWithin (length cs) (step_of p s (instruction_at cs s.place))

@@ -28,10 +28,7 @@ use Rattle.sync_syntax.proofs.CanonicalReading.{sign_word}
 pub else_by : (P : List (List (List ℕ)) → Type 0) (s : Statements) (lines : List (List (List ℕ)))
     → P [] → P (else_words ∷ lines) → P (else_lines s lines)
 else_by P Nothing lines none some = none
-else_by P (Plain c rest) lines none some = some
-else_by P (Sync x body rest) lines none some = some
-else_by P (If test body other rest) lines none some = some
-else_by P (While test body rest) lines none some = some
+else_by P _ lines none some = some
 
 -- The words of each line
 module _ (classes : List ClassDef) (ds : List ObjectDef) (section : SyncThreadText) (named : AreNamed classes ds (heading section)) where

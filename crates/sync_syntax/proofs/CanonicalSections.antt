@@ -38,10 +38,7 @@ record IsEnded (classes locals objects : ℕ) (syncs : List ℕ) (n : ℕ) (s : 
 ends_split : (c : Code) (rest : Statements) → EndsWell (Plain c rest)
     → ((rest ≡ Nothing) × (c ≡ instr.End)) ⊎ ((is_end c ≡ false) × EndsWell rest)
 ends_split c Nothing h = inl (refl, h)
-ends_split c (Plain d rest) h = inr h
-ends_split c (Sync x body rest) h = inr h
-ends_split c (If t body other rest) h = inr h
-ends_split c (While t body rest) h = inr h
+ends_split c _ h = inr h
 
 ended : (classes l o : ℕ) (xs : List ℕ) (n : ℕ) (s : Statements) → AreStatements classes l o s → EndsWell s → KeepsLocals xs s → depth s + n ≤ most_depth
     → IsEnded classes l o xs n s

@@ -249,10 +249,7 @@ KeepsLocals-front xs ys (While t body rest) h = (KeepsLocals-front xs ys body h.
 -- statements none of which is an `end`, and then one
 ends_after : (c : Code) (rest : Statements) → is_end c ≡ false → EndsWell rest → EndsWell (Plain c rest)
 ends_after c Nothing e h = absurd h
-ends_after c (Plain d rest) e h = (e, h)
-ends_after c (Sync x body rest) e h = (e, h)
-ends_after c (If t body other rest) e h = (e, h)
-ends_after c (While t body rest) e h = (e, h)
+ends_after c _ e h = (e, h)
 
 pub EndsWell-push : (s : Statements) → HasNoEnd s → EndsWell (joined s (Plain instr.End Nothing))
 EndsWell-push Nothing h = refl

@@ -61,9 +61,7 @@ size-joined (While t body rest) b = omega (arith, size-joined rest b)
 
 size-closed : (o : Opener) (body : Statements) → size (closed o body) ≡ opener_size o + size body
 size-closed (OfSync x) body = omega arith
-size-closed (OfIf t) body = omega arith
-size-closed (OfElse t held) body = omega arith
-size-closed (OfWhile t) body = omega arith
+size-closed _ body = omega arith
 
 pub used-statement : (b : Blocks) (c : Code) → code_used (with_statement b (Plain c Nothing)) ≡ code_used b + 1
 used-statement b c = omega (arith, size-joined b.statements (Plain c Nothing))
