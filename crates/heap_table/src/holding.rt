@@ -112,7 +112,7 @@ fn end_enter(
 
 /// Enters by the mark that was found.
 #[inline(always)]
-pub fn enter_marked<const SEARCH: bool>(
+pub fn enter_marked(
     words: &Words,
     setting: &Setting,
     seat: &mut Place,
@@ -140,7 +140,7 @@ pub fn enter_marked<const SEARCH: bool>(
         (λ start. mark_left (is_biased mark) setting.now.shape call.now start (entered object now) mark) (lagging call.now mirror.old)
         (only seat.new.me.0) (λ start. enter_left setting.now.shape call.now start (entered object now) result) mirror.new }
 {
-    let how = seize::<SEARCH>(words, setting, seat, mirror, call, object, now, mark, at);
+    let how = seize(words, setting, seat, mirror, call, object, now, mark, at);
     end_enter(
         words, setting, seat, mirror, call, object, now, word, at, how,
     );

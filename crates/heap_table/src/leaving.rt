@@ -141,7 +141,7 @@ fn end_exit(
 
 /// Leaves the newest hold of the object, which has this place, by the mark that was found. The object's words begin at the other place.
 #[inline(always)]
-pub fn leave_marked<const SEARCH: bool>(
+pub fn leave_marked(
     words: &Words,
     setting: &Setting,
     seat: &mut Place,
@@ -173,7 +173,7 @@ pub fn leave_marked<const SEARCH: bool>(
         (exit_found (is_biased mark) call.now (local_of (only seat.old.me.0)) object) (lagging call.now mirror.old)
         (only seat.new.me.0) (exit_left call.now (local_of (only seat.old.me.0)) object result) mirror.new }
 {
-    let how = part::<SEARCH>(
+    let how = part(
         words, setting, seat, mirror, call, object, depth, mark, at, place,
     );
     end_exit(

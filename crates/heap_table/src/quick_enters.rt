@@ -241,7 +241,7 @@ fn seize_inflated(
 
 // By a mark without the bias pattern.
 #[inline(always)]
-fn seize_unbiased<const SEARCH: bool>(
+fn seize_unbiased(
     words: &Words,
     setting: &Setting,
     seat: &mut Place,
@@ -333,7 +333,7 @@ fn seize_biased(
 
 /// By the mark that was found. Where it is done, the lock is the thread's own, and the hold is left to take.
 #[inline(always)]
-pub fn seize<const SEARCH: bool>(
+pub fn seize(
     words: &Words,
     setting: &Setting,
     seat: &mut Place,
@@ -362,6 +362,6 @@ pub fn seize<const SEARCH: bool>(
     if has_bias_bits(mark) {
         seize_biased(words, setting, seat, mirror, call, object, now, mark)
     } else {
-        seize_unbiased::<SEARCH>(words, setting, seat, mirror, call, object, now, mark, at)
+        seize_unbiased(words, setting, seat, mirror, call, object, now, mark, at)
     }
 }

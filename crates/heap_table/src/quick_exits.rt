@@ -275,7 +275,7 @@ fn part_marked(
 
 // By a mark without the bias pattern. The object's words begin at this place.
 #[inline(always)]
-fn part_unbiased<const SEARCH: bool>(
+fn part_unbiased(
     words: &Words,
     setting: &Setting,
     seat: &mut Place,
@@ -322,7 +322,7 @@ fn part_unbiased<const SEARCH: bool>(
 
 /// By the mark that was found. The object's words begin at this place.
 #[inline(always)]
-pub fn part<const SEARCH: bool>(
+pub fn part(
     words: &Words,
     setting: &Setting,
     seat: &mut Place,
@@ -354,5 +354,5 @@ pub fn part<const SEARCH: bool>(
     if has_bias_bits(mark) {
         return ExitPart::Held;
     }
-    part_unbiased::<SEARCH>(words, setting, seat, mirror, call, object, depth, at, place)
+    part_unbiased(words, setting, seat, mirror, call, object, depth, at, place)
 }
