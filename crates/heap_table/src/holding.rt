@@ -17,7 +17,7 @@ use crate::quick::QuickEnter;
 use crate::quick_enters::seize;
 use crate::rule::{Place, Words};
 use crate::setting::Setting;
-use crate::steps::{step_at, step_in_table};
+use crate::steps::{step_at, step_in_thread};
 use core_world::{Act, Stage, WordId};
 use plain_monitor::{Entry, Path};
 
@@ -60,7 +60,7 @@ fn take_hold(
         WordId::Hold { thread, place },
         Act::Store { word },
     );
-    step_in_table(words, setting, seat, first);
+    step_in_thread(words, setting, seat, first);
     mirror.holds.push(object, word);
     let entry = Entry::Enter { object, path };
     let second = logging(

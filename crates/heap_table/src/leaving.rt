@@ -18,7 +18,7 @@ use crate::quick::QuickExit;
 use crate::quick_exits::{ExitPart, part};
 use crate::rule::{Place, Words};
 use crate::setting::Setting;
-use crate::steps::step_in_table;
+use crate::steps::step_in_thread;
 use core_world::{Act, Stage, StepPlan, WordId};
 use plain_monitor::Entry;
 
@@ -67,7 +67,7 @@ fn clear_hold(
         thread: mirror.thread,
         place,
     };
-    let found = step_in_table(words, setting, seat, clearing(call, object, at, logged));
+    let found = step_in_thread(words, setting, seat, clearing(call, object, at, logged));
     mirror.note(Entry::Exit { object }, found);
     mirror.holds.clear(place, last);
 }

@@ -86,9 +86,9 @@ left_to_clear : (c : After-clearing) (h : HeapSeen) (p : PassSeen) (d : ExitTree
     LatePart h p d e c.args.object (ending_part c.args.logged) l c.args.mirror.now (only c.args.seat.now.me.0) → to_clear c h p d l
 left_to_clear c h p d l late = left_as late.left (by_step c.args.logged c.args.call.now l c.args.object)
 
-pub step_in_table-found-requires-clause-may : goal.step_in_table-found-requires-clause-may
-step_in_table-found-requires-clause-may c =
-    let z = (goal.at.step_in_table-found-requires-clause-may c).After-clearing in
+pub step_in_thread-found-requires-clause-may : goal.step_in_thread-found-requires-clause-may
+step_in_thread-found-requires-clause-may c =
+    let z = (goal.at.step_in_thread-found-requires-clause-may c).After-clearing in
     let a = c.requires.amid in
     may_go (left_to_clear z a.heap a.begun a.due a.local a.late) a.its (said z a.local a.late.thread a.late.holds) (of_call c.args.logged _ _ _)
 
@@ -134,11 +134,11 @@ returns-clause-leads c = λ h p d l its late.
     let o = c.args.object in
     let b = c.args.logged in
     let k = only c.args.seat.now.me.0 in
-    let n = c.step_in_table-found.result in
+    let n = c.step_in_thread-found.result in
     let place = top_place o l.holds in
     let plan = clear_by b e o (Hold l.thread place) in
     let left = left_to_clear z h p d l late in
-    let told = c.step_in_table-found.ensures.seat.1 in
+    let told = c.step_in_thread-found.ensures.seat.1 in
     let says = said z l late.thread late.holds in
     let task = of_call b e o (Hold l.thread place) in
     let at = c.requires.may.clears.place ∙ ap (top_place o) (sym late.holds) in
@@ -147,6 +147,6 @@ returns-clause-leads c = λ h p d l its late.
     (λ j shows. c.note.ensures.shows h.heap.shape h.heap.start e Settled (Stamp o) Load j (aside o n c.args.mirror.now) shows) b late.shown in
     let now = shows_idle e _ (record c.note.new.self { holds = c.clear.new.self }) (still_idle (goal.at.returns-clause-leads c).After-clear) shown in
     record {
-      left = gone left its says task (keeps_none b e o (Hold l.thread place)) c.step_in_table-found.ensures.stepped told;
+      left = gone left its says task (keeps_none b e o (Hold l.thread place)) c.step_in_thread-found.ensures.stepped told;
       mirrors = shows_alike _ _ _ _ _ _ (subst (Mirrors (record c.note.new.self { holds = c.clear.new.self })) (sym (knows_gone left its says task n told)) now);
     }

@@ -24,7 +24,7 @@ use Rattle.heap_table.proofs.ExitEnds.{held_part, part_by, part_keeps}
 use Rattle.heap_table.proofs.Loops.{binds}
 use Rattle.heap_table.proofs.LowBits.{found_mark}
 use Rattle.heap_table.proofs.quick_exits.part_unbiased.Goals as goal
-use Rattle.heap_table.proofs.quick_exits.part_unbiased.Goals.{After-raise_at, After-quiet-first, After-step_in_table-header, After-quiet-second}
+use Rattle.heap_table.proofs.quick_exits.part_unbiased.Goals.{After-raise_at, After-quiet-first, After-step_in_thread-header, After-quiet-second}
 use Rattle.heap_table.proofs.quick_exits.part_unbiased.Goals.{After-step_at-mark}
 
 abbrev gone : CallContext → Local → ℕ → StackOut → ExitTree
@@ -94,42 +94,42 @@ first_plan c =
 abbrev after_raise : After-quiet-first → After-raise_at
 after_raise c = c.before
 
-pub step_in_table-header-requires-clause-may : goal.step_in_table-header-requires-clause-may
-step_in_table-header-requires-clause-may c =
-    let z = (goal.at.step_in_table-header-requires-clause-may c).After-quiet-first in
+pub step_in_thread-header-requires-clause-may : goal.step_in_thread-header-requires-clause-may
+step_in_thread-header-requires-clause-may c =
+    let z = (goal.at.step_in_thread-header-requires-clause-may c).After-quiet-first in
     let a = c.requires.amid in may_step (raising (after_raise z) a.heap a.begun a.due a.its a.late).2 a.its (first_plan z) refl
 
-by_header : (b : Bool) (c : After-step_in_table-header) → let e = c.args.call.now in let k = only c.args.seat.now.me.0 in
-    let n = c.step_in_table-header.result in (n == 0) ≡ b
+by_header : (b : Bool) (c : After-step_in_thread-header) → let e = c.args.call.now in let k = only c.args.seat.now.me.0 in
+    let n = c.step_in_thread-header.result in (n == 0) ≡ b
     → Goes c.args.setting.now e c.args.mirror.now k (unbiased_exit e (local_of k) c.args.object)
-    (only c.step_in_table-header.new.seat.me.0) (headed e (local_of k) c.args.object n b)
+    (only c.step_in_thread-header.new.seat.me.0) (headed e (local_of k) c.args.object n b)
 by_header b c is = λ h o d its late.
     let e = c.args.call.now in
     let k = local_of (only c.args.seat.now.me.0) in
-    let n = c.step_in_table-header.result in
+    let n = c.step_in_thread-header.result in
     let z = c.before.before in
     let here = (raising (after_raise z) h o d its late).2 in
-    late_as (made_step here its (first_plan z) refl refl c.step_in_table-header.ensures.stepped c.step_in_table-header.ensures.seat.1
+    late_as (made_step here its (first_plan z) refl refl c.step_in_thread-header.ensures.stepped c.step_in_thread-header.ensures.seat.1
     (follow_quiet h.heap.shape h.heap.start e Settled (Displaced k.thread (top_place c.args.object k.holds)) Load n _ _ refl refl
     (λ l. refl) (λ l. refl) (λ l. refl) here.mirrors)) (ap (headed e k c.args.object n) is)
 
-since_header : (c : After-step_in_table-header) → IsStartOf (only c.args.seat.now.me.0) (only c.step_in_table-header.new.seat.me.0)
+since_header : (c : After-step_in_thread-header) → IsStartOf (only c.args.seat.now.me.0) (only c.step_in_thread-header.new.seat.me.0)
 since_header c =
     let z = c.before.before in
-    start_after (heap_in c.args.setting.now) c.step_in_table-header.result (since_raise (after_raise z)) (first_plan z)
-    c.step_in_table-header.ensures.seat.1 (record { local = refl; kept = refl })
+    start_after (heap_in c.args.setting.now) c.step_in_thread-header.result (since_raise (after_raise z)) (first_plan z)
+    c.step_in_thread-header.ensures.seat.1 (record { local = refl; kept = refl })
 
 -- It is 0: the record is recursive.
 pub returns-then-header-eq0-clause-leads : goal.returns-then-header-eq0-clause-leads
 returns-then-header-eq0-clause-leads c = λ h p d its late.
     held_part (local_of (only c.args.seat.now.me.0)) parts.Held late.mirrors.thread late.mirrors.holds (λ j g shows. shows) refl
-    (by_header true (goal.at.returns-then-header-eq0-clause-leads c).After-step_in_table-header (eq-eqb _ _ c.if-header-eq0.true) h p d its late)
+    (by_header true (goal.at.returns-then-header-eq0-clause-leads c).After-step_in_thread-header (eq-eqb _ _ c.if-header-eq0.true) h p d its late)
 
 -- It is a header: THE MARK is loaded.
 second_plan : (c : After-quiet-second) → c.quiet-second.result ≡ load c.args.call.now (Mark c.args.object)
 second_plan c = c.quiet-second.ensures
 
-abbrev after_header : After-quiet-second → After-step_in_table-header
+abbrev after_header : After-quiet-second → After-step_in_thread-header
 after_header c = c.before.before
 
 pub step_at-mark-requires-clause-may : goal.step_at-mark-requires-clause-may
@@ -145,7 +145,7 @@ since_mark c =
 
 marked : (c : After-step_at-mark) → let e = c.args.call.now in let k = only c.args.seat.now.me.0 in let j = only c.step_at-mark.new.seat.me.0 in
     Goes c.args.setting.now e c.args.mirror.now k (unbiased_exit e (local_of k) c.args.object)
-    j (marked_exit e (local_of j) c.args.object c.step_in_table-header.result c.step_at-mark.result)
+    j (marked_exit e (local_of j) c.args.object c.step_in_thread-header.result c.step_at-mark.result)
 marked c = λ h o d its late.
     let e = c.args.call.now in
     let n = c.step_at-mark.result in
@@ -153,7 +153,7 @@ marked c = λ h o d its late.
     let here = by_header false (after_header z) (ne_eqb _ _ c.if-header-eq0.false) h o d its late in
     late_as (made_step here its (second_plan z) refl refl c.step_at-mark.ensures.stepped c.step_at-mark.ensures.seat.1
     (follow_quiet h.heap.shape h.heap.start e Settled (Mark c.args.object) Load n _ _ refl refl (λ l. refl) (λ l. refl) (λ l. refl) here.mirrors))
-    (ap (λ (k : Local). marked_exit e k c.args.object c.step_in_table-header.result n) (sym (since_mark c).local))
+    (ap (λ (k : Local). marked_exit e k c.args.object c.step_in_thread-header.result n) (sym (since_mark c).local))
 
 pub part_marked-requires-clause-found : goal.part_marked-requires-clause-found
 part_marked-requires-clause-found c =
