@@ -60,7 +60,7 @@ fn take_hold(
         WordId::Hold { thread, place },
         Act::Store { word },
     );
-    step_in_thread(words, setting, seat, first);
+    step_in_thread(words, setting, seat, &first);
     mirror.holds.push(object, word);
     let entry = Entry::Enter { object, path };
     let second = logging(
@@ -70,7 +70,7 @@ fn take_hold(
         Act::Load,
         entry,
     );
-    let stamp = step_at(words, setting, seat, at + 1, second);
+    let stamp = step_at(words, setting, seat, at + 1, &second);
     mirror.note(entry, stamp);
 }
 

@@ -67,7 +67,8 @@ fn clear_hold(
         thread: mirror.thread,
         place,
     };
-    let found = step_in_thread(words, setting, seat, clearing(call, object, at, logged));
+    let clear = clearing(call, object, at, logged);
+    let found = step_in_thread(words, setting, seat, &clear);
     mirror.note(Entry::Exit { object }, found);
     mirror.holds.clear(place, last);
 }

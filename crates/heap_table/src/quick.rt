@@ -108,7 +108,7 @@ impl Heap {
         // The object's words have one place here for all their steps: after an act the shape would be read again.
         let at = setting.shape.mark_at(object);
         let first = quiet(&call, Stage::Settled, WordId::Mark { object }, Act::Load);
-        let mark = step_at(words, setting, &mut pass.seat, at, first);
+        let mark = step_at(words, setting, &mut pass.seat, at, &first);
         enter_marked(
             words,
             setting,
@@ -176,7 +176,7 @@ impl Heap {
             next,
         );
         let first = quiet(&call, Stage::Settled, WordId::Mark { object }, Act::Load);
-        let mark = step_at(words, setting, &mut pass.seat, at, first);
+        let mark = step_at(words, setting, &mut pass.seat, at, &first);
         leave_marked(
             words,
             setting,

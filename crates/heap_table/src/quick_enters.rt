@@ -59,7 +59,7 @@ fn displace(
         WordId::Displaced { thread, place },
         Act::Store { word: displaced },
     );
-    step_in_thread(words, setting, seat, first);
+    step_in_thread(words, setting, seat, &first);
 }
 
 // By a lock record, where the mark is neutral: it becomes the record's displaced word, and is exchanged for the record's place. The answer is the
@@ -92,14 +92,14 @@ fn seize_by_record(
     let place = mirror.holds.used;
     let record = WordId::Displaced { thread, place };
     let first = quiet(call, Stage::Settled, record, Act::Store { word: mark });
-    step_in_thread(words, setting, seat, first);
+    step_in_thread(words, setting, seat, &first);
     let act = Act::CompareExchange {
         expected: mark,
         word: encode(&MarkForm::Locked { thread, place }),
     };
     let stage = Stage::RecordLocked { object, place };
     let second = quiet(call, stage, WordId::Mark { object }, act);
-    let found = step_at(words, setting, seat, at, second);
+    let found = step_at(words, setting, seat, at, &second);
     if found != mark {
         return Some(found);
     }
@@ -137,7 +137,7 @@ fn seize_by_monitor(
     };
     let stage = Stage::MonitorAcquired { object };
     let first = quiet(call, stage, WordId::Owner { monitor }, act);
-    let found = step_in_monitor(words, setting, seat, first);
+    let found = step_in_monitor(words, setting, seat, &first);
     if found != 0 {
         return Some(found);
     }
@@ -180,11 +180,11 @@ fn seize_again(
 {
     let count = WordId::Recursions { monitor };
     let first = quiet(call, Stage::Settled, count, Act::Load);
-    let recursions = step_in_monitor(words, setting, seat, first);
+    let recursions = step_in_monitor(words, setting, seat, &first);
     let stage = Stage::RecursionsRaised { object };
     let raised = recursions + 1;
     let second = quiet(call, stage, count, Act::Store { word: raised });
-    step_in_monitor(words, setting, seat, second);
+    step_in_monitor(words, setting, seat, &second);
     displace(
         words,
         setting,
@@ -323,7 +323,7 @@ fn seize_biased(
     let class = setting.shape.class_of(object);
     let at = setting.shape.prototype_at(class);
     let first = quiet(call, Stage::Settled, WordId::Prototype { class }, Act::Load);
-    let prototype = step_at(words, setting, seat, at, first);
+    let prototype = step_at(words, setting, seat, at, &first);
     if !is_own_by_sum(mark, prototype, mirror.own_bits) {
         return QuickEnter::Biased { mark, prototype };
     }

@@ -50,7 +50,7 @@ push-requires-clause-object c =
 
 -- THE STAMP comes last.
 abbrev after_hold : After-logging-second → After-quiet-first
-after_hold c = c.before.before.before.before.before.before
+after_hold c = c.before.before.before.before.before.before.before
 
 stored : (c : After-logging-second) → let e = c.args.call.now in let k = only c.args.seat.now.me.0 in
     Leads (heap_in c.args.setting.now) e.task k (hold_end e (local_of k) c.args.object c.args.path) (lagging e c.args.mirror.now)
@@ -89,7 +89,7 @@ note-requires-clause-stamp c =
     (ap (λ (x : StepPlan). hits x.act n) plan))
 
 abbrev after_stamp : After-note → After-logging-second
-after_stamp c = c.before.before.before.before
+after_stamp c = c.before.before.before.before.before
 
 idle : (c : After-note) → IsIdle c.args.call.now c.note.new.self
 idle c = let before = c.requires.may.idle in let same = c.note.ensures.same in record { left = same.1 ∙ before.left; check = same.2 ∙ before.check }

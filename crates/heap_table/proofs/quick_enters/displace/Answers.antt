@@ -24,13 +24,13 @@ step_in_thread-requires-clause-may c =
 pub returns-clause-start : goal.returns-clause-start
 returns-clause-start c =
     let z = (goal.at.returns-clause-start c).After-step_in_thread in
-    keeps_start (heap_in c.args.setting.now) c.step_in_thread.result (first_plan z.before.before) c.step_in_thread.ensures.seat.1
+    keeps_start (heap_in c.args.setting.now) c.step_in_thread.result (first_plan z.before.before.before) c.step_in_thread.ensures.seat.1
     (record { local = refl; kept = refl })
 
 pub returns-clause-leads : goal.returns-clause-leads
 returns-clause-leads c = λ h o d its late.
     let k = only c.args.seat.now.me.0 in
-    let plan = first_plan (goal.at.returns-clause-leads c).After-step_in_thread.before.before in
+    let plan = first_plan (goal.at.returns-clause-leads c).After-step_in_thread.before.before.before in
     made_step late its plan refl refl c.step_in_thread.ensures.stepped c.step_in_thread.ensures.seat.1
     (follow_quiet h.heap.shape h.heap.start c.args.call.now c.args.stage (Displaced k.thread (free_place k.holds)) (Store c.args.displaced)
     c.step_in_thread.result _ _ refl refl (λ l. refl) (λ l. refl) (λ l. refl) late.mirrors)

@@ -57,7 +57,7 @@ step_in_monitor-requires-clause-may c =
 
 -- The record gets its word.
 abbrev second_of : After-step_in_monitor → After-quiet-second
-second_of c = c.before.before
+second_of c = c.before.before.before
 
 keeps : (c : After-step_in_monitor) → IsStartOf (only c.args.seat.now.me.0) (only c.step_in_monitor.new.seat.me.0)
 keeps c =

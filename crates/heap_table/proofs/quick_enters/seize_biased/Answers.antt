@@ -42,7 +42,7 @@ step_at-prototype-requires-clause-may c =
 
 -- THE PROTOTYPE is loaded.
 abbrev first_of : After-step_at-prototype → After-quiet-first
-first_of c = c.before.before
+first_of c = c.before.before.before
 
 keeps : (c : After-step_at-prototype) → IsStartOf (only c.args.seat.now.me.0) (only c.step_at-prototype.new.seat.me.0)
 keeps c = keeps_start (heap_in c.args.setting.now) c.step_at-prototype.result (first_plan (first_of c)) c.step_at-prototype.ensures.seat.1

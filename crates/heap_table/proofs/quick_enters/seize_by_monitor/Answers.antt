@@ -34,7 +34,7 @@ step_in_monitor-found-requires-clause-may c =
     may_step c.requires.amid.late c.requires.amid.its (first_plan z) refl
 
 abbrev first_of : After-step_in_monitor-found → After-quiet-first
-first_of c = c.before.before
+first_of c = c.before.before.before
 
 -- what the call took at its beginning is as it was
 keeps : (c : After-step_in_monitor-found) → IsStartOf (only c.args.seat.now.me.0) (only c.step_in_monitor-found.new.seat.me.0)

@@ -40,7 +40,7 @@ found : (c : After-step_in_monitor-owner) → let e = c.args.call.now in let k =
     Goes c.args.setting.now e c.args.mirror.now k (monitor_exit e (local_of k) c.args.object c.args.monitor)
     (only c.step_in_monitor-owner.new.seat.me.0) (owner_left e (local_of k) c.args.object c.args.monitor c.step_in_monitor-owner.result)
 found c = λ h o d its late.
-    made_step late its (first_plan c.before.before) refl refl c.step_in_monitor-owner.ensures.stepped c.step_in_monitor-owner.ensures.seat.1
+    made_step late its (first_plan c.before.before.before) refl refl c.step_in_monitor-owner.ensures.stepped c.step_in_monitor-owner.ensures.seat.1
     (follow_quiet h.heap.shape h.heap.start c.args.call.now Settled (Owner c.args.monitor) Load c.step_in_monitor-owner.result _ _ refl refl
     (λ l. refl) (λ l. refl) (λ l. refl) late.mirrors)
 
@@ -48,7 +48,7 @@ found c = λ h o d its late.
 pub returns-then-owner-encode_owner-clause-start : goal.returns-then-owner-encode_owner-clause-start
 returns-then-owner-encode_owner-clause-start c =
     let z = (goal.at.returns-then-owner-encode_owner-clause-start c).After-step_in_monitor-owner in
-    keeps_start (heap_in c.args.setting.now) c.step_in_monitor-owner.result (first_plan z.before.before) c.step_in_monitor-owner.ensures.seat.1
+    keeps_start (heap_in c.args.setting.now) c.step_in_monitor-owner.result (first_plan z.before.before.before) c.step_in_monitor-owner.ensures.seat.1
     (record { local = refl; kept = refl })
 
 pub returns-then-owner-encode_owner-clause-leads : goal.returns-then-owner-encode_owner-clause-leads
@@ -83,13 +83,13 @@ step_in_monitor-recursions-requires-clause-may c =
 stays : (c : After-step_in_monitor-recursions) → local_of (only c.step_in_monitor-recursions.new.seat.me.0) ≡ local_of (only c.args.seat.now.me.0)
 stays c =
     let s = c.args.setting.now in
-    let z = c.before.before in
+    let z = c.before.before.before in
     ap (λ (x : Me (Unit {0}) (List ThreadView)). local_of (only x.0)) c.step_in_monitor-recursions.ensures.seat.1
     ∙ ap (λ (p : StepPlan). local_of (known_after s.shape s.start p c.step_in_monitor-recursions.result (only c.step_in_monitor-owner.new.seat.me.0)))
     (second_plan z)
     ∙ ap (λ (x : Me (Unit {0}) (List ThreadView)). local_of (only x.0)) c.step_in_monitor-owner.ensures.seat.1
     ∙ ap (λ (p : StepPlan). local_of (known_after s.shape s.start p c.step_in_monitor-owner.result (only c.args.seat.now.me.0)))
-    (first_plan (owner_of_second z).before.before)
+    (first_plan (owner_of_second z).before.before.before)
 
 by_number : (b : Bool) (c : After-step_in_monitor-recursions) → let e = c.args.call.now in let k = only c.args.seat.now.me.0 in
     let j = only c.step_in_monitor-recursions.new.seat.me.0 in let n = c.step_in_monitor-recursions.result in (n == 0) ≡ b →
@@ -97,7 +97,7 @@ by_number : (b : Bool) (c : After-step_in_monitor-recursions) → let e = c.args
     j (counted e (local_of j) c.args.object c.args.monitor n b)
 by_number b c is = λ h o d its late.
     let e = c.args.call.now in
-    let z = c.before.before in
+    let z = c.before.before.before in
     let here = owned z h o d its late in
     let n = c.step_in_monitor-recursions.result in
     late_as (made_step here its (second_plan z) refl refl c.step_in_monitor-recursions.ensures.stepped c.step_in_monitor-recursions.ensures.seat.1

@@ -107,7 +107,7 @@ by_header b c is = λ h o d its late.
     let e = c.args.call.now in
     let k = local_of (only c.args.seat.now.me.0) in
     let n = c.step_in_thread-header.result in
-    let z = c.before.before in
+    let z = c.before.before.before in
     let here = (raising (after_raise z) h o d its late).2 in
     late_as (made_step here its (first_plan z) refl refl c.step_in_thread-header.ensures.stepped c.step_in_thread-header.ensures.seat.1
     (follow_quiet h.heap.shape h.heap.start e Settled (Displaced k.thread (top_place c.args.object k.holds)) Load n _ _ refl refl
@@ -115,7 +115,7 @@ by_header b c is = λ h o d its late.
 
 since_header : (c : After-step_in_thread-header) → IsStartOf (only c.args.seat.now.me.0) (only c.step_in_thread-header.new.seat.me.0)
 since_header c =
-    let z = c.before.before in
+    let z = c.before.before.before in
     start_after (heap_in c.args.setting.now) c.step_in_thread-header.result (since_raise (after_raise z)) (first_plan z)
     c.step_in_thread-header.ensures.seat.1 (record { local = refl; kept = refl })
 
@@ -139,7 +139,7 @@ step_at-mark-requires-clause-may c =
 
 since_mark : (c : After-step_at-mark) → IsStartOf (only c.args.seat.now.me.0) (only c.step_at-mark.new.seat.me.0)
 since_mark c =
-    let z = c.before.before in
+    let z = c.before.before.before in
     start_after (heap_in c.args.setting.now) c.step_at-mark.result (since_header (after_header z)) (second_plan z)
     c.step_at-mark.ensures.seat.1 (record { local = refl; kept = refl })
 
@@ -149,7 +149,7 @@ marked : (c : After-step_at-mark) → let e = c.args.call.now in let k = only c.
 marked c = λ h o d its late.
     let e = c.args.call.now in
     let n = c.step_at-mark.result in
-    let z = c.before.before in
+    let z = c.before.before.before in
     let here = by_header false (after_header z) (ne_eqb _ _ c.if-header-eq0.false) h o d its late in
     late_as (made_step here its (second_plan z) refl refl c.step_at-mark.ensures.stepped c.step_at-mark.ensures.seat.1
     (follow_quiet h.heap.shape h.heap.start e Settled (Mark c.args.object) Load n _ _ refl refl (λ l. refl) (λ l. refl) (λ l. refl) here.mirrors))
@@ -158,7 +158,7 @@ marked c = λ h o d its late.
 pub part_marked-requires-clause-found : goal.part_marked-requires-clause-found
 part_marked-requires-clause-found c =
     let z = (goal.at.part_marked-requires-clause-found c).After-step_at-mark in
-    found_mark _ _ _ _ c.args.object _ (second_plan z.before.before) refl c.step_at-mark.ensures.stepped
+    found_mark _ _ _ _ c.args.object _ (second_plan z.before.before.before) refl c.step_at-mark.ensures.stepped
 
 pub part_marked-requires-clause-amid : goal.part_marked-requires-clause-amid
 part_marked-requires-clause-amid c = amid_by c.requires.amid (marked (goal.at.part_marked-requires-clause-amid c).After-step_at-mark)

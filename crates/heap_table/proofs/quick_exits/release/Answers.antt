@@ -30,7 +30,7 @@ returns-clause-leads c = λ h p d its late.
     let e = c.args.call.now in
     let o = c.args.object in
     let k = only c.args.seat.now.me.0 in
-    let plan = first_plan (goal.at.returns-clause-leads c).After-step_in_monitor.before.before in
+    let plan = first_plan (goal.at.returns-clause-leads c).After-step_in_monitor.before.before.before in
     let n = c.step_in_monitor.result in
     let told = c.step_in_monitor.ensures.seat.1 in
     record {

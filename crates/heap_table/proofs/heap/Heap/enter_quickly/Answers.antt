@@ -89,7 +89,7 @@ marking : (c : After-step_at-mark) → let a = c.args in let h = a.self.now in l
     (record c.pass.inside.mirror { unfinished = (entering a.object a.now).unfinished; checking = false })
 marking c =
     let a = c.args in
-    let z = c.before.before in
+    let z = c.before.before.before in
     let late = begun z in
     made_step late (its_heap z) (first_plan z) refl refl c.step_at-mark.ensures.stepped c.step_at-mark.ensures.seat.1
     (follow_quiet a.self.now.heap.shape a.self.now.heap.start (entering a.object a.now) Settled (Mark a.object) Load c.step_at-mark.result _ _ refl
@@ -99,7 +99,7 @@ marking c =
 knows_mark : (c : After-step_at-mark) → let h = c.args.self.now.heap in only c.step_at-mark.new.seat.me.0
     ≡ known_after h.shape h.start (load (entering c.args.object c.args.now) (Mark c.args.object)) c.step_at-mark.result c.args.pass.now.known
 knows_mark c =
-    let z = c.before.before in
+    let z = c.before.before.before in
     let h = c.args.self.now.heap in
     knows_step (begun z) (its_heap z) (first_plan z) refl c.step_at-mark.result c.step_at-mark.ensures.seat.1
     ∙ ap (λ (k : ThreadView). known_after h.shape h.start (load (entering c.args.object c.args.now) (Mark c.args.object)) c.step_at-mark.result k)
@@ -115,7 +115,7 @@ keeps c = record { local = ap local_of (knows_mark c); kept = ap (λ (k : Thread
 -- the code's words for the call and the shape
 abbrev its_words : (c : After-step_at-mark) →
     ◌≡◌ {A = CallContext × Shape} (c.entering-call.result, c.self.inside.setting.shape) (entering c.args.object c.args.now, c.args.self.now.heap.shape)
-its_words c = λ i. (c.entering-call.ensures i, (its_heap c.before.before i).shape)
+its_words c = λ i. (c.entering-call.ensures i, (its_heap c.before.before.before i).shape)
 
 -- what is left by it
 left_by : (s : Shape) (k : Start) (o now mark : ℕ) (b : Bool) → is_biased mark ≡ b → nat_lt o s.declared ≡ true
@@ -145,12 +145,12 @@ left c =
 pub enter_marked-requires-clause-found : goal.enter_marked-requires-clause-found
 enter_marked-requires-clause-found c =
     let z = (goal.at.enter_marked-requires-clause-found c).After-step_at-mark in
-    found_mark _ _ _ _ c.args.object _ (first_plan z.before.before) refl c.step_at-mark.ensures.stepped
+    found_mark _ _ _ _ c.args.object _ (first_plan z.before.before.before) refl c.step_at-mark.ensures.stepped
 
 pub enter_marked-requires-clause-amid : goal.enter_marked-requires-clause-amid
 enter_marked-requires-clause-amid c =
     let z = (goal.at.enter_marked-requires-clause-amid c).After-step_at-mark in
-    record { heap = c.args.self.now; begun = c.args.pass.now; due = _; its = its_heap z.before.before; local = (keeps z).local; late = left z }
+    record { heap = c.args.self.now; begun = c.args.pass.now; due = _; its = its_heap z.before.before.before; local = (keeps z).local; late = left z }
 
 unchecked : (c : After-step_at-mark) → c.entering-call.result.check ≡ false
 unchecked c = ap (λ (e : CallContext). e.check) c.entering-call.ensures
@@ -169,7 +169,7 @@ ended c =
     let d = enter_steps h.heap.shape (start_now h a.pass.now) a.object a.now in
     subst (λ (x : CallContext × Shape). Late h x.0.task a.pass.now d (only c.enter_marked.new.seat.me.0)
     (enter_left x.1 x.0 (start_now h a.pass.now) (entered a.object a.now) c.enter_marked.result) c.enter_marked.new.mirror) (its_words z)
-    (c.enter_marked.ensures.leads h a.pass.now d (its_heap z.before.before) (keeps z).local (left z))
+    (c.enter_marked.ensures.leads h a.pass.now d (its_heap z.before.before.before) (keeps z).local (left z))
 
 pub invariant_of-pass : goal.invariant_of-pass
 invariant_of-pass c = (c.enter_marked.ensures.seat.1, (ended (goal.at.invariant_of-pass c).After-enter_marked).mirrors)

@@ -148,7 +148,7 @@ step_at-mark-requires-clause-may c =
 pub leave_marked-requires-clause-found : goal.leave_marked-requires-clause-found
 leave_marked-requires-clause-found c =
     let z = (goal.at.leave_marked-requires-clause-found c).After-step_at-mark in
-    found_mark _ _ _ _ c.args.object _ (first_plan z.before.before) refl c.step_at-mark.ensures.stepped
+    found_mark _ _ _ _ c.args.object _ (first_plan z.before.before.before) refl c.step_at-mark.ensures.stepped
 
 -- The call with these steps left, by what it took at its beginning.
 abbrev IsLeft : After-step_at-mark → ThreadView → ExitTree → Mirror → Type 0
@@ -159,7 +159,7 @@ by_mark : (biased : Bool) (c : After-step_at-mark) → is_biased c.step_at-mark.
 by_mark biased c is =
     let a = c.args in
     let h = a.self.now.heap in
-    let z = c.before.before in
+    let z = c.before.before.before in
     let late = (before_mark (after_raise z)).2 in
     late_as (made_step late (its_heap (after_call (after_raise z))) (first_plan z) refl refl c.step_at-mark.ensures.stepped
     c.step_at-mark.ensures.seat.1 (follow_quiet h.shape h.start (leaving a.object) Settled (Mark a.object) Load c.step_at-mark.result _ _ refl refl
@@ -167,12 +167,12 @@ by_mark biased c is =
 
 since_mark : (c : After-step_at-mark) → IsStartOf c.args.pass.now.known (only c.step_at-mark.new.seat.me.0)
 since_mark c =
-    let z = c.before.before in
+    let z = c.before.before.before in
     start_after (heap_in c.self.inside.setting) c.step_at-mark.result (since_raise (after_raise z)) (first_plan z) c.step_at-mark.ensures.seat.1
     (record { local = refl; kept = refl })
 
 abbrev call_of : After-step_at-mark → After-leaving-call
-call_of c = after_call (after_raise c.before.before)
+call_of c = after_call (after_raise c.before.before.before)
 
 -- THE WAY that leaves the hold begins with these steps,
 module _ (c : After-step_at-mark) (x : CallContext → Local → ExitTree) (late : let o = c.args.object in
