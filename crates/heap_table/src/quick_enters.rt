@@ -155,8 +155,9 @@ fn seize_by_monitor(
     None
 }
 
-// By this monitor, which the thread owns: the recursions rise.
-#[inline(always)]
+// By this monitor, which the thread owns: the recursions rise. It is a function of its own, so that all other ways are built into one: a function that would
+// grow larger yet isn't.
+#[inline(never)]
 fn seize_again(
     words: &Words,
     setting: &Setting,
