@@ -17,7 +17,7 @@ use crate::quick::QuickEnter;
 use crate::quick_enters::seize;
 use crate::rule::{Place, Words};
 use crate::setting::Setting;
-use crate::steps::{step_at, step_in_table};
+use crate::steps::{step_at, step_in_thread};
 use core_world::{Act, Stage, WordId};
 use plain_monitor::{Entry, Path};
 
@@ -60,7 +60,7 @@ fn take_hold(
         WordId::Hold { thread, place },
         Act::Store { word },
     );
-    step_in_table(words, setting, seat, first);
+    step_in_thread(words, setting, seat, &first);
     mirror.holds.push(object, word);
     let entry = Entry::Enter { object, path };
     let second = logging(
@@ -70,7 +70,7 @@ fn take_hold(
         Act::Load,
         entry,
     );
-    let stamp = step_at(words, setting, seat, at + 1, second);
+    let stamp = step_at(words, setting, seat, at + 1, &second);
     mirror.note(entry, stamp);
 }
 
@@ -112,7 +112,7 @@ fn end_enter(
 
 /// Enters by the mark that was found.
 #[inline(always)]
-pub fn enter_marked<const SEARCH: bool>(
+pub fn enter_marked(
     words: &Words,
     setting: &Setting,
     seat: &mut Place,
@@ -140,7 +140,7 @@ pub fn enter_marked<const SEARCH: bool>(
         (λ start. mark_left (is_biased mark) setting.now.shape call.now start (entered object now) mark) (lagging call.now mirror.old)
         (only seat.new.me.0) (λ start. enter_left setting.now.shape call.now start (entered object now) result) mirror.new }
 {
-    let how = seize::<SEARCH>(words, setting, seat, mirror, call, object, now, mark, at);
+    let how = seize(words, setting, seat, mirror, call, object, now, mark, at);
     end_enter(
         words, setting, seat, mirror, call, object, now, word, at, how,
     );

@@ -18,7 +18,7 @@ use crate::quick::QuickExit;
 use crate::quick_exits::{ExitPart, part};
 use crate::rule::{Place, Words};
 use crate::setting::Setting;
-use crate::steps::step_in_table;
+use crate::steps::step_in_thread;
 use core_world::{Act, Stage, StepPlan, WordId};
 use plain_monitor::Entry;
 
@@ -67,7 +67,8 @@ fn clear_hold(
         thread: mirror.thread,
         place,
     };
-    let found = step_in_table(words, setting, seat, clearing(call, object, at, logged));
+    let clear = clearing(call, object, at, logged);
+    let found = step_in_thread(words, setting, seat, &clear);
     mirror.note(Entry::Exit { object }, found);
     mirror.holds.clear(place, last);
 }
@@ -141,7 +142,7 @@ fn end_exit(
 
 /// Leaves the newest hold of the object, which has this place, by the mark that was found. The object's words begin at the other place.
 #[inline(always)]
-pub fn leave_marked<const SEARCH: bool>(
+pub fn leave_marked(
     words: &Words,
     setting: &Setting,
     seat: &mut Place,
@@ -173,7 +174,7 @@ pub fn leave_marked<const SEARCH: bool>(
         (exit_found (is_biased mark) call.now (local_of (only seat.old.me.0)) object) (lagging call.now mirror.old)
         (only seat.new.me.0) (exit_left call.now (local_of (only seat.old.me.0)) object result) mirror.new }
 {
-    let how = part::<SEARCH>(
+    let how = part(
         words, setting, seat, mirror, call, object, depth, mark, at, place,
     );
     end_exit(

@@ -28,7 +28,16 @@ pub fn keeping(call: &CallContext, stage: Stage, own: LocalEffect, at: WordId, a
 pub fn quiet(call: &CallContext, stage: Stage, at: WordId, act: Act) -> StepPlan
     ensures { result ≡ with_stage stage (quiet_plan call.now at act) }
 {
-    keeping(call, stage, LocalEffect::Unchanged, at, act)
+    StepPlan {
+        at,
+        act,
+        note: LogEffect::Quiet,
+        own: LocalEffect::Unchanged,
+        task: call.task,
+        after: call.unfinished,
+        check: call.check,
+        stage,
+    }
 }
 
 /// A step that logs this and leaves the operation unfinished.

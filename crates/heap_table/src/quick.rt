@@ -86,15 +86,8 @@ fn leaving(object: u32) -> CallContext
 }
 
 impl Heap {
-    // Whether holds are searched is a parameter of the function, and of the large ones below it, so that each of the two has code of its own: the compiler
-    // builds a large function into its caller only where that is the only one.
     #[inline(always)]
-    fn enter_quickly<const SEARCH: bool>(
-        &self,
-        pass: &mut Pass,
-        object: u32,
-        now: u64,
-    ) -> QuickEnter
+    fn enter_quickly(&self, pass: &mut Pass, object: u32, now: u64, search: bool) -> QuickEnter
         requires may { MayOperate self.now pass.old (Enter object now) }
         requires free { IsFree pass.old.known }
         ensures entered { HasEntered self.now pass.old pass.new object now result }
@@ -106,7 +99,7 @@ impl Heap {
         if object >= self.setting.shape.declared() {
             return QuickEnter::Not;
         }
-        let Some(word) = pass.mirror.holds.next_word(object, SEARCH) else {
+        let Some(word) = pass.mirror.holds.next_word(object, search) else {
             return QuickEnter::Not;
         };
         let call = entering(object, now);
@@ -115,8 +108,8 @@ impl Heap {
         // The object's words have one place here for all their steps: after an act the shape would be read again.
         let at = setting.shape.mark_at(object);
         let first = quiet(&call, Stage::Settled, WordId::Mark { object }, Act::Load);
-        let mark = step_at(words, setting, &mut pass.seat, at, first);
-        enter_marked::<SEARCH>(
+        let mark = step_at(words, setting, &mut pass.seat, at, &first);
+        enter_marked(
             words,
             setting,
             &mut pass.seat,
@@ -139,7 +132,7 @@ impl Heap {
         ensures entered { HasEntered self.now pass.old pass.new object now result }
         ensures free { EntersFree pass.new.known result }
     {
-        self.enter_quickly::<true>(pass, object, now)
+        self.enter_quickly(pass, object, now, true)
     }
 
     /// The same where the thread holds nothing, or its newest hold is of the object, so that nothing has to be looked for.
@@ -150,11 +143,11 @@ impl Heap {
         ensures entered { HasEntered self.now pass.old pass.new object now result }
         ensures free { EntersFree pass.new.known result }
     {
-        self.enter_quickly::<false>(pass, object, now)
+        self.enter_quickly(pass, object, now, false)
     }
 
     #[inline(always)]
-    fn exit_quickly<const SEARCH: bool>(&self, pass: &mut Pass, object: u32) -> QuickExit
+    fn exit_quickly(&self, pass: &mut Pass, object: u32, search: bool) -> QuickExit
         requires may { MayOperate self.now pass.old (Exit object) }
         requires free { IsFree pass.old.known }
         ensures left { HasLeft self.now pass.old pass.new object result }
@@ -163,7 +156,7 @@ impl Heap {
         if object >= self.setting.shape.declared() {
             return QuickExit::Not;
         }
-        let Some((depth, place)) = pass.mirror.holds.newest(object, SEARCH) else {
+        let Some((depth, place)) = pass.mirror.holds.newest(object, search) else {
             return QuickExit::Not;
         };
         let call = leaving(object);
@@ -183,8 +176,8 @@ impl Heap {
             next,
         );
         let first = quiet(&call, Stage::Settled, WordId::Mark { object }, Act::Load);
-        let mark = step_at(words, setting, &mut pass.seat, at, first);
-        leave_marked::<SEARCH>(
+        let mark = step_at(words, setting, &mut pass.seat, at, &first);
+        leave_marked(
             words,
             setting,
             &mut pass.seat,
@@ -195,7 +188,7 @@ impl Heap {
             mark,
             at,
             place,
-            !SEARCH,
+            !search,
         )
     }
 
@@ -207,7 +200,7 @@ impl Heap {
         ensures left { HasLeft self.now pass.old pass.new object result }
         ensures free { LeavesFree pass.new.known result }
     {
-        self.exit_quickly::<true>(pass, object)
+        self.exit_quickly(pass, object, true)
     }
 
     /// The same where that is the newest of all holds, so that nothing has to be looked for.
@@ -218,6 +211,6 @@ impl Heap {
         ensures left { HasLeft self.now pass.old pass.new object result }
         ensures free { LeavesFree pass.new.known result }
     {
-        self.exit_quickly::<false>(pass, object)
+        self.exit_quickly(pass, object, false)
     }
 }

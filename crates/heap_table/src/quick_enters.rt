@@ -21,7 +21,7 @@ use crate::quick::QuickEnter;
 use crate::reads::{form_of, has_bias_bits, is_own_by_sum};
 use crate::rule::{Place, Words};
 use crate::setting::Setting;
-use crate::steps::{step_at, step_in_table};
+use crate::steps::{step_at, step_in_monitor, step_in_thread};
 use core_world::{Act, Stage, WordId};
 use mark_word::{MarkForm, OwnerForm, encode, encode_owner};
 use plain_monitor::Path;
@@ -59,7 +59,7 @@ fn displace(
         WordId::Displaced { thread, place },
         Act::Store { word: displaced },
     );
-    step_in_table(words, setting, seat, first);
+    step_in_thread(words, setting, seat, &first);
 }
 
 // By a lock record, where the mark is neutral: it becomes the record's displaced word, and is exchanged for the record's place. The answer is the
@@ -92,14 +92,14 @@ fn seize_by_record(
     let place = mirror.holds.used;
     let record = WordId::Displaced { thread, place };
     let first = quiet(call, Stage::Settled, record, Act::Store { word: mark });
-    step_in_table(words, setting, seat, first);
+    step_in_thread(words, setting, seat, &first);
     let act = Act::CompareExchange {
         expected: mark,
         word: encode(&MarkForm::Locked { thread, place }),
     };
     let stage = Stage::RecordLocked { object, place };
     let second = quiet(call, stage, WordId::Mark { object }, act);
-    let found = step_at(words, setting, seat, at, second);
+    let found = step_at(words, setting, seat, at, &second);
     if found != mark {
         return Some(found);
     }
@@ -137,7 +137,7 @@ fn seize_by_monitor(
     };
     let stage = Stage::MonitorAcquired { object };
     let first = quiet(call, stage, WordId::Owner { monitor }, act);
-    let found = step_in_table(words, setting, seat, first);
+    let found = step_in_monitor(words, setting, seat, &first);
     if found != 0 {
         return Some(found);
     }
@@ -155,8 +155,9 @@ fn seize_by_monitor(
     None
 }
 
-// By this monitor, which the thread owns: the recursions rise.
-#[inline(always)]
+// By this monitor, which the thread owns: the recursions rise. It is a function of its own, so that all other ways are built into one: a function that would
+// grow larger yet isn't.
+#[inline(never)]
 fn seize_again(
     words: &Words,
     setting: &Setting,
@@ -180,11 +181,11 @@ fn seize_again(
 {
     let count = WordId::Recursions { monitor };
     let first = quiet(call, Stage::Settled, count, Act::Load);
-    let recursions = step_in_table(words, setting, seat, first);
+    let recursions = step_in_monitor(words, setting, seat, &first);
     let stage = Stage::RecursionsRaised { object };
     let raised = recursions + 1;
     let second = quiet(call, stage, count, Act::Store { word: raised });
-    step_in_table(words, setting, seat, second);
+    step_in_monitor(words, setting, seat, &second);
     displace(
         words,
         setting,
@@ -241,7 +242,7 @@ fn seize_inflated(
 
 // By a mark without the bias pattern.
 #[inline(always)]
-fn seize_unbiased<const SEARCH: bool>(
+fn seize_unbiased(
     words: &Words,
     setting: &Setting,
     seat: &mut Place,
@@ -321,8 +322,9 @@ fn seize_biased(
         (only seat.new.me.0) (λ start. seized_left setting.now.shape call.now start (entered object now) result) }
 {
     let class = setting.shape.class_of(object);
+    let at = setting.shape.prototype_at(class);
     let first = quiet(call, Stage::Settled, WordId::Prototype { class }, Act::Load);
-    let prototype = step_in_table(words, setting, seat, first);
+    let prototype = step_at(words, setting, seat, at, &first);
     if !is_own_by_sum(mark, prototype, mirror.own_bits) {
         return QuickEnter::Biased { mark, prototype };
     }
@@ -333,7 +335,7 @@ fn seize_biased(
 
 /// By the mark that was found. Where it is done, the lock is the thread's own, and the hold is left to take.
 #[inline(always)]
-pub fn seize<const SEARCH: bool>(
+pub fn seize(
     words: &Words,
     setting: &Setting,
     seat: &mut Place,
@@ -362,6 +364,6 @@ pub fn seize<const SEARCH: bool>(
     if has_bias_bits(mark) {
         seize_biased(words, setting, seat, mirror, call, object, now, mark)
     } else {
-        seize_unbiased::<SEARCH>(words, setting, seat, mirror, call, object, now, mark, at)
+        seize_unbiased(words, setting, seat, mirror, call, object, now, mark, at)
     }
 }

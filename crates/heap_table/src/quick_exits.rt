@@ -22,7 +22,7 @@ use crate::plans::{logging, quiet};
 use crate::reads::{form_of, has_bias_bits};
 use crate::rule::{Place, Words};
 use crate::setting::Setting;
-use crate::steps::{step_at, step_in_table};
+use crate::steps::{step_at, step_in_monitor, step_in_thread};
 use core_world::{Act, Stage, WordId};
 use mark_word::{MarkForm, OwnerForm, encode_owner};
 use plain_monitor::Entry;
@@ -70,7 +70,7 @@ pub fn raise_at(
             WordId::Stamp { object },
             Act::FetchMax { word: stamp },
         );
-        step_at(words, setting, seat, at, plan);
+        step_at(words, setting, seat, at, &plan);
     }
 }
 
@@ -108,7 +108,7 @@ fn part_from_record(
     };
     let stage = Stage::Exits { object, place };
     let first = logging(call, stage, WordId::Mark { object }, act, entry);
-    let found = step_at(words, setting, seat, at, first);
+    let found = step_at(words, setting, seat, at, &first);
     if found != mark {
         return ExitPart::Raced {
             expected: mark,
@@ -150,7 +150,7 @@ fn lower(
         WordId::Recursions { monitor },
         Act::Store { word },
     );
-    step_in_table(words, setting, seat, first);
+    step_in_monitor(words, setting, seat, &first);
 }
 
 // The monitor, which the thread owns, has no recursions: its owner word is cleared, which logs Exit.
@@ -181,7 +181,7 @@ fn release(
     let stage = Stage::Exits { object, place };
     let free = Act::Store { word: 0 };
     let first = logging(call, stage, WordId::Owner { monitor }, free, entry);
-    step_in_table(words, setting, seat, first);
+    step_in_monitor(words, setting, seat, &first);
 }
 
 // By this monitor, which the mark names.
@@ -210,7 +210,7 @@ fn part_from_monitor(
 {
     let thread = mirror.thread;
     let first = quiet(call, Stage::Settled, WordId::Owner { monitor }, Act::Load);
-    let owner = step_in_table(words, setting, seat, first);
+    let owner = step_in_monitor(words, setting, seat, &first);
     if owner != encode_owner(&OwnerForm::ByThread { thread }) {
         return ExitPart::Owned { monitor, owner };
     }
@@ -220,7 +220,7 @@ fn part_from_monitor(
         WordId::Recursions { monitor },
         Act::Load,
     );
-    let recursions = step_in_table(words, setting, seat, second);
+    let recursions = step_in_monitor(words, setting, seat, &second);
     if recursions == 0 {
         release(words, setting, seat, mirror, call, object, monitor, place);
         return ExitPart::Logged;
@@ -275,7 +275,7 @@ fn part_marked(
 
 // By a mark without the bias pattern. The object's words begin at this place.
 #[inline(always)]
-fn part_unbiased<const SEARCH: bool>(
+fn part_unbiased(
     words: &Words,
     setting: &Setting,
     seat: &mut Place,
@@ -309,12 +309,12 @@ fn part_unbiased<const SEARCH: bool>(
         place,
     };
     let first = quiet(call, Stage::Settled, record, Act::Load);
-    let header = step_in_table(words, setting, seat, first);
+    let header = step_in_thread(words, setting, seat, &first);
     if header == 0 {
         return ExitPart::Held;
     }
     let second = quiet(call, Stage::Settled, WordId::Mark { object }, Act::Load);
-    let mark = step_at(words, setting, seat, at, second);
+    let mark = step_at(words, setting, seat, at, &second);
     part_marked(
         words, setting, seat, mirror, call, object, header, mark, at, place,
     )
@@ -322,7 +322,7 @@ fn part_unbiased<const SEARCH: bool>(
 
 /// By the mark that was found. The object's words begin at this place.
 #[inline(always)]
-pub fn part<const SEARCH: bool>(
+pub fn part(
     words: &Words,
     setting: &Setting,
     seat: &mut Place,
@@ -354,5 +354,5 @@ pub fn part<const SEARCH: bool>(
     if has_bias_bits(mark) {
         return ExitPart::Held;
     }
-    part_unbiased::<SEARCH>(words, setting, seat, mirror, call, object, depth, at, place)
+    part_unbiased(words, setting, seat, mirror, call, object, depth, at, place)
 }

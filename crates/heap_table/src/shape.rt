@@ -259,6 +259,41 @@ impl HeapShape {
             WordId::Ring { place } => self.ring_at(place),
         }
     }
+
+    // `place` as a function of its own, for words that a way of few kinds never comes to.
+    #[inline(never)]
+    fn place_elsewhere(&self, at: WordId) -> usize
+        requires { IsIn self.now at }
+        ensures { result ≡ place_of self.now at }
+    {
+        self.place(at)
+    }
+
+    /// `place` for hold words and lock records: with fewer kinds to tell apart the code stays small that is built into another function.
+    #[inline(always)]
+    pub fn place_in_thread(&self, at: WordId) -> usize
+        requires { IsIn self.now at }
+        ensures { result ≡ place_of self.now at }
+    {
+        match at {
+            WordId::Hold { thread, place } => self.hold_at(thread, place),
+            WordId::Displaced { thread, place } => self.displaced_at(thread, place),
+            _ => self.place_elsewhere(at),
+        }
+    }
+
+    /// The same for owner words and recursions.
+    #[inline(always)]
+    pub fn place_in_monitor(&self, at: WordId) -> usize
+        requires { IsIn self.now at }
+        ensures { result ≡ place_of self.now at }
+    {
+        match at {
+            WordId::Owner { monitor } => self.owner_at(monitor),
+            WordId::Recursions { monitor } => self.recursions_at(monitor),
+            _ => self.place_elsewhere(at),
+        }
+    }
 }
 
 // Where the groups of words begin.

@@ -17,17 +17,17 @@ fn step_as<C: Chosen>(
     setting: &Setting,
     seat: &mut Place,
     at: usize,
-    plan: StepPlan,
+    plan: &StepPlan,
 ) -> u64
-    requires chosen { (C.heap ≡ heap_in setting.now) × (C.plan ≡ plan) }
+    requires chosen { (C.heap ≡ heap_in setting.now) × (C.plan ≡ plan.now) }
     requires setting { (words.now.shared.key ≡ setting.now)
         × (words.now.shared.table_id.words ≡ word_count setting.now.shape) }
     requires seat { (seat.old.table_id ≡ words.now.shared.table_id) × (seat.old.me ≡ (only seat.old.me.0 ∷ [], [])) }
-    requires may { MayStep (heap_in setting.now) (only seat.old.me.0) plan }
-    requires place { at ≡ place_of setting.now.shape plan.at }
+    requires may { MayStep (heap_in setting.now) (only seat.old.me.0) plan.now }
+    requires place { at ≡ place_of setting.now.shape plan.now.at }
     ensures seat { (seat.new.table_id ≡ seat.old.table_id)
-        × (seat.new.me ≡ (known_after setting.now.shape setting.now.start plan result (only seat.old.me.0) ∷ [], [])) }
-    ensures stepped { Stepped (heap_in setting.now) (only seat.old.me.0) plan result }
+        × (seat.new.me ≡ (known_after setting.now.shape setting.now.start plan.now result (only seat.old.me.0) ∷ [], [])) }
+    ensures stepped { Stepped (heap_in setting.now) (only seat.old.me.0) plan.now result }
 {
     match plan.act {
         Act::Load => words.shared.load::<Does<C>>(seat, at),
@@ -55,20 +55,56 @@ pub fn step_in_table(words: &Words, setting: &Setting, seat: &mut Place, plan: S
     ensures stepped { Stepped (heap_in setting.now) (only seat.old.me.0) plan result }
 {
     let at = setting.shape.place(plan.at);
+    step_at(words, setting, seat, at, &plan)
+}
+
+/// The same, in less code, for a hold word or a lock record.
+#[inline(always)]
+pub fn step_in_thread(words: &Words, setting: &Setting, seat: &mut Place, plan: &StepPlan) -> u64
+    requires setting { (words.now.shared.key ≡ setting.now)
+        × (words.now.shared.table_id.words ≡ word_count setting.now.shape) }
+    requires seat { (seat.old.table_id ≡ words.now.shared.table_id) × (seat.old.me ≡ (only seat.old.me.0 ∷ [], [])) }
+    requires may { MayStep (heap_in setting.now) (only seat.old.me.0) plan.now }
+    ensures seat { (seat.new.table_id ≡ seat.old.table_id)
+        × (seat.new.me ≡ (known_after setting.now.shape setting.now.start plan.now result (only seat.old.me.0) ∷ [], [])) }
+    ensures stepped { Stepped (heap_in setting.now) (only seat.old.me.0) plan.now result }
+{
+    let at = setting.shape.place_in_thread(plan.at);
+    step_at(words, setting, seat, at, plan)
+}
+
+/// The same, in less code, for an owner word or recursions.
+#[inline(always)]
+pub fn step_in_monitor(words: &Words, setting: &Setting, seat: &mut Place, plan: &StepPlan) -> u64
+    requires setting { (words.now.shared.key ≡ setting.now)
+        × (words.now.shared.table_id.words ≡ word_count setting.now.shape) }
+    requires seat { (seat.old.table_id ≡ words.now.shared.table_id) × (seat.old.me ≡ (only seat.old.me.0 ∷ [], [])) }
+    requires may { MayStep (heap_in setting.now) (only seat.old.me.0) plan.now }
+    ensures seat { (seat.new.table_id ≡ seat.old.table_id)
+        × (seat.new.me ≡ (known_after setting.now.shape setting.now.start plan.now result (only seat.old.me.0) ∷ [], [])) }
+    ensures stepped { Stepped (heap_in setting.now) (only seat.old.me.0) plan.now result }
+{
+    let at = setting.shape.place_in_monitor(plan.at);
     step_at(words, setting, seat, at, plan)
 }
 
 /// `step_in_table` at the word's place, which was reckoned before.
 #[inline(always)]
-pub fn step_at(words: &Words, setting: &Setting, seat: &mut Place, at: usize, plan: StepPlan) -> u64
+pub fn step_at(
+    words: &Words,
+    setting: &Setting,
+    seat: &mut Place,
+    at: usize,
+    plan: &StepPlan,
+) -> u64
     requires setting { (words.now.shared.key ≡ setting.now)
         × (words.now.shared.table_id.words ≡ word_count setting.now.shape) }
     requires seat { (seat.old.table_id ≡ words.now.shared.table_id) × (seat.old.me ≡ (only seat.old.me.0 ∷ [], [])) }
-    requires may { MayStep (heap_in setting.now) (only seat.old.me.0) plan }
-    requires place { at ≡ place_of setting.now.shape plan.at }
+    requires may { MayStep (heap_in setting.now) (only seat.old.me.0) plan.now }
+    requires place { at ≡ place_of setting.now.shape plan.now.at }
     ensures seat { (seat.new.table_id ≡ seat.old.table_id)
-        × (seat.new.me ≡ (known_after setting.now.shape setting.now.start plan result (only seat.old.me.0) ∷ [], [])) }
-    ensures stepped { Stepped (heap_in setting.now) (only seat.old.me.0) plan result }
+        × (seat.new.me ≡ (known_after setting.now.shape setting.now.start plan.now result (only seat.old.me.0) ∷ [], [])) }
+    ensures stepped { Stepped (heap_in setting.now) (only seat.old.me.0) plan.now result }
 {
     step_as::<Brand>(words, setting, seat, at, plan)
 }

@@ -27,7 +27,7 @@ use Rattle.heap_table.proofs.Late.{gone, knows_gone, may_go, shows_alike, shows_
 use Rattle.heap_table.proofs.Stamps.{low, short}
 use Rattle.heap_table.proofs.StepsLeft.{AreLeft, left_as}
 use Rattle.heap_table.proofs.leaving.clear_hold.Goals as goal
-use Rattle.heap_table.proofs.leaving.clear_hold.Goals.{After-clearing, After-clear}
+use Rattle.heap_table.proofs.leaving.clear_hold.Goals.{After-clearing-clear, After-clear}
 
 -- What is left is that step.
 by_step : (b : Bool) (e : CallContext) (l : Local) (o : ℕ)
@@ -69,26 +69,26 @@ module _ (g : Heap) (e : CallContext) (o t p n : ℕ) (m noted : Mirror) (k : Th
   cleared false shown = follow_left g.shape g.start e t o p n k (lagging (logged_call e) noted) holds is (notes _ shown)
 
 -- The code's words for the place and the step.
-abbrev place_in : After-clearing → WordId
+abbrev place_in : After-clearing-clear → WordId
 place_in c = Hold c.args.mirror.now.thread c.args.place
 
-said : (c : After-clearing) (l : Local) → l.thread ≡ c.args.mirror.now.thread → l.holds ≡ c.args.mirror.now.holds.words
-    → c.clearing.result ≡ clear_by c.args.logged c.args.call.now c.args.object (Hold l.thread (top_place c.args.object l.holds))
+said : (c : After-clearing-clear) (l : Local) → l.thread ≡ c.args.mirror.now.thread → l.holds ≡ c.args.mirror.now.holds.words
+    → c.clearing-clear.result ≡ clear_by c.args.logged c.args.call.now c.args.object (Hold l.thread (top_place c.args.object l.holds))
 said c l thread holds =
     let place = c.requires.may.clears.place ∙ ap (top_place c.args.object) (sym holds) in
-    c.clearing.ensures ∙ λ i. clear_by c.args.logged c.args.call.now c.args.object (Hold (sym thread i) (place i))
+    c.clearing-clear.ensures ∙ λ i. clear_by c.args.logged c.args.call.now c.args.object (Hold (sym thread i) (place i))
 
-abbrev to_clear : (c : After-clearing) (h : HeapSeen) (p : PassSeen) (d : ExitTree) (l : Local) → Type 0
+abbrev to_clear : (c : After-clearing-clear) (h : HeapSeen) (p : PassSeen) (d : ExitTree) (l : Local) → Type 0
 to_clear c h p d l = let e = c.args.call.now in AreLeft h e.task p d (record p { known = only c.args.seat.now.me.0 })
     (step (clear_by c.args.logged e c.args.object (Hold l.thread (top_place c.args.object l.holds))) (λ _. exit_over))
 
-left_to_clear : (c : After-clearing) (h : HeapSeen) (p : PassSeen) (d : ExitTree) (l : Local) → let e = c.args.call.now in
+left_to_clear : (c : After-clearing-clear) (h : HeapSeen) (p : PassSeen) (d : ExitTree) (l : Local) → let e = c.args.call.now in
     LatePart h p d e c.args.object (ending_part c.args.logged) l c.args.mirror.now (only c.args.seat.now.me.0) → to_clear c h p d l
 left_to_clear c h p d l late = left_as late.left (by_step c.args.logged c.args.call.now l c.args.object)
 
-pub step_in_table-found-requires-clause-may : goal.step_in_table-found-requires-clause-may
-step_in_table-found-requires-clause-may c =
-    let z = (goal.at.step_in_table-found-requires-clause-may c).After-clearing in
+pub step_in_thread-found-requires-clause-may : goal.step_in_thread-found-requires-clause-may
+step_in_thread-found-requires-clause-may c =
+    let z = (goal.at.step_in_thread-found-requires-clause-may c).After-clearing-clear in
     let a = c.requires.amid in
     may_go (left_to_clear z a.heap a.begun a.due a.local a.late) a.its (said z a.local a.late.thread a.late.holds) (of_call c.args.logged _ _ _)
 
@@ -108,7 +108,7 @@ note-requires-clause-stamp c =
 -- The place is that of the newest hold.
 pub clear-requires-clause-place : goal.clear-requires-clause-place
 clear-requires-clause-place c =
-    let z = (goal.at.clear-requires-clause-place c).After-clearing in
+    let z = (goal.at.clear-requires-clause-place c).After-clearing-clear in
     let a = c.requires.amid in
     let l = a.local in
     let o = c.args.object in
@@ -117,8 +117,8 @@ clear-requires-clause-place c =
     (of_call c.args.logged _ _ _) in
     subst (λ (p : ℕ). p < most_holds) (ap (top_place o) a.late.holds ∙ sym c.requires.may.clears.place) (in_place c.args.logged c.args.call.now o _ _ _ _ may)
 
-abbrev after_step : After-clear → After-clearing
-after_step c = c.before.before.before.before.before
+abbrev after_step : After-clear → After-clearing-clear
+after_step c = c.before.before.before.before.before.before.before
 
 still_idle : (c : After-clear) → IsIdle c.args.call.now (record c.note.new.self { holds = c.clear.new.self })
 still_idle c = let idle = c.requires.may.clears.idle in
@@ -134,11 +134,11 @@ returns-clause-leads c = λ h p d l its late.
     let o = c.args.object in
     let b = c.args.logged in
     let k = only c.args.seat.now.me.0 in
-    let n = c.step_in_table-found.result in
+    let n = c.step_in_thread-found.result in
     let place = top_place o l.holds in
     let plan = clear_by b e o (Hold l.thread place) in
     let left = left_to_clear z h p d l late in
-    let told = c.step_in_table-found.ensures.seat.1 in
+    let told = c.step_in_thread-found.ensures.seat.1 in
     let says = said z l late.thread late.holds in
     let task = of_call b e o (Hold l.thread place) in
     let at = c.requires.may.clears.place ∙ ap (top_place o) (sym late.holds) in
@@ -147,6 +147,6 @@ returns-clause-leads c = λ h p d l its late.
     (λ j shows. c.note.ensures.shows h.heap.shape h.heap.start e Settled (Stamp o) Load j (aside o n c.args.mirror.now) shows) b late.shown in
     let now = shows_idle e _ (record c.note.new.self { holds = c.clear.new.self }) (still_idle (goal.at.returns-clause-leads c).After-clear) shown in
     record {
-      left = gone left its says task (keeps_none b e o (Hold l.thread place)) c.step_in_table-found.ensures.stepped told;
+      left = gone left its says task (keeps_none b e o (Hold l.thread place)) c.step_in_thread-found.ensures.stepped told;
       mirrors = shows_alike _ _ _ _ _ _ (subst (Mirrors (record c.note.new.self { holds = c.clear.new.self })) (sym (knows_gone left its says task n told)) now);
     }

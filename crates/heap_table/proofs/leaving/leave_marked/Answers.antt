@@ -12,7 +12,7 @@ use Rattle.heap_table.proofs.Late.{late_as, start_since}
 use Rattle.heap_table.proofs.leaving.leave_marked.Goals as goal
 
 pub end_exit-requires-clause-amid : goal.end_exit-requires-clause-amid
-end_exit-requires-clause-amid g c =
+end_exit-requires-clause-amid c =
     let a = c.requires.amid in
     record {
       heap = a.heap;
@@ -24,7 +24,7 @@ end_exit-requires-clause-amid g c =
     }
 
 pub returns-clause-idle : goal.returns-clause-idle
-returns-clause-idle g c =
+returns-clause-idle c =
     subst (λ (r : QuickExit). LeavesIdle r c.args.call.now c.end_exit.new.mirror) (sym c.left_by.ensures) c.end_exit.ensures.idle
 
 -- what was taken at the beginning, by the answer
@@ -36,12 +36,12 @@ keeps_so (parts.Raced mark found) o place i k j at since is = tt
 keeps_so (parts.Owned m owner) o place i k j at since is = (at, start_since since is)
 
 pub returns-clause-start : goal.returns-clause-start
-returns-clause-start g c =
+returns-clause-start c =
     let at = c.requires.may.clears.place ∙ ap (top_place c.args.object) (sym c.requires.amid.late.mirrors.holds) in
     subst (λ (r : QuickExit). KeepsExit c.args.object r (only c.args.seat.now.me.0) (only c.end_exit.new.seat.me.0)) (sym c.left_by.ensures)
     (keeps_so c.part-how.result c.args.object c.args.place _ _ _ at c.part-how.ensures.start c.end_exit.ensures.start)
 
 pub returns-clause-leads : goal.returns-clause-leads
-returns-clause-leads g c = λ h p d its late.
+returns-clause-leads c = λ h p d its late.
     late_as (c.end_exit.ensures.leads h p d (local_of (only c.args.seat.now.me.0)) its (c.part-how.ensures.leads h p d its late))
     (ap (exit_left c.args.call.now (local_of (only c.args.seat.now.me.0)) c.args.object) (sym c.left_by.ensures))

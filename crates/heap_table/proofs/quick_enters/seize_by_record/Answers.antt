@@ -34,23 +34,23 @@ first_plan : (c : After-quiet-first) → let k = only c.args.seat.now.me.0 in
 first_plan c = c.quiet-first.ensures
     ∙ λ i. with_stage Settled (quiet_plan c.args.call.now (Displaced (its_thread c i) (its_place c i)) (Store c.args.mark))
 
-pub step_in_table-requires-clause-may : goal.step_in_table-requires-clause-may
-step_in_table-requires-clause-may c =
-    let z = (goal.at.step_in_table-requires-clause-may c).After-quiet-first in
+pub step_in_thread-requires-clause-may : goal.step_in_thread-requires-clause-may
+step_in_thread-requires-clause-may c =
+    let z = (goal.at.step_in_thread-requires-clause-may c).After-quiet-first in
     may_step c.requires.amid.late c.requires.amid.its (first_plan z) refl
 
 -- THE MARK is exchanged.
 abbrev first_of : After-quiet-second → After-quiet-first
-first_of c = c.before.before.before.before.before
+first_of c = c.before.before.before.before.before.before
 
 seizing : (c : After-quiet-second) → let e = c.args.call.now in let k = only c.args.seat.now.me.0 in
-    Goes c.args.setting.now e c.args.mirror.now k (first_enter e (local_of k) c.args.object c.args.mark) (only c.step_in_table.new.seat.me.0)
+    Goes c.args.setting.now e c.args.mirror.now k (first_enter e (local_of k) c.args.object c.args.mark) (only c.step_in_thread.new.seat.me.0)
     (step (seize_plan e k.thread c.args.object c.args.mark (free_place k.holds)) (seized e (local_of k) c.args.object c.args.mark))
 seizing c = λ h o d its late.
     let e = c.args.call.now in
     let k = only c.args.seat.now.me.0 in
-    made_step late its (first_plan (first_of c)) refl refl c.step_in_table.ensures.stepped c.step_in_table.ensures.seat.1
-    (follow_quiet h.heap.shape h.heap.start e Settled (Displaced k.thread (free_place k.holds)) (Store c.args.mark) c.step_in_table.result _ _ refl refl
+    made_step late its (first_plan (first_of c)) refl refl c.step_in_thread.ensures.stepped c.step_in_thread.ensures.seat.1
+    (follow_quiet h.heap.shape h.heap.start e Settled (Displaced k.thread (free_place k.holds)) (Store c.args.mark) c.step_in_thread.result _ _ refl refl
     (λ l. refl) (λ l. refl) (λ l. refl) late.mirrors)
 
 second_plan : (c : After-quiet-second) → let k = only c.args.seat.now.me.0 in
@@ -72,13 +72,13 @@ step_at-found-requires-clause-may c =
 -- What is left by the mark that was found.
 its_plan : (c : After-step_at-found) → let k = only c.args.seat.now.me.0 in
     c.quiet-second.result ≡ seize_plan c.args.call.now k.thread c.args.object c.args.mark (free_place k.holds)
-its_plan c = second_plan c.before.before
+its_plan c = second_plan c.before.before.before
 
 keeps : (c : After-step_at-found) → IsStartOf (only c.args.seat.now.me.0) (only c.step_at-found.new.seat.me.0)
 keeps c =
     let b = heap_in c.args.setting.now in
     let k = only c.args.seat.now.me.0 in
-    let first = keeps_start b c.step_in_table.result (first_plan (first_of c.before.before)) c.step_in_table.ensures.seat.1 (record { local = refl; kept = refl }) in
+    let first = keeps_start b c.step_in_thread.result (first_plan (first_of c.before.before.before)) c.step_in_thread.ensures.seat.1 (record { local = refl; kept = refl }) in
     start_after b c.step_at-found.result first (its_plan c) c.step_at-found.ensures.seat.1 (exchange_keeps _ _
     (seize_plan c.args.call.now k.thread c.args.object c.args.mark (free_place k.holds)) c.step_at-found.result _ (record { local = refl; kept = refl })
     (record { local = refl; kept = refl }))
@@ -97,7 +97,7 @@ returns-then-found-mark-clause-leads c = λ h o d its late.
     let k = only c.args.seat.now.me.0 in
     let found = c.step_at-found.result in
     let other : (found == c.args.mark) ≡ false = ne_eqb _ _ c.if-found-mark.true in
-    let here = seizing z.before.before h o d its late in
+    let here = seizing z.before.before.before h o d its late in
     late_as (made_step here its (its_plan z) refl refl c.step_at-found.ensures.stepped c.step_at-found.ensures.seat.1
     (follow_missed h.heap.shape h.heap.start (seize_plan e k.thread c.args.object c.args.mark (free_place k.holds)) found _ _ other refl here.mirrors))
     (ap (λ b. (if b then hold_steps e (local_of k) c.args.object StackFirst >>= done_with else pending_for (why.Raced c.args.mark found)) >>= answer) other)
@@ -110,7 +110,7 @@ returns-clause-leads c = λ h o d its late.
     let k = only c.args.seat.now.me.0 in
     let found = c.step_at-found.result in
     let hit : (found == c.args.mark) ≡ true = eq-eqb _ _ c.if-found-mark.false in
-    let here = seizing z.before.before h o d its late in
+    let here = seizing z.before.before.before h o d its late in
     late_as (made_step here its (its_plan z) refl refl c.step_at-found.ensures.stepped c.step_at-found.ensures.seat.1
     (follow_quiet h.heap.shape h.heap.start e (RecordLocked c.args.object (free_place k.holds)) (Mark c.args.object)
     (CompareExchange c.args.mark (mark_of (Locked k.thread (free_place k.holds)))) found _ _ hit refl (λ l. refl) (λ l. refl) (λ l. refl) here.mirrors))

@@ -31,7 +31,7 @@ by_monitor : (s : Shape) (e : CallContext) (k : Start) (o mark monitor : ℕ) �
 by_monitor s e k o mark monitor form = ap (λ (f : Option MarkForm). enter_at f s e k o mark >>= answer) form
 
 pub seize_by_record-requires-clause-amid : goal.seize_by_record-requires-clause-amid
-seize_by_record-requires-clause-amid g c =
+seize_by_record-requires-clause-amid c =
     let a = c.requires.amid in
     record {
       heap = a.heap;
@@ -43,7 +43,7 @@ seize_by_record-requires-clause-amid g c =
     }
 
 pub seize_inflated-requires-clause-amid : goal.seize_inflated-requires-clause-amid
-seize_inflated-requires-clause-amid g c =
+seize_inflated-requires-clause-amid c =
     let a = c.requires.amid in
     record {
       heap = a.heap;
@@ -55,17 +55,17 @@ seize_inflated-requires-clause-amid g c =
     }
 
 pub returns-in-Inflated-clause-leads : goal.returns-in-Inflated-clause-leads
-returns-in-Inflated-clause-leads g c = λ h o d its local late. c.seize_inflated.ensures.leads h o d its local
+returns-in-Inflated-clause-leads c = λ h o d its local late. c.seize_inflated.ensures.leads h o d its local
     (late_as late (by_monitor _ c.args.call.now (start_now h o) c.args.object c.args.mark _ (sym c.form_of.ensures ∙ ap Some c.in-Inflated.is)))
 
 pub returns-in-Some-clause-leads : goal.returns-in-Some-clause-leads
-returns-in-Some-clause-leads g c = λ h o d its local late. c.in-Some.ensures.leads h o d its
+returns-in-Some-clause-leads c = λ h o d its local late. c.in-Some.ensures.leads h o d its
     (late_as late (by_neutral _ c.args.call.now (start_now h o) c.args.object c.args.mark _ _
     (sym c.form_of.ensures ∙ ap Some c.in-Neutral.is)
     ∙ ap (λ (l : Local). first_enter c.args.call.now l c.args.object c.args.mark) (sym local)))
 
 pub returns-in-None-clause-leads : goal.returns-in-None-clause-leads
-returns-in-None-clause-leads g c = λ h o d its local late. late_as (c.in-None.ensures.leads h o d its
+returns-in-None-clause-leads c = λ h o d its local late. late_as (c.in-None.ensures.leads h o d its
     (late_as late (by_neutral _ c.args.call.now (start_now h o) c.args.object c.args.mark _ _
     (sym c.form_of.ensures ∙ ap Some c.in-Neutral.is)
     ∙ ap (λ (l : Local). first_enter c.args.call.now l c.args.object c.args.mark) (sym local))))
@@ -91,7 +91,7 @@ own_record {h = h} {o = o} m s e i mark thread place form same none local late =
     ∙ ap (λ (l : Local). recorded_end e Settled l i 0 StackAgain) (sym local))
 
 pub displace-requires-clause-amid : goal.displace-requires-clause-amid
-displace-requires-clause-amid g c =
+displace-requires-clause-amid c =
     let a = c.requires.amid in
     record {
       heap = a.heap;
@@ -103,7 +103,7 @@ displace-requires-clause-amid g c =
     }
 
 pub returns-then-thread-mirror-clause-leads : goal.returns-then-thread-mirror-clause-leads
-returns-then-thread-mirror-clause-leads g c = λ h o d its local late.
+returns-then-thread-mirror-clause-leads c = λ h o d its local late.
     late_as (c.displace.ensures.leads h o d its (own_record c.args.mirror.now _ c.args.call.now c.args.object c.args.mark _ _
     (sym c.form_of.ensures ∙ ap Some c.in-Locked.is) c.if-thread-mirror.true c.requires.may.waits local late))
     (ap (λ (l : Local). hold_end c.args.call.now l c.args.object StackAgain) local)

@@ -23,9 +23,8 @@ use Rattle.heap_table.proofs.Late.{amid_by, follow_quiet, late_as, made_step, ma
 use Rattle.heap_table.proofs.ExitEnds.{held_part, part_by, part_keeps}
 use Rattle.heap_table.proofs.Loops.{binds}
 use Rattle.heap_table.proofs.LowBits.{found_mark}
-use Rattle.heap_table.proofs.quick_exits.part_unbiased.Given.{Over}
 use Rattle.heap_table.proofs.quick_exits.part_unbiased.Goals as goal
-use Rattle.heap_table.proofs.quick_exits.part_unbiased.Goals.{After-raise_at, After-quiet-first, After-step_in_table-header, After-quiet-second}
+use Rattle.heap_table.proofs.quick_exits.part_unbiased.Goals.{After-raise_at, After-quiet-first, After-step_in_thread-header, After-quiet-second}
 use Rattle.heap_table.proofs.quick_exits.part_unbiased.Goals.{After-step_at-mark}
 
 abbrev gone : CallContext → Local → ℕ → StackOut → ExitTree
@@ -57,14 +56,14 @@ module _ (e : CallContext) (o : ℕ) (m : Mirror) (k : ThreadView) (shows : Mirr
   stamp_said = ap (λ (n : ℕ). raise_stamp_plan e o (n + 1)) (sym shows.last)
 
 pub raise_at-requires-clause-may : goal.raise_at-requires-clause-may
-raise_at-requires-clause-may g c =
+raise_at-requires-clause-may c =
     let e = c.args.call.now in
     let k = only c.args.seat.now.me.0 in
     let a = c.requires.amid in
     λ one. may_step (late_as a.late (as_said e c.args.object c.args.mirror.now k a.late.mirrors c.args.depth c.requires.depth
     ∙ ap (to_raise e (local_of k) c.args.object) (eq-eqb _ _ one))) a.its (stamp_said e c.args.object c.args.mirror.now k a.late.mirrors) refl
 
-raising : {g : Over} (c : After-raise_at g) (h : HeapSeen) (o : PassSeen) (d : ExitTree) → let e = c.args.call.now in let k = only c.args.seat.now.me.0 in
+raising : (c : After-raise_at) (h : HeapSeen) (o : PassSeen) (d : ExitTree) → let e = c.args.call.now in let k = only c.args.seat.now.me.0 in
     heap_in c.args.setting.now ≡ h.heap → Late h e.task o d k (unbiased_exit e (local_of k) c.args.object) (lagging e c.args.mirror.now)
     → (u : Option Unfinished) × (b : Bool) × Late h e.task o d (only c.raise_at.new.seat.me.0) (to_load e (local_of k) c.args.object)
     (record (lagging e c.args.mirror.now) { unfinished = u; checking = b })
@@ -75,7 +74,7 @@ raising c h o d its late =
     (stamp_said e c.args.object c.args.mirror.now k late.mirrors) refl
     (late_as late (as_said e c.args.object c.args.mirror.now k late.mirrors c.args.depth c.requires.depth)) c.raise_at.ensures.raised
 
-since_raise : {g : Over} (c : After-raise_at g) → IsStartOf (only c.args.seat.now.me.0) (only c.raise_at.new.seat.me.0)
+since_raise : (c : After-raise_at) → IsStartOf (only c.args.seat.now.me.0) (only c.raise_at.new.seat.me.0)
 since_raise c =
     let e = c.args.call.now in
     let k = only c.args.seat.now.me.0 in
@@ -84,7 +83,7 @@ since_raise c =
     record { local = kept.0; kept = kept.1 }
 
 -- THE DISPLACED WORD is loaded.
-first_plan : {g : Over} (c : After-quiet-first g) → let k = only c.args.seat.now.me.0 in
+first_plan : (c : After-quiet-first) → let k = only c.args.seat.now.me.0 in
     c.quiet-first.result ≡ load c.args.call.now (Displaced k.thread (top_place c.args.object k.holds))
 first_plan c =
     let shows = c.requires.amid.late.mirrors in
@@ -92,83 +91,83 @@ first_plan c =
     let place = c.requires.place ∙ ap (top_place c.args.object) (sym shows.holds) in
     c.quiet-first.ensures ∙ λ i. with_stage Settled (quiet_plan c.args.call.now (Displaced (thread i) (place i)) Load)
 
-abbrev after_raise : {g : Over} → After-quiet-first g → After-raise_at g
+abbrev after_raise : After-quiet-first → After-raise_at
 after_raise c = c.before
 
-pub step_in_table-header-requires-clause-may : goal.step_in_table-header-requires-clause-may
-step_in_table-header-requires-clause-may g c =
-    let z = (goal.at.step_in_table-header-requires-clause-may g c).After-quiet-first in
+pub step_in_thread-header-requires-clause-may : goal.step_in_thread-header-requires-clause-may
+step_in_thread-header-requires-clause-may c =
+    let z = (goal.at.step_in_thread-header-requires-clause-may c).After-quiet-first in
     let a = c.requires.amid in may_step (raising (after_raise z) a.heap a.begun a.due a.its a.late).2 a.its (first_plan z) refl
 
-by_header : (b : Bool) {g : Over} (c : After-step_in_table-header g) → let e = c.args.call.now in let k = only c.args.seat.now.me.0 in
-    let n = c.step_in_table-header.result in (n == 0) ≡ b
+by_header : (b : Bool) (c : After-step_in_thread-header) → let e = c.args.call.now in let k = only c.args.seat.now.me.0 in
+    let n = c.step_in_thread-header.result in (n == 0) ≡ b
     → Goes c.args.setting.now e c.args.mirror.now k (unbiased_exit e (local_of k) c.args.object)
-    (only c.step_in_table-header.new.seat.me.0) (headed e (local_of k) c.args.object n b)
+    (only c.step_in_thread-header.new.seat.me.0) (headed e (local_of k) c.args.object n b)
 by_header b c is = λ h o d its late.
     let e = c.args.call.now in
     let k = local_of (only c.args.seat.now.me.0) in
-    let n = c.step_in_table-header.result in
-    let z = c.before.before in
+    let n = c.step_in_thread-header.result in
+    let z = c.before.before.before in
     let here = (raising (after_raise z) h o d its late).2 in
-    late_as (made_step here its (first_plan z) refl refl c.step_in_table-header.ensures.stepped c.step_in_table-header.ensures.seat.1
+    late_as (made_step here its (first_plan z) refl refl c.step_in_thread-header.ensures.stepped c.step_in_thread-header.ensures.seat.1
     (follow_quiet h.heap.shape h.heap.start e Settled (Displaced k.thread (top_place c.args.object k.holds)) Load n _ _ refl refl
     (λ l. refl) (λ l. refl) (λ l. refl) here.mirrors)) (ap (headed e k c.args.object n) is)
 
-since_header : {g : Over} (c : After-step_in_table-header g) → IsStartOf (only c.args.seat.now.me.0) (only c.step_in_table-header.new.seat.me.0)
+since_header : (c : After-step_in_thread-header) → IsStartOf (only c.args.seat.now.me.0) (only c.step_in_thread-header.new.seat.me.0)
 since_header c =
-    let z = c.before.before in
-    start_after (heap_in c.args.setting.now) c.step_in_table-header.result (since_raise (after_raise z)) (first_plan z)
-    c.step_in_table-header.ensures.seat.1 (record { local = refl; kept = refl })
+    let z = c.before.before.before in
+    start_after (heap_in c.args.setting.now) c.step_in_thread-header.result (since_raise (after_raise z)) (first_plan z)
+    c.step_in_thread-header.ensures.seat.1 (record { local = refl; kept = refl })
 
 -- It is 0: the record is recursive.
 pub returns-then-header-eq0-clause-leads : goal.returns-then-header-eq0-clause-leads
-returns-then-header-eq0-clause-leads g c = λ h p d its late.
+returns-then-header-eq0-clause-leads c = λ h p d its late.
     held_part (local_of (only c.args.seat.now.me.0)) parts.Held late.mirrors.thread late.mirrors.holds (λ j g shows. shows) refl
-    (by_header true (goal.at.returns-then-header-eq0-clause-leads g c).After-step_in_table-header (eq-eqb _ _ c.if-header-eq0.true) h p d its late)
+    (by_header true (goal.at.returns-then-header-eq0-clause-leads c).After-step_in_thread-header (eq-eqb _ _ c.if-header-eq0.true) h p d its late)
 
 -- It is a header: THE MARK is loaded.
-second_plan : {g : Over} (c : After-quiet-second g) → c.quiet-second.result ≡ load c.args.call.now (Mark c.args.object)
+second_plan : (c : After-quiet-second) → c.quiet-second.result ≡ load c.args.call.now (Mark c.args.object)
 second_plan c = c.quiet-second.ensures
 
-abbrev after_header : {g : Over} → After-quiet-second g → After-step_in_table-header g
+abbrev after_header : After-quiet-second → After-step_in_thread-header
 after_header c = c.before.before
 
 pub step_at-mark-requires-clause-may : goal.step_at-mark-requires-clause-may
-step_at-mark-requires-clause-may g c =
-    let z = (goal.at.step_at-mark-requires-clause-may g c).After-quiet-second in
+step_at-mark-requires-clause-may c =
+    let z = (goal.at.step_at-mark-requires-clause-may c).After-quiet-second in
     let a = amid_by c.requires.amid (by_header false (after_header z) (ne_eqb _ _ c.if-header-eq0.false)) in may_step a.late a.its (second_plan z) refl
 
-since_mark : {g : Over} (c : After-step_at-mark g) → IsStartOf (only c.args.seat.now.me.0) (only c.step_at-mark.new.seat.me.0)
+since_mark : (c : After-step_at-mark) → IsStartOf (only c.args.seat.now.me.0) (only c.step_at-mark.new.seat.me.0)
 since_mark c =
-    let z = c.before.before in
+    let z = c.before.before.before in
     start_after (heap_in c.args.setting.now) c.step_at-mark.result (since_header (after_header z)) (second_plan z)
     c.step_at-mark.ensures.seat.1 (record { local = refl; kept = refl })
 
-marked : {g : Over} (c : After-step_at-mark g) → let e = c.args.call.now in let k = only c.args.seat.now.me.0 in let j = only c.step_at-mark.new.seat.me.0 in
+marked : (c : After-step_at-mark) → let e = c.args.call.now in let k = only c.args.seat.now.me.0 in let j = only c.step_at-mark.new.seat.me.0 in
     Goes c.args.setting.now e c.args.mirror.now k (unbiased_exit e (local_of k) c.args.object)
-    j (marked_exit e (local_of j) c.args.object c.step_in_table-header.result c.step_at-mark.result)
+    j (marked_exit e (local_of j) c.args.object c.step_in_thread-header.result c.step_at-mark.result)
 marked c = λ h o d its late.
     let e = c.args.call.now in
     let n = c.step_at-mark.result in
-    let z = c.before.before in
+    let z = c.before.before.before in
     let here = by_header false (after_header z) (ne_eqb _ _ c.if-header-eq0.false) h o d its late in
     late_as (made_step here its (second_plan z) refl refl c.step_at-mark.ensures.stepped c.step_at-mark.ensures.seat.1
     (follow_quiet h.heap.shape h.heap.start e Settled (Mark c.args.object) Load n _ _ refl refl (λ l. refl) (λ l. refl) (λ l. refl) here.mirrors))
-    (ap (λ (k : Local). marked_exit e k c.args.object c.step_in_table-header.result n) (sym (since_mark c).local))
+    (ap (λ (k : Local). marked_exit e k c.args.object c.step_in_thread-header.result n) (sym (since_mark c).local))
 
 pub part_marked-requires-clause-found : goal.part_marked-requires-clause-found
-part_marked-requires-clause-found g c =
-    let z = (goal.at.part_marked-requires-clause-found g c).After-step_at-mark in
-    found_mark _ _ _ _ c.args.object _ (second_plan z.before.before) refl c.step_at-mark.ensures.stepped
+part_marked-requires-clause-found c =
+    let z = (goal.at.part_marked-requires-clause-found c).After-step_at-mark in
+    found_mark _ _ _ _ c.args.object _ (second_plan z.before.before.before) refl c.step_at-mark.ensures.stepped
 
 pub part_marked-requires-clause-amid : goal.part_marked-requires-clause-amid
-part_marked-requires-clause-amid g c = amid_by c.requires.amid (marked (goal.at.part_marked-requires-clause-amid g c).After-step_at-mark)
+part_marked-requires-clause-amid c = amid_by c.requires.amid (marked (goal.at.part_marked-requires-clause-amid c).After-step_at-mark)
 
 pub returns-clause-start : goal.returns-clause-start
-returns-clause-start g c =
-    part_keeps c.part_marked.result _ _ _ (since_mark (goal.at.returns-clause-start g c).After-step_at-mark) c.part_marked.ensures.start
+returns-clause-start c =
+    part_keeps c.part_marked.result _ _ _ (since_mark (goal.at.returns-clause-start c).After-step_at-mark) c.part_marked.ensures.start
 
 pub returns-clause-leads : goal.returns-clause-leads
-returns-clause-leads g c = λ h p d its late.
-    let z = (goal.at.returns-clause-leads g c).After-step_at-mark in
+returns-clause-leads c = λ h p d its late.
+    let z = (goal.at.returns-clause-leads c).After-step_at-mark in
     part_by (since_mark z).local (c.part_marked.ensures.leads h p d its (marked z h p d its late))

@@ -11,7 +11,7 @@ use Rattle.heap_table.specs.inner.Leaving.{IsUnnoted}
 use Rattle.heap_table.proofs.Late.{gone, knows_gone, may_step}
 use Rattle.heap_table.proofs.Mirrored.{mirrors_by}
 use Rattle.heap_table.proofs.quick_exits.release.Goals as goal
-use Rattle.heap_table.proofs.quick_exits.release.Goals.{After-logging-first, After-step_in_table}
+use Rattle.heap_table.proofs.quick_exits.release.Goals.{After-logging-first, After-step_in_monitor}
 
 first_plan : (c : After-logging-first) → c.logging-first.result
     ≡ free_plan c.args.call.now c.args.object c.args.monitor (top_place c.args.object (only c.args.seat.now.me.0).holds)
@@ -20,9 +20,9 @@ first_plan c =
     c.logging-first.ensures ∙ λ i. with_stage (Exits c.args.object (place i))
     (logging_plan (entry.Exit c.args.object) c.args.call.now (Owner c.args.monitor) (Store 0))
 
-pub step_in_table-requires-clause-may : goal.step_in_table-requires-clause-may
-step_in_table-requires-clause-may c =
-    let a = c.requires.amid in may_step a.late a.its (first_plan (goal.at.step_in_table-requires-clause-may c).After-logging-first) refl
+pub step_in_monitor-requires-clause-may : goal.step_in_monitor-requires-clause-may
+step_in_monitor-requires-clause-may c =
+    let a = c.requires.amid in may_step a.late a.its (first_plan (goal.at.step_in_monitor-requires-clause-may c).After-logging-first) refl
 
 -- It logged the exit.
 pub returns-clause-leads : goal.returns-clause-leads
@@ -30,11 +30,11 @@ returns-clause-leads c = λ h p d its late.
     let e = c.args.call.now in
     let o = c.args.object in
     let k = only c.args.seat.now.me.0 in
-    let plan = first_plan (goal.at.returns-clause-leads c).After-step_in_table.before.before in
-    let n = c.step_in_table.result in
-    let told = c.step_in_table.ensures.seat.1 in
+    let plan = first_plan (goal.at.returns-clause-leads c).After-step_in_monitor.before.before.before in
+    let n = c.step_in_monitor.result in
+    let told = c.step_in_monitor.ensures.seat.1 in
     record {
-      left = gone late.left its plan refl refl c.step_in_table.ensures.stepped told;
+      left = gone late.left its plan refl refl c.step_in_monitor.ensures.stepped told;
       thread = late.mirrors.thread;
       holds = late.mirrors.holds;
       shown = subst (IsUnnoted h.heap e o c.args.mirror.now) (sym (knows_gone late.left its plan refl n told))

@@ -29,7 +29,6 @@ use Rattle.heap_table.proofs.Loops.{binds}
 use Rattle.heap_table.proofs.LowBits.{found_mark}
 use Rattle.heap_table.proofs.Resting.{whole_due}
 use Rattle.heap_table.proofs.QuickAnswers.{enter_answered, enters_free}
-use Rattle.heap_table.proofs.heap.Heap.enter_quickly.Given.{Over}
 use Rattle.heap_table.proofs.heap.Heap.enter_quickly.Goals as goal
 use Rattle.heap_table.proofs.heap.Heap.enter_quickly.Goals.{After-quiet-first, After-step_at-mark, After-enter_marked}
 
@@ -55,7 +54,7 @@ going s k o now place calm =
       enter_tried t s (entering o now) k (entered o now))) >>= answer) calm
     ∙ binds (bias_enter_steps s (entering o now) k.local o) (λ t. enter_tried t s (entering o now) k (entered o now)) answer
 
-begun : {g : Over} (c : After-quiet-first g) → let a = c.args in let h = a.self.now in let p = a.pass.now in let k = start_now h p in
+begun : (c : After-quiet-first) → let a = c.args in let h = a.self.now in let p = a.pass.now in let k = start_now h p in
     Late h (Enter a.object a.now) p (enter_steps h.heap.shape k a.object a.now) (only c.pass.inside.seat.me.0)
     (step (load (entering a.object a.now) (Mark a.object)) (marked h.heap.shape k a.object a.now)) c.pass.inside.mirror
 unfolding steps_of
@@ -72,35 +71,35 @@ begun c =
     (going h.heap.shape (start_now h p) a.object a.now place c.requires.free.asks)
 
 -- the code's words for the heap, and for the first plan
-its_heap : {g : Over} (c : After-quiet-first g) → heap_in c.self.inside.setting ≡ c.args.self.now.heap
+its_heap : (c : After-quiet-first) → heap_in c.self.inside.setting ≡ c.args.self.now.heap
 its_heap c = ap (λ (x : HeapSeen). x.heap) c.self.view_is
 
-first_plan : {g : Over} (c : After-quiet-first g) → c.quiet-first.result ≡ load (entering c.args.object c.args.now) (Mark c.args.object)
+first_plan : (c : After-quiet-first) → c.quiet-first.result ≡ load (entering c.args.object c.args.now) (Mark c.args.object)
 first_plan c =
     c.quiet-first.ensures ∙ ap (λ (e : CallContext). with_stage Settled (quiet_plan e (Mark c.args.object) Load)) c.entering-call.ensures
 
 pub step_at-mark-requires-clause-may : goal.step_at-mark-requires-clause-may
-step_at-mark-requires-clause-may g c =
-    let z = (goal.at.step_at-mark-requires-clause-may g c).After-quiet-first in may_step (begun z) (its_heap z) (first_plan z) refl
+step_at-mark-requires-clause-may c =
+    let z = (goal.at.step_at-mark-requires-clause-may c).After-quiet-first in may_step (begun z) (its_heap z) (first_plan z) refl
 
 -- THE MARK is loaded.
-marking : {g : Over} (c : After-step_at-mark g) → let a = c.args in let h = a.self.now in let p = a.pass.now in let k = start_now h p in
+marking : (c : After-step_at-mark) → let a = c.args in let h = a.self.now in let p = a.pass.now in let k = start_now h p in
     Late h (Enter a.object a.now) p (enter_steps h.heap.shape k a.object a.now) (only c.step_at-mark.new.seat.me.0)
     (marked h.heap.shape k a.object a.now c.step_at-mark.result)
     (record c.pass.inside.mirror { unfinished = (entering a.object a.now).unfinished; checking = false })
 marking c =
     let a = c.args in
-    let z = c.before.before in
+    let z = c.before.before.before in
     let late = begun z in
     made_step late (its_heap z) (first_plan z) refl refl c.step_at-mark.ensures.stepped c.step_at-mark.ensures.seat.1
     (follow_quiet a.self.now.heap.shape a.self.now.heap.start (entering a.object a.now) Settled (Mark a.object) Load c.step_at-mark.result _ _ refl
     refl (λ l. refl) (λ l. refl) (λ l. refl) late.mirrors)
 
 -- the thread knows the mark, too
-knows_mark : {g : Over} (c : After-step_at-mark g) → let h = c.args.self.now.heap in only c.step_at-mark.new.seat.me.0
+knows_mark : (c : After-step_at-mark) → let h = c.args.self.now.heap in only c.step_at-mark.new.seat.me.0
     ≡ known_after h.shape h.start (load (entering c.args.object c.args.now) (Mark c.args.object)) c.step_at-mark.result c.args.pass.now.known
 knows_mark c =
-    let z = c.before.before in
+    let z = c.before.before.before in
     let h = c.args.self.now.heap in
     knows_step (begun z) (its_heap z) (first_plan z) refl c.step_at-mark.result c.step_at-mark.ensures.seat.1
     ∙ ap (λ (k : ThreadView). known_after h.shape h.start (load (entering c.args.object c.args.now) (Mark c.args.object)) c.step_at-mark.result k)
@@ -110,13 +109,13 @@ in_shape : (o found declared : ℕ) → found ≡ declared → o < found → nat
 in_shape o found declared same below = grind (arith, nat_tests, same, below)
 
 -- what the call took at its beginning is as it was
-keeps : {g : Over} (c : After-step_at-mark g) → IsStartOf c.args.pass.now.known (only c.step_at-mark.new.seat.me.0)
+keeps : (c : After-step_at-mark) → IsStartOf c.args.pass.now.known (only c.step_at-mark.new.seat.me.0)
 keeps c = record { local = ap local_of (knows_mark c); kept = ap (λ (k : ThreadView). k.kept) (knows_mark c) }
 
 -- the code's words for the call and the shape
-abbrev its_words : {g : Over} (c : After-step_at-mark g) →
+abbrev its_words : (c : After-step_at-mark) →
     ◌≡◌ {A = CallContext × Shape} (c.entering-call.result, c.self.inside.setting.shape) (entering c.args.object c.args.now, c.args.self.now.heap.shape)
-its_words c = λ i. (c.entering-call.ensures i, (its_heap c.before.before i).shape)
+its_words c = λ i. (c.entering-call.ensures i, (its_heap c.before.before.before i).shape)
 
 -- what is left by it
 left_by : (s : Shape) (k : Start) (o now mark : ℕ) (b : Bool) → is_biased mark ≡ b → nat_lt o s.declared ≡ true
@@ -130,12 +129,12 @@ left_by s k o now mark true pattern below =
 left_by s k o now mark false pattern below =
     ap (λ b. (if b then mark_biased s k o now mark else done (Unbiased mark)) >>= tried s k o now) pattern
 
-abbrev Left : {g : Over} (c : After-step_at-mark g) → CallContext × Shape → Type 0
+abbrev Left : (c : After-step_at-mark) → CallContext × Shape → Type 0
 Left c x = let a = c.args in let h = a.self.now in let k = start_now h a.pass.now in let mark = c.step_at-mark.result in
     Late h x.0.task a.pass.now (enter_steps h.heap.shape k a.object a.now) (only c.step_at-mark.new.seat.me.0)
     (mark_left (is_biased mark) x.1 x.0 k (entered a.object a.now) mark) (lagging x.0 c.pass.inside.mirror)
 
-left : {g : Over} (c : After-step_at-mark g) → Left c (c.entering-call.result, c.self.inside.setting.shape)
+left : (c : After-step_at-mark) → Left c (c.entering-call.result, c.self.inside.setting.shape)
 left c =
     let a = c.args in
     let h = a.self.now in
@@ -144,23 +143,23 @@ left c =
     subst (Left c) (sym (its_words c)) (late_as (marking c) (left_by h.heap.shape (start_now h a.pass.now) a.object a.now c.step_at-mark.result _ refl below))
 
 pub enter_marked-requires-clause-found : goal.enter_marked-requires-clause-found
-enter_marked-requires-clause-found g c =
-    let z = (goal.at.enter_marked-requires-clause-found g c).After-step_at-mark in
-    found_mark _ _ _ _ c.args.object _ (first_plan z.before.before) refl c.step_at-mark.ensures.stepped
+enter_marked-requires-clause-found c =
+    let z = (goal.at.enter_marked-requires-clause-found c).After-step_at-mark in
+    found_mark _ _ _ _ c.args.object _ (first_plan z.before.before.before) refl c.step_at-mark.ensures.stepped
 
 pub enter_marked-requires-clause-amid : goal.enter_marked-requires-clause-amid
-enter_marked-requires-clause-amid g c =
-    let z = (goal.at.enter_marked-requires-clause-amid g c).After-step_at-mark in
-    record { heap = c.args.self.now; begun = c.args.pass.now; due = _; its = its_heap z.before.before; local = (keeps z).local; late = left z }
+enter_marked-requires-clause-amid c =
+    let z = (goal.at.enter_marked-requires-clause-amid c).After-step_at-mark in
+    record { heap = c.args.self.now; begun = c.args.pass.now; due = _; its = its_heap z.before.before.before; local = (keeps z).local; late = left z }
 
-unchecked : {g : Over} (c : After-step_at-mark g) → c.entering-call.result.check ≡ false
+unchecked : (c : After-step_at-mark) → c.entering-call.result.check ≡ false
 unchecked c = ap (λ (e : CallContext). e.check) c.entering-call.ensures
 
 -- AFTER ALL its steps
-abbrev marked_of : {g : Over} → After-enter_marked g → After-step_at-mark g
+abbrev marked_of : After-enter_marked → After-step_at-mark
 marked_of c = c.before.before.before.before
 
-ended : {g : Over} (c : After-enter_marked g) → let a = c.args in let h = a.self.now in let k = start_now h a.pass.now in
+ended : (c : After-enter_marked) → let a = c.args in let h = a.self.now in let k = start_now h a.pass.now in
     Late h (Enter a.object a.now) a.pass.now (enter_steps h.heap.shape k a.object a.now) (only c.enter_marked.new.seat.me.0)
     (enter_left h.heap.shape (entering a.object a.now) k (entered a.object a.now) c.enter_marked.result) c.enter_marked.new.mirror
 ended c =
@@ -170,14 +169,14 @@ ended c =
     let d = enter_steps h.heap.shape (start_now h a.pass.now) a.object a.now in
     subst (λ (x : CallContext × Shape). Late h x.0.task a.pass.now d (only c.enter_marked.new.seat.me.0)
     (enter_left x.1 x.0 (start_now h a.pass.now) (entered a.object a.now) c.enter_marked.result) c.enter_marked.new.mirror) (its_words z)
-    (c.enter_marked.ensures.leads h a.pass.now d (its_heap z.before.before) (keeps z).local (left z))
+    (c.enter_marked.ensures.leads h a.pass.now d (its_heap z.before.before.before) (keeps z).local (left z))
 
 pub invariant_of-pass : goal.invariant_of-pass
-invariant_of-pass g c = (c.enter_marked.ensures.seat.1, (ended (goal.at.invariant_of-pass g c).After-enter_marked).mirrors)
+invariant_of-pass c = (c.enter_marked.ensures.seat.1, (ended (goal.at.invariant_of-pass c).After-enter_marked).mirrors)
 
 pub returns-clause-entered : goal.returns-clause-entered
-returns-clause-entered g c =
-    let z = (goal.at.returns-clause-entered g c).After-enter_marked in
+returns-clause-entered c =
+    let z = (goal.at.returns-clause-entered c).After-enter_marked in
     let view = c.pass.view_is in
     let frame = c.enter_marked.ensures.frame in
     let table = c.enter_marked.ensures.seat.0 ∙ c.step_at-mark.ensures.seat.0 ∙ ap (λ (x : PassSeen). x.table) view in
@@ -189,8 +188,8 @@ returns-clause-entered g c =
     (keeps (marked_of z)) c.enter_marked.ensures.start (ended z)
 
 pub returns-clause-free : goal.returns-clause-free
-returns-clause-free g c =
-    let z = (goal.at.returns-clause-free g c).After-enter_marked in
+returns-clause-free c =
+    let z = (goal.at.returns-clause-free c).After-enter_marked in
     enters_free c.entering-call.result c.args.pass.now.known _ c.pass.inside.mirror c.enter_marked.new.mirror c.enter_marked.result c.requires.free
     (subst (Mirrors c.pass.inside.mirror) (ap (λ (x : PassSeen). x.known) c.pass.view_is) c.pass.invariant.1) (ended z).mirrors
     c.enter_marked.ensures.frame (unchecked (marked_of z)) c.enter_marked.ensures.idle
