@@ -5,12 +5,12 @@ ghost use Rattle.mark_word.specs.Mark.{read_mark};
 ghost use Rattle.core_world.specs.Threads.ThreadView.{local_of};
 ghost use Rattle.core_world.specs.Words.Forms.{is_biased};
 ghost use Rattle.heap_table.specs.Layout.{word_count};
-ghost use Rattle.heap_table.specs.Quick.{entered, entering};
+ghost use Rattle.heap_table.specs.Quick.{entered};
 ghost use Rattle.heap_table.specs.Ruled.{heap_in, only};
 ghost use Rattle.heap_table.specs.inner.Amid.{Awaits, AwaitsSince, EntersIdle, IsIdle, IsSameFrame, KeepsStart, Leads, LeadsSince, MayHold};
 ghost use Rattle.heap_table.specs.inner.Amid.{enter_left, hold_end, lagging, mark_left, seized_left, taken};
 
-use crate::call_context::{CallContext, entering};
+use crate::call_context::CallContext;
 use crate::mirror::Mirror;
 use crate::plans::{logging, quiet};
 use crate::quick::QuickEnter;
@@ -91,7 +91,6 @@ fn end_enter(
     requires setting { (words.now.shared.key ≡ setting.now)
         × (words.now.shared.table_id.words ≡ word_count setting.now.shape) }
     requires seat { (seat.old.table_id ≡ words.now.shared.table_id) × (seat.old.me ≡ (only seat.old.me.0 ∷ [], [])) }
-    requires its { call.now ≡ entering object now }
     requires may { MayHold setting.now.shape call.now mirror.old object word at }
     requires amid { AwaitsSince setting.now call.now mirror.old (only seat.old.me.0)
         (λ start. seized_left setting.now.shape call.now start (entered object now) how) }
@@ -107,8 +106,7 @@ fn end_enter(
         QuickEnter::Done { path } => {
             take_hold(words, setting, seat, mirror, call, object, word, at, path);
         }
-        // The call is made anew here, so that nothing of it is kept for this on the common way.
-        _ => mirror.stays_amid(&entering(object, now)),
+        _ => mirror.stays_amid(call),
     }
 }
 
@@ -129,7 +127,6 @@ pub fn enter_marked(
     requires setting { (words.now.shared.key ≡ setting.now)
         × (words.now.shared.table_id.words ≡ word_count setting.now.shape) }
     requires seat { (seat.old.table_id ≡ words.now.shared.table_id) × (seat.old.me ≡ (only seat.old.me.0 ∷ [], [])) }
-    requires its { call.now ≡ entering object now }
     requires may { MayHold setting.now.shape call.now mirror.old object word at }
     requires declared { object < setting.now.shape.declared }
     requires found { read_mark mark ≢ None }

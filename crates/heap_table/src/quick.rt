@@ -5,7 +5,7 @@ ghost use Rattle.core_world.specs.declared.heap_call.HeapCall.TheVariants.{Enter
 ghost use Rattle.heap_table.specs.Quick.{EntersFree, HasEntered, HasLeft, IsFree, LeavesFree, entering, leaving};
 ghost use Rattle.heap_table.specs.Resting.{MayOperate};
 
-use crate::call_context::{CallContext, entering};
+use crate::call_context::CallContext;
 use crate::heap::Heap;
 use crate::holding::enter_marked;
 use crate::leaving::leave_marked;
@@ -53,6 +53,21 @@ pub enum QuickExit {
         owner: u64,
         place: u32,
     },
+}
+
+/// The call of an enter.
+#[inline(always)]
+fn entering(object: u32, now: u64) -> CallContext
+    ensures { result ≡ entering object now }
+{
+    CallContext {
+        task: HeapCall::Enter { object, now },
+        unfinished: Some(Unfinished {
+            op: Operation::Enter,
+            object,
+        }),
+        check: false,
+    }
 }
 
 /// The call of an exit.

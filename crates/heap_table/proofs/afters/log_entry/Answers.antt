@@ -1,5 +1,6 @@
+use Rattle.plain_monitor.specs.declared.entry.Entry.{Entry}
 use Rattle.core_world.specs.declared.plan.LogEffect.TheVariants.{Log}
-use Rattle.std.proofs.Common.{refl}
+use Rattle.std.proofs.Common.{◌∙◌, refl, arith}
 use Rattle.heap_table.proofs.Follow.{noted}
 use Rattle.heap_table.proofs.afters.log_entry.Goals as goal
 

@@ -5,14 +5,13 @@ use Rattle.core_world.specs.Threads.Stages.{Revocation}
 use Rattle.core_world.specs.Threads.ThreadView.{ThreadView, Local, Start}
 use Rattle.core_world.specs.Trees.Plans.{CallContext}
 use Rattle.core_world.specs.Words.Shape.{Shape}
-use Rattle.heap_table.specs.Kept.{Mirrors}
 use Rattle.heap_table.specs.Quick.{entered}
 use Rattle.heap_table.specs.Resting.{start_now}
 use Rattle.heap_table.specs.Ruled.{only}
 use Rattle.heap_table.specs.declared.mirror.Mirror.{Mirror}
 use Rattle.heap_table.specs.declared.quick.QuickEnter.{QuickEnter}
 use Rattle.heap_table.specs.declared.quick.QuickEnter.TheVariants as enters
-use Rattle.heap_table.specs.inner.Amid.{EntersIdle, KeepsStart, enter_left, hold_end, lagging, seized_left}
+use Rattle.heap_table.specs.inner.Amid.{EntersIdle, KeepsStart, enter_left, hold_end, seized_left}
 use Rattle.heap_table.proofs.Late.{late_as}
 use Rattle.heap_table.proofs.holding.end_enter.Goals as goal
 
@@ -91,8 +90,4 @@ pub returns-in_default-clause-leads : goal.returns-in_default-clause-leads
 returns-in_default-clause-leads c = λ h o d its local late.
     let k = start_now h o in
     let left = late_as late (left_as_found c.args.how c.in_default.not-Done c.args.setting.now.shape c.args.call.now k (entered c.args.object c.args.now)) in
-    let its = c.requires.its ∙ sym c.entering.ensures in
-    record {
-      left = left.left;
-      mirrors = c.stays_amid.ensures.shows _ (subst (λ (e : CallContext). Mirrors (lagging e c.args.mirror.now) (only c.args.seat.now.me.0)) its left.mirrors);
-    }
+    record { left = left.left; mirrors = c.stays_amid.ensures.shows _ left.mirrors }

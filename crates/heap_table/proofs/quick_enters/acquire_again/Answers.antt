@@ -1,5 +1,5 @@
 -- The recursions are found and raised: the record is left to get its word.
-use Rattle.std.proofs.Common.{◌+◌, refl, arith}
+use Rattle.std.proofs.Common.{◌+◌, refl, sym, ap, ◌∙◌, arith}
 use Rattle.plain_monitor.specs.declared.entry.Path.TheVariants.{MonitorAgain}
 use Rattle.core_world.specs.declared.act.Act.TheVariants.{Load, Store}
 use Rattle.core_world.specs.declared.stage.Stage.TheVariants.{RecursionsRaised, Settled}

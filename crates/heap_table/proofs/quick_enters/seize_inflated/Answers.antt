@@ -1,8 +1,9 @@
 -- Where the monitor is acquired, the record gets its word.
 use Rattle.std.proofs.Common.{◌≡◌, refl, sym, ap, ◌∙◌}
 use Rattle.plain_monitor.specs.declared.entry.Path.{Path}
+use Rattle.core_world.specs.declared.stage.Stage.{Stage}
 use Rattle.core_world.specs.Threads.Stages.{Revocation}
-use Rattle.core_world.specs.Threads.ThreadView.{Local, Start}
+use Rattle.core_world.specs.Threads.ThreadView.{Local, Start, local_of}
 use Rattle.core_world.specs.Trees.Plans.{CallContext}
 use Rattle.core_world.specs.Words.Shape.{Shape}
 use Rattle.heap_table.specs.Quick.{entered}
