@@ -3,7 +3,7 @@ ghost use Rattle.std.specs.Prelude.{◌≡◌, ◌+◌, ◌^◌, ◌<◌, ◌≤
 ghost use Rattle.plain_monitor.specs.declared.entry.Logged.{Logged as LoggedSeen};
 ghost use Rattle.mark_word.specs.Safe.{read_safe};
 ghost use Rattle.core_world.specs.Threads.ThreadView.{ThreadView};
-ghost use Rattle.core_world.specs.Steps.{kept_after, saved_after, unfinished_after, runs_after, asks_after, reached_after, halted_after, is_taking, stamp_by, holds_after, wait_after, published_after, log_after, with_entry};
+ghost use Rattle.core_world.specs.Steps.{kept_after, saved_after, unfinished_after, runs_after, asks_after, reached_after, halted_after, is_taking, stamp_by, holds_after, wait_after, published_after, log_after};
 ghost use Rattle.plain_monitor.specs.Limits.{most_threads};
 ghost use Rattle.plain_monitor.specs.Monitor.{is_thread};
 ghost use Rattle.plain_monitor.specs.History.{last_stamp};
@@ -275,35 +275,6 @@ fn keep_entry(keeps: bool, given: &mut u64, length: &mut u64, log: &mut Vec<Logg
     *length += 1;
 }
 
-/// Adds this entry, of a step that found this word, to the page of the log, where entries are kept, and keeps its stamp as the log's last one.
-#[inline(always)]
-pub fn log_entry(
-    keeps: bool,
-    given: &mut u64,
-    length: &mut u64,
-    log: &mut Vec<Logged>,
-    last: &mut u64,
-    entry: Entry,
-    found: u64,
-)
-    requires room { keeps ≡ true → vec_len log.old < vec_capacity log.old }
-    requires few { given.old + 1 < 2 ^ 42 }
-    requires short { length.old + 1 < 2 ^ 64 }
-    requires stamp { stamp_by entry found last.old < 2 ^ 64 }
-    ensures log { (all : List LoggedSeen) → IsPageFrom keeps given.old all log.old.items → last_stamp all ≡ last.old
-        → IsPageFrom keeps given.new (with_entry entry found all) log.new.items × (last_stamp (with_entry entry found all) ≡ last.new) }
-    ensures room { vec_capacity log.new ≡ vec_capacity log.old }
-    ensures within { (limit : ℕ) → (keeps ≡ true → vec_len log.old < limit) → vec_len log.old ≤ limit → vec_len log.new ≤ limit }
-    ensures few { given.new < 2 ^ 42 }
-    ensures limit { (room : ℕ) → limit_by keeps given.new room ≡ limit_by keeps given.old room }
-    ensures end { (room : ℕ) → end_by keeps given.new room ≡ end_by keeps given.old room }
-    ensures whole { length.old ≡ given.old + vec_len log.old → length.new ≡ given.new + vec_len log.new }
-{
-    let stamp = stamp_next(&entry, found, *last);
-    keep_entry(keeps, given, length, log, Logged { stamp, entry });
-    *last = stamp;
-}
-
 /// Adds the entry that the step logs, if it logs one, to the page of the log, where entries are kept, and keeps its stamp as the log's last
 /// one.
 #[inline(always)]
@@ -332,6 +303,8 @@ pub fn note_entry(
     ensures whole { length.old ≡ given.old + vec_len log.old → length.new ≡ given.new + vec_len log.new }
 {
     if let Some(entry) = entry_next(note, found) {
-        log_entry(keeps, given, length, log, last, entry, found);
+        let stamp = stamp_next(&entry, found, *last);
+        keep_entry(keeps, given, length, log, Logged { stamp, entry });
+        *last = stamp;
     }
 }

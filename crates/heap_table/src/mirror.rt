@@ -9,8 +9,8 @@ ghost use Rattle.heap_table.specs.LogEnds.{end_by};
 ghost use Rattle.heap_table.specs.Tallies.{counts_shown};
 
 use crate::afters::{
-    Stand, halted_next, keep_next, log_entry, looked_at, note_entry, published_next, saved_next,
-    stand_next, store_hold, unfinished_next, wait_next,
+    Stand, halted_next, keep_next, looked_at, note_entry, published_next, saved_next, stand_next,
+    store_hold, unfinished_next, wait_next,
 };
 use crate::call_context::CallContext;
 use crate::counts::{ClassCounts, NO_COUNTS, count_next};
@@ -18,7 +18,7 @@ use crate::draws::{Drawing, draw_next};
 use crate::holds::Holds;
 use crate::made::made_next;
 use crate::shots::Shots;
-use core_world::{LocalEffect, StepPlan, Unfinished, apply};
+use core_world::{LocalEffect, LogEffect, StepPlan, Unfinished, apply};
 use plain_monitor::{Entry, Logged};
 use std::alloc::{AllocError, Global};
 use std::mem;
@@ -294,13 +294,13 @@ impl Mirror {
         ensures frame { IsSameFrame self.old self.new }
         ensures same { (self.new.holds ≡ self.old.holds) × (self.new.unfinished ≡ self.old.unfinished) × (self.new.checking ≡ self.old.checking) }
     {
-        log_entry(
+        note_entry(
             self.keeps,
             &mut self.given,
             &mut self.length,
             &mut self.log,
             &mut self.last,
-            entry,
+            &LogEffect::Log { entry },
             found,
         );
     }

@@ -9,8 +9,8 @@ ghost use Rattle.heap_table.specs.Layout.{place_of, word_count};
 ghost use Rattle.heap_table.specs.Quick.{entered};
 ghost use Rattle.heap_table.specs.Ruled.{only};
 ghost use Rattle.heap_table.specs.inner.Amid.{Awaits, AwaitsSince, Goes, GoesSince, IsStartOf, MaySeize};
-ghost use Rattle.heap_table.specs.inner.Amid.{acquired_by, acquired_end, acquired_left, again_enter, biased_left, first_enter, hold_end, mark_left};
-ghost use Rattle.heap_table.specs.inner.Amid.{monitor_enter, monitor_left, record_left, recorded_end, seized_left, unbiased_enter};
+ghost use Rattle.heap_table.specs.inner.Amid.{again_enter, biased_left, first_enter, hold_end, mark_left, monitor_enter, monitor_left};
+ghost use Rattle.heap_table.specs.inner.Amid.{record_left, recorded_end, seized_left, unbiased_enter};
 ghost use Rattle.plain_monitor.specs.declared.entry.Path.TheVariants.{MonitorAgain};
 ghost use Rattle.core_world.specs.Trees.Plans.{free_place};
 
@@ -109,7 +109,7 @@ fn seize_by_record(
 // By this monitor, which the mark names: its owner word is exchanged from free. The answer is the other owner word that the exchange found, or none
 // where the thread owns the monitor.
 #[inline(always)]
-fn acquire_free(
+fn seize_by_monitor(
     words: &Words,
     setting: &Setting,
     seat: &mut Place,
@@ -141,12 +141,24 @@ fn acquire_free(
     if found != 0 {
         return Some(found);
     }
+    displace(
+        words,
+        setting,
+        seat,
+        mirror,
+        call,
+        stage,
+        object,
+        3,
+        Path::MonitorFirst,
+    );
     None
 }
 
-// By this monitor, which the thread owns: the recursions rise.
-#[inline(always)]
-fn acquire_again(
+// By this monitor, which the thread owns: the recursions rise. It is a function of its own, so that all other ways are built into one: a function that would
+// grow larger yet isn't.
+#[inline(never)]
+fn seize_again(
     words: &Words,
     setting: &Setting,
     seat: &mut Place,
@@ -165,7 +177,7 @@ fn acquire_again(
     ensures start { IsStartOf (only seat.old.me.0) (only seat.new.me.0) }
     ensures leads { Goes setting.now call.now mirror.now
         (only seat.old.me.0) (again_enter call.now (local_of (only seat.old.me.0)) object monitor)
-        (only seat.new.me.0) (acquired_end call.now (local_of (only seat.old.me.0)) object MonitorAgain) }
+        (only seat.new.me.0) (hold_end call.now (local_of (only seat.old.me.0)) object MonitorAgain) }
 {
     let count = WordId::Recursions { monitor };
     let first = quiet(call, Stage::Settled, count, Act::Load);
@@ -174,58 +186,17 @@ fn acquire_again(
     let raised = recursions + 1;
     let second = quiet(call, stage, count, Act::Store { word: raised });
     step_in_monitor(words, setting, seat, &second);
-}
-
-// By this monitor, which the mark names, up to where it is acquired.
-#[inline(always)]
-fn acquire(
-    words: &Words,
-    setting: &Setting,
-    seat: &mut Place,
-    mirror: &Mirror,
-    call: &CallContext,
-    object: u32,
-    now: u64,
-    monitor: u32,
-) -> QuickEnter
-    requires setting { (words.now.shared.key ≡ setting.now)
-        × (words.now.shared.table_id.words ≡ word_count setting.now.shape) }
-    requires seat { (seat.old.table_id ≡ words.now.shared.table_id) × (seat.old.me ≡ (only seat.old.me.0 ∷ [], [])) }
-    requires may { MaySeize mirror.now }
-    requires amid { AwaitsSince setting.now call.now mirror.now (only seat.old.me.0)
-        (λ start. monitor_enter call.now start.local object monitor) }
-    ensures seat { (seat.new.table_id ≡ seat.old.table_id) × (seat.new.me ≡ (only seat.new.me.0 ∷ [], [])) }
-    ensures start { IsStartOf (only seat.old.me.0) (only seat.new.me.0) }
-    ensures leads { GoesSince setting.now call.now mirror.now
-        (only seat.old.me.0) (λ start. monitor_enter call.now start.local object monitor)
-        (only seat.new.me.0) (λ start. acquired_left setting.now.shape call.now start (entered object now) result) }
-{
-    match acquire_free(words, setting, seat, mirror, call, object, monitor) {
-        None => QuickEnter::Done {
-            path: Path::MonitorFirst,
-        },
-        Some(found) => {
-            let thread = mirror.thread;
-            if found == encode_owner(&OwnerForm::ByThread { thread }) {
-                acquire_again(words, setting, seat, mirror, call, object, monitor);
-                return QuickEnter::Done {
-                    path: Path::MonitorAgain,
-                };
-            }
-            QuickEnter::Taken { monitor, found }
-        }
-    }
-}
-
-// The stage of a thread that has acquired a monitor by this path.
-#[inline(always)]
-fn acquired_by(path: Path, object: u32) -> Stage
-    ensures { result ≡ acquired_by path object }
-{
-    match path {
-        Path::MonitorAgain => Stage::RecursionsRaised { object },
-        _ => Stage::MonitorAcquired { object },
-    }
+    displace(
+        words,
+        setting,
+        seat,
+        mirror,
+        call,
+        stage,
+        object,
+        3,
+        Path::MonitorAgain,
+    );
 }
 
 // By this monitor, which the mark names.
@@ -252,13 +223,21 @@ fn seize_inflated(
         (only seat.old.me.0) (λ start. monitor_enter call.now start.local object monitor)
         (only seat.new.me.0) (λ start. seized_left setting.now.shape call.now start (entered object now) result) }
 {
-    let how = acquire(words, setting, seat, mirror, call, object, now, monitor);
-    let QuickEnter::Done { path } = how else {
-        return how;
-    };
-    let stage = acquired_by(path, object);
-    displace(words, setting, seat, mirror, call, stage, object, 3, path);
-    how
+    match seize_by_monitor(words, setting, seat, mirror, call, object, monitor) {
+        None => QuickEnter::Done {
+            path: Path::MonitorFirst,
+        },
+        Some(found) => {
+            let thread = mirror.thread;
+            if found == encode_owner(&OwnerForm::ByThread { thread }) {
+                seize_again(words, setting, seat, mirror, call, object, monitor);
+                return QuickEnter::Done {
+                    path: Path::MonitorAgain,
+                };
+            }
+            QuickEnter::Taken { monitor, found }
+        }
+    }
 }
 
 // By a mark without the bias pattern.

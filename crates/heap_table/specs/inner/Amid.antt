@@ -5,7 +5,7 @@ use Rattle.mark_word.specs.Owner.{read_owner}
 use Rattle.plain_monitor.specs.Limits.{most_holds}
 use Rattle.plain_monitor.specs.declared.entry.Entry.{Entry}
 use Rattle.plain_monitor.specs.declared.entry.Path.{Path}
-use Rattle.plain_monitor.specs.declared.entry.Path.TheVariants.{MonitorAgain, MonitorFirst, StackFirst}
+use Rattle.plain_monitor.specs.declared.entry.Path.TheVariants.{MonitorFirst, StackFirst}
 use Rattle.core_world.specs.declared.answer.IllegalMonitorState.{IllegalMonitorState}
 use Rattle.core_world.specs.declared.answer.Progress.{Progress}
 use Rattle.core_world.specs.declared.answer.PendingCause.TheVariants as why
@@ -20,7 +20,6 @@ use Rattle.core_world.specs.Steps.{draws_after, holds_after, published_after, wa
 use Rattle.core_world.specs.Locks.{hold_count}
 use Rattle.core_world.specs.Threads.Stages.{Revocation}
 use Rattle.core_world.specs.declared.stage.Stage.{Stage}
-use Rattle.core_world.specs.declared.stage.Stage.TheVariants.{MonitorAcquired, RecursionsRaised}
 use Rattle.core_world.specs.Threads.ThreadView.{ThreadView, Local, Start, local_of}
 use Rattle.core_world.specs.Trees.LockSteps.{clear_plan, displace_plan, hold_plan, leave_plan, log_enter_plan, stack_exit_at, stack_exit_by, stack_exit_steps}
 use Rattle.core_world.specs.Trees.LockSteps.{stack_first_steps}
@@ -149,18 +148,9 @@ record_left e k o mark (Some found) = done (Ok (Pending (why.Raced mark found)))
 abbrev pub owner_entered : CallContext → Local → ℕ → ℕ → ℕ → EnterTree
 owner_entered e k o m found = monitor_enter_at (read_owner found) e k o m found >>= answer
 
--- The stage of a thread that has acquired a monitor by this path.
-abbrev pub acquired_by : Path → ℕ → Stage
-acquired_by MonitorAgain o = RecursionsRaised o
-acquired_by _ o = MonitorAcquired o
-
--- The monitor is acquired: the record gets a word that is no header.
-abbrev pub acquired_end : CallContext → Local → ℕ → Path → EnterTree
-acquired_end e k o path = recorded_end e (acquired_by path o) k o 3 path
-
--- It was free, and is acquired, or it was not.
+-- It was free, and the hold is left to take, or it was not.
 abbrev pub monitor_left : CallContext → Local → ℕ → ℕ → Option ℕ → EnterTree
-monitor_left e k o m None = acquired_end e k o MonitorFirst
+monitor_left e k o m None = hold_end e k o MonitorFirst
 monitor_left e k o m (Some found) = owner_entered e k o m found
 
 abbrev pub prototype_left : Shape → CallContext → Start → Revocation → ℕ → ℕ → EnterTree
@@ -192,11 +182,6 @@ enter_left s e k b (enters.Taken m found) = owner_entered e k.local b.object m f
 abbrev pub seized_left : Shape → CallContext → Start → Revocation → QuickEnter → EnterTree
 seized_left s e k b (enters.Done path) = hold_end e k.local b.object path
 seized_left s e k b r = enter_left s e k b r
-
--- What is left before the record gets its word, where a monitor is acquired.
-abbrev pub acquired_left : Shape → CallContext → Start → Revocation → QuickEnter → EnterTree
-acquired_left s e k b (enters.Done path) = acquired_end e k.local b.object path
-acquired_left s e k b r = enter_left s e k b r
 
 -- where it isn't over, the call goes on with what it took of its thread's knowledge at its beginning
 abbrev pub KeepsStart : QuickEnter → ThreadView → ThreadView → Type 0

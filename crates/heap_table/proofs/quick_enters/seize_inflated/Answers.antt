@@ -1,55 +1,79 @@
--- Where the monitor is acquired, the record gets its word.
-use Rattle.std.proofs.Common.{◌≡◌, refl, sym, ap, ◌∙◌}
-use Rattle.plain_monitor.specs.declared.entry.Path.{Path}
-use Rattle.core_world.specs.declared.stage.Stage.{Stage}
-use Rattle.core_world.specs.Threads.Stages.{Revocation}
-use Rattle.core_world.specs.Threads.ThreadView.{Local, Start, local_of}
+-- The monitor was free, or is the thread's own, or another's.
+use Rattle.std.proofs.Common.{◌≡◌, ℕ, sym, ap, ◌∙◌}
+use Rattle.mark_word.specs.Owner.{owner_of}
+use Rattle.mark_word.specs.declared.owner.OwnerForm.TheVariants.{ByThread}
+use Rattle.plain_monitor.specs.declared.entry.Path.TheVariants.{MonitorAgain, MonitorFirst}
+use Rattle.core_world.specs.declared.heap_call.HeapCall.{HeapCall}
+use Rattle.core_world.specs.Threads.ThreadView.{ThreadView, Local, local_of}
 use Rattle.core_world.specs.Trees.Plans.{CallContext}
-use Rattle.core_world.specs.Words.Shape.{Shape}
-use Rattle.heap_table.specs.Quick.{entered}
-use Rattle.heap_table.specs.Resting.{start_now}
-use Rattle.heap_table.specs.declared.quick.QuickEnter.{QuickEnter}
-use Rattle.heap_table.specs.declared.quick.QuickEnter.TheVariants as enters
-use Rattle.heap_table.specs.inner.Amid.{acquired_left, hold_end, recorded_end, seized_left}
-use Rattle.heap_table.proofs.Late.{late_as}
+use Rattle.heap_table.specs.Seen.{HeapSeen, PassSeen}
+use Rattle.heap_table.specs.declared.mirror.Mirror.{Mirror}
+use Rattle.heap_table.specs.declared.setting.Setting.{Setting}
+use Rattle.heap_table.specs.inner.Amid.{EnterTree, Goes, IsStartOf, Late, again_enter, hold_end, lagging, monitor_enter, owner_entered}
+use Rattle.heap_table.specs.Ruled.{heap_in}
+use Rattle.heap_table.proofs.HoldEnds.{own_found}
+use Rattle.heap_table.proofs.Late.{late_as, start_since}
 use Rattle.heap_table.proofs.quick_enters.seize_inflated.Goals as goal
 
--- IT IS ACQUIRED.
-pub displace-requires-clause-amid : goal.displace-requires-clause-amid
-displace-requires-clause-amid c =
+-- its steps, in the words of what the thread knows
+since : {h : HeapSeen} {t : HeapCall} {o : PassSeen} {d : EnterTree} {k : ThreadView} {m : Mirror} (e : CallContext) (i n : ℕ)
+    → local_of k ≡ local_of o.known → Late h t o d k (monitor_enter e (local_of o.known) i n) m → Late h t o d k (monitor_enter e (local_of k) i n) m
+since e i n local late = late_as late (ap (λ (l : Local). monitor_enter e l i n) (sym local))
+
+pub seize_by_monitor-requires-clause-amid : goal.seize_by_monitor-requires-clause-amid
+seize_by_monitor-requires-clause-amid c =
     let a = c.requires.amid in
-    let acquired = c.in-Done.ensures in
-    let local = sym (acquired.start.local ∙ a.local) in
     record {
       heap = a.heap;
       begun = a.begun;
       due = a.due;
       its = a.its;
-      late = late_as (acquired.leads a.heap a.begun a.due a.its a.local a.late)
-          (λ i. recorded_end c.args.call.now (sym c.acquired_by-stage.ensures i) (local i) c.args.object 3 c.in-Done.path);
+      late = since c.args.call.now c.args.object c.args.monitor a.local a.late;
     }
 
-pub returns-clause-leads : goal.returns-clause-leads
-returns-clause-leads c = λ h o d its local late.
+-- It was free.
+pub returns-in-None-clause-leads : goal.returns-in-None-clause-leads
+returns-in-None-clause-leads c = λ h o d its local late.
     let e = c.args.call.now in
-    let acquired = c.in-Done.ensures in
-    let same = acquired.start.local ∙ local in
-    let path = c.in-Done.path in
-    let recorded = late_as (acquired.leads h o d its local late)
-    (λ i. recorded_end e (sym c.acquired_by-stage.ensures i) (sym same i) c.args.object 3 path) in
-    late_as (c.displace.ensures.leads h o d its recorded) (ap (λ (l : Local). hold_end e l c.args.object path) same)
+    late_as (c.in-None.ensures.leads h o d its (since e c.args.object c.args.monitor local late))
+    (ap (λ (l : Local). hold_end e l c.args.object MonitorFirst) local)
 
--- IT ISN'T.
-left_as_found : (r : QuickEnter) → ((path : Path) → r ≡ enters.Done path → ⊥) → (s : Shape) (e : CallContext) (k : Start) (b : Revocation)
-    → acquired_left s e k b r ≡ seized_left s e k b r
-left_as_found (enters.Done path) other s e k b = absurd (other path refl)
-left_as_found enters.Not other s e k b = refl
-left_as_found (enters.Raced mark found) other s e k b = refl
-left_as_found (enters.Unbiased mark) other s e k b = refl
-left_as_found (enters.Biased mark prototype) other s e k b = refl
-left_as_found (enters.Taken m found) other s e k b = refl
+-- It is the thread's own: the recursions are left to raise.
+owned : (g : Setting) (e : CallContext) (i n : ℕ) (k j : ThreadView) (m : Mirror) (owner : ℕ) → IsStartOf k j → owner ≡ owner_of (ByThread m.thread)
+    → Goes g e m k (monitor_enter e (local_of k) i n) j (owner_entered e (local_of k) i n owner)
+    → (h : HeapSeen) (o : PassSeen) (d : EnterTree) → heap_in g ≡ h.heap → local_of k ≡ local_of o.known
+    → Late h e.task o d k (monitor_enter e (local_of o.known) i n) (lagging e m) → Late h e.task o d j (again_enter e (local_of j) i n) (lagging e m)
+owned g e i n k j m owner start own found h o d its local late =
+    late_as (found h o d its (since e i n local late)) (own_found e (local_of k) i n m.thread owner m.low (sym late.mirrors.thread) own
+    ∙ ap (λ (x : Local). again_enter e x i n) (sym start.local))
 
-pub returns-in_default-clause-leads : goal.returns-in_default-clause-leads
-returns-in_default-clause-leads c = λ h o d its local late.
-    late_as (c.acquire-how.ensures.leads h o d its local late)
-    (left_as_found c.acquire-how.result c.in_default.not-Done c.args.setting.now.shape c.args.call.now (start_now h o) (entered c.args.object c.args.now))
+pub seize_again-requires-clause-amid : goal.seize_again-requires-clause-amid
+seize_again-requires-clause-amid c =
+    let a = c.requires.amid in
+    let own = c.if-found-encode_owner.true ∙ c.encode_owner.ensures in
+    record {
+      heap = a.heap;
+      begun = a.begun;
+      due = a.due;
+      its = a.its;
+      late = owned c.args.setting.now c.args.call.now c.args.object c.args.monitor _ _ c.args.mirror.now _ c.in-Some.ensures.start own c.in-Some.ensures.leads
+          a.heap a.begun a.due a.its a.local a.late;
+    }
+
+pub returns-then-found-encode_owner-clause-start : goal.returns-then-found-encode_owner-clause-start
+returns-then-found-encode_owner-clause-start c = start_since c.in-Some.ensures.start c.seize_again.ensures.start
+
+pub returns-then-found-encode_owner-clause-leads : goal.returns-then-found-encode_owner-clause-leads
+returns-then-found-encode_owner-clause-leads c = λ h o d its local late.
+    let e = c.args.call.now in
+    let own = c.if-found-encode_owner.true ∙ c.encode_owner.ensures in
+    late_as (c.seize_again.ensures.leads h o d its (owned c.args.setting.now e c.args.object c.args.monitor _ _ c.args.mirror.now _ c.in-Some.ensures.start own
+    c.in-Some.ensures.leads h o d its local late))
+    (ap (λ (l : Local). hold_end e l c.args.object MonitorAgain) (c.in-Some.ensures.start.local ∙ local))
+
+-- It is another's.
+pub returns-else-found-encode_owner-clause-leads : goal.returns-else-found-encode_owner-clause-leads
+returns-else-found-encode_owner-clause-leads c = λ h o d its local late.
+    let e = c.args.call.now in
+    late_as (c.in-Some.ensures.leads h o d its (since e c.args.object c.args.monitor local late))
+    (ap (λ (l : Local). owner_entered e l c.args.object c.args.monitor c.in-Some.found) local)

@@ -1,4 +1,4 @@
--- The owner word is exchanged.
+-- The owner word is exchanged, and then the record gets its word.
 use Rattle.std.proofs.Common.{◌≡◌, false, Option, Some, refl, sym, ap, ◌∙◌, eq-eqb, ne_eqb}
 use Rattle.mark_word.specs.declared.owner.OwnerForm.{OwnerForm}
 use Rattle.mark_word.specs.declared.owner.OwnerForm.TheVariants.{ByThread, Free}
@@ -7,18 +7,18 @@ use Rattle.plain_monitor.specs.declared.entry.Path.TheVariants.{MonitorFirst}
 use Rattle.core_world.specs.declared.act.Act.TheVariants.{CompareExchange}
 use Rattle.core_world.specs.declared.stage.Stage.TheVariants.{MonitorAcquired}
 use Rattle.core_world.specs.declared.word_id.WordId.TheVariants.{Owner}
-use Rattle.core_world.specs.Threads.ThreadView.{local_of}
+use Rattle.core_world.specs.Threads.ThreadView.{Local, local_of}
 use Rattle.core_world.specs.Trees.MonitorSteps.{grab_plan, monitor_enter_at}
 use Rattle.core_world.specs.Trees.Operations.{answer}
 use Rattle.core_world.specs.Trees.Plans.{quiet_plan, with_stage}
 use Rattle.core_world.specs.Trees.StepTree.{◌>>=◌}
 use Rattle.core_world.specs.Words.Acts.{hits}
 use Rattle.heap_table.specs.Ruled.{heap_in, only}
-use Rattle.heap_table.specs.inner.Amid.{Goes, IsStartOf, acquired_end, monitor_enter}
+use Rattle.heap_table.specs.inner.Amid.{Goes, IsStartOf, hold_end, monitor_enter, recorded_end}
 use Rattle.heap_table.proofs.HoldEnds.{recorded_ended, not_entering}
-use Rattle.heap_table.proofs.Late.{exchange_keeps, keeps_start, late_as, may_step, made_step, follow_missed, follow_quiet}
-use Rattle.heap_table.proofs.quick_enters.acquire_free.Goals as goal
-use Rattle.heap_table.proofs.quick_enters.acquire_free.Goals.{After-quiet-first, After-step_in_monitor-found}
+use Rattle.heap_table.proofs.Late.{amid_by, exchange_keeps, keeps_start, late_as, may_step, made_step, follow_missed, follow_quiet, start_since}
+use Rattle.heap_table.proofs.quick_enters.seize_by_monitor.Goals as goal
+use Rattle.heap_table.proofs.quick_enters.seize_by_monitor.Goals.{After-quiet-first, After-step_in_monitor-found}
 
 -- THE OWNER WORD is exchanged.
 first_plan : (c : After-quiet-first) → c.quiet-first.result ≡ grab_plan c.args.call.now (only c.args.seat.now.me.0).thread c.args.object c.args.monitor
@@ -55,14 +55,15 @@ returns-then-found-ne0-clause-leads c = λ h o d its late.
     made_step late its (first_plan y) refl refl c.step_in_monitor-found.ensures.stepped c.step_in_monitor-found.ensures.seat.1
     (follow_missed h.heap.shape h.heap.start plan n _ _ other refl late.mirrors)
 
--- It hit: the record is left to get its word.
+-- It hit: the record gets its word.
 is_free : read_owner 0 ≡ Some Free
 unfolding read_owner
 is_free = refl
 
 acquired : (c : After-step_in_monitor-found) → c.step_in_monitor-found.result ≡ 0 → let e = c.args.call.now in let k = only c.args.seat.now.me.0 in
+    let j = only c.step_in_monitor-found.new.seat.me.0 in
     Goes c.args.setting.now e c.args.mirror.now k (monitor_enter e (local_of k) c.args.object c.args.monitor)
-    (only c.step_in_monitor-found.new.seat.me.0) (acquired_end e (local_of k) c.args.object MonitorFirst)
+    j (recorded_end e (MonitorAcquired c.args.object) (local_of j) c.args.object 3 MonitorFirst)
 acquired c same = λ h o d its late.
     let e = c.args.call.now in
     let k = only c.args.seat.now.me.0 in
@@ -71,10 +72,19 @@ acquired c same = λ h o d its late.
     (follow_quiet h.heap.shape h.heap.start e (MonitorAcquired c.args.object) (Owner c.args.monitor) (CompareExchange 0 (owner_of (ByThread k.thread))) n _ _
     (eq-eqb _ _ same) refl (λ l. refl) (λ l. refl) (λ l. refl) late.mirrors))
     (ap (λ (f : Option OwnerForm). monitor_enter_at f e (local_of k) c.args.object c.args.monitor n >>= answer) (ap read_owner same ∙ is_free)
-    ∙ recorded_ended e (local_of k) c.args.object MonitorFirst (not_entering _ _ late.mirrors c.requires.may.waits) (MonitorAcquired c.args.object) 3)
+    ∙ recorded_ended e (local_of k) c.args.object MonitorFirst (not_entering _ _ late.mirrors c.requires.may.waits) (MonitorAcquired c.args.object) 3
+    ∙ ap (λ (l : Local). recorded_end e (MonitorAcquired c.args.object) l c.args.object 3 MonitorFirst) (sym (keeps c).local))
+
+pub displace-requires-clause-amid : goal.displace-requires-clause-amid
+displace-requires-clause-amid c =
+    let z = (goal.at.displace-requires-clause-amid c).After-step_in_monitor-found in
+    amid_by c.requires.amid (acquired z c.if-found-ne0.false)
 
 pub returns-clause-start : goal.returns-clause-start
-returns-clause-start c = keeps (goal.at.returns-clause-start c).After-step_in_monitor-found
+returns-clause-start c = start_since (keeps (goal.at.returns-clause-start c).After-step_in_monitor-found) c.displace.ensures.start
 
 pub returns-clause-leads : goal.returns-clause-leads
-returns-clause-leads c = acquired (goal.at.returns-clause-leads c).After-step_in_monitor-found c.if-found-ne0.false
+returns-clause-leads c = λ h o d its late.
+    let z = (goal.at.returns-clause-leads c).After-step_in_monitor-found in
+    late_as (c.displace.ensures.leads h o d its (acquired z c.if-found-ne0.false h o d its late))
+    (ap (λ (l : Local). hold_end c.args.call.now l c.args.object MonitorFirst) (keeps z).local)
