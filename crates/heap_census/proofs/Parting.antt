@@ -18,6 +18,7 @@ module _ {h : HeapSeen} where
     table = i.table;
     room = i.room;
     within = i.within;
+    home = i.home;
     classes = i.classes;
     first = i.first;
     threads = i.threads;
@@ -30,6 +31,7 @@ module _ {h : HeapSeen} where
     table = i.table;
     room = i.room;
     within = i.within;
+    home = i.home;
     classes = i.classes;
     first = i.first;
     threads = i.threads;

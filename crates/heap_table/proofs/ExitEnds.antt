@@ -27,7 +27,7 @@ pub held_part : {h : HeapSeen} {p : PassSeen} {d x : ExitTree} {e : CallContext}
     → l.thread ≡ m.thread → l.holds ≡ m.holds.words → ((k : ThreadView) (g : Heap) → Mirrors (lagging e m) k → PartShown g e o r m k)
     → x ≡ part_left e l o r → Late h e.task p d j x (lagging e m) → LatePart h p d e o r l m j
 held_part {h = h} {j = j} l r thread holds shows is late =
-    record { left = left_as late.left is; thread = thread; holds = holds; shown = shows j h.heap late.mirrors }
+    record { left = left_as late.left is; home = late.home; own = late.mirrors.thread; thread = thread; holds = holds; shown = shows j h.heap late.mirrors }
 
 -- Where two ways are made one after the other, what was taken at the beginning stays.
 pub part_keeps : (r : ExitPart) (i k j : ThreadView) → IsStartOf i k → KeepsPart r k j → KeepsPart r i j

@@ -1,5 +1,5 @@
 -- Steps of a quick call: the seat knows what they make of its thread's knowledge, and the mirror is written only after the last of them.
-use Rattle.std.proofs.Common.{◌≡◌, ℕ, ◌+◌, ◌*◌, ◌%◌, ◌^◌, ◌<◌, ◌≤◌, Bool, true, false, if◌then◌else◌, cond, Option, None, List, [], ◌∷◌, refl, sym, ap, ◌∙◌, subst}
+use Rattle.std.proofs.Common.{arith, ◌≡◌, ℕ, ◌+◌, ◌*◌, ◌%◌, ◌^◌, ◌<◌, ◌≤◌, Bool, true, false, if◌then◌else◌, cond, Option, None, List, [], ◌∷◌, refl, sym, ap, ◌∙◌, subst}
 use Rattle.std.specs.Prelude.{slice_set, vec_capacity, vec_len}
 use Rattle.plain_monitor.specs.Limits.{most_threads}
 use Rattle.atomic_table.specs.Table.{Me}
@@ -17,7 +17,7 @@ use Rattle.core_world.specs.declared.plan.StepPlan.{StepPlan}
 use Rattle.core_world.specs.declared.stage.Stage.{Stage}
 use Rattle.core_world.specs.declared.stage.Stage.TheVariants.{Settled}
 use Rattle.core_world.specs.declared.word_id.WordId.{WordId}
-use Rattle.core_world.specs.declared.word_id.WordId.TheVariants.{Stamp}
+use Rattle.core_world.specs.declared.word_id.WordId.TheVariants.{Displaced, Hold, Stamp}
 use Rattle.core_world.specs.Steps.{known_after, known_hit, known_miss, halted_after, holds_after, wait_after, published_after}
 use Rattle.core_world.specs.Threads.ThreadView.{Local, ThreadView, local_of}
 use Rattle.core_world.specs.Trees.Plans.{CallContext, top_place, with_stage, quiet_plan}
@@ -32,6 +32,7 @@ use Rattle.heap_table.specs.declared.quick.QuickExit.{QuickExit}
 use Rattle.heap_table.specs.declared.quick.QuickExit.TheVariants.{Owned}
 use Rattle.heap_table.specs.Drafts.{IsLeft}
 use Rattle.heap_table.specs.Kept.{Mirrors}
+use Rattle.heap_table.specs.Layout.{place_of}
 use Rattle.heap_table.specs.LogEnds.{end_by}
 use Rattle.heap_table.specs.Parts.{IsDueOn, HasMadeSteps}
 use Rattle.heap_table.specs.Quick.{IsBegun}
@@ -50,9 +51,12 @@ use Rattle.heap_table.proofs.StepsLeft.{AreLeft, all_left, all_made, step_made}
 
 -- where it begins
 pub late_first : {A : Type 0} {h : HeapSeen} {t : HeapCall} {o : PassSeen} {d : StepTree A} {k : ThreadView} {m : Mirror}
-    → k ≡ o.known → IsOf h o → IsDueOn h o t d → Mirrors m k → Late h t o d k d m
-late_first {h = h} {t = t} {o = o} {d = d} same is_of due mirrors =
-    record { left = subst (λ (j : ThreadView). AreLeft h t o d (record o { known = j }) d) (sym same) (all_left is_of due); mirrors = mirrors }
+    → k ≡ o.known → IsOf h o → IsDueOn h o t d → m.home ≡ o.home → Mirrors m k → Late h t o d k d m
+late_first {h = h} {t = t} {o = o} {d = d} same is_of due home mirrors = record {
+  left = subst (λ (j : ThreadView). AreLeft h t o d (record o { known = j }) d) (sym same) (all_left is_of due);
+  home = home;
+  mirrors = mirrors;
+}
 
 module _ {A : Type 0} {h : HeapSeen} {t : HeapCall} {o : PassSeen} {d : StepTree A} {k : ThreadView} {m : Mirror} where
   -- the same steps, in other words
@@ -87,6 +91,7 @@ module _ {A : Type 0} {h : HeapSeen} {t : HeapCall} {o : PassSeen} {d : StepTree
           table = is_of.table;
           room = is_of.room;
           within = subst (λ (u : ℕ). u < h.heap.shape.threads) (sym thread) is_of.within;
+          home = is_of.home ∙ ap (λ (u : ℕ). place_of h.heap.shape (Hold u 0)) (sym thread);
           classes = is_of.classes;
           first = is_of.first ∙ ap (λ (u : ℕ). (h.heap.start + u) % 2 ^ 32) (sym thread);
           threads = is_of.threads;
@@ -121,11 +126,12 @@ module _ {A : Type 0} {h : HeapSeen} {t : HeapCall} {o : PassSeen} {d : StepTree
       → HasStepped h (record o { known = k }) (record o { known = known_after h.heap.shape h.heap.start plan n k }) plan n
   did_step = did_go late.left its same task
 
-  pub made_step : {n : ℕ} {me : Me (Unit {0}) (List ThreadView)} {l : Mirror} → plan.own ≡ own.Unchanged → Stepped b k said n
+  pub made_step : {n : ℕ} {me : Me (Unit {0}) (List ThreadView)} {l : Mirror} → plan.own ≡ own.Unchanged → l.home ≡ m.home → Stepped b k said n
       → me ≡ (known_after b.shape b.start said n k ∷ [], []) → Mirrors l (known_after h.heap.shape h.heap.start plan n k)
       → Late h t o d (only me.0) (f n) l
-  made_step {n = n} {l = l} unchanged stood told mirrors = record {
+  made_step {n = n} {l = l} unchanged home stood told mirrors = record {
     left = gone late.left its same task unchanged stood told;
+    home = home ∙ late.home;
     mirrors = subst (Mirrors l) (sym (knows_step n told)) mirrors;
   }
 
@@ -148,13 +154,14 @@ exchange_keeps s start p n k hit miss = cases (hits p.act n) refl
     cases false e = subst (λ (c : Bool). IsStartOf k (cond c (known_hit s start p n k) (known_miss s start p n k))) (sym e) miss
 
 -- a pass of which only what its thread knows is another
-pub only_knows : (o q : PassSeen) → q.table ≡ o.table → q.limit ≡ o.limit → q.room ≡ o.room → q.classes ≡ o.classes → q.first ≡ o.first
+pub only_knows : (o q : PassSeen) → q.table ≡ o.table → q.limit ≡ o.limit → q.room ≡ o.room → q.home ≡ o.home → q.classes ≡ o.classes → q.first ≡ o.first
     → q.threads ≡ o.threads → q.objects ≡ o.objects → q.cut ≡ o.cut → q.cells ≡ o.cells → q ≡ record o { known = q.known }
-only_knows o q table limit room classes first threads objects cut cells = λ i. record {
+only_knows o q table limit room home classes first threads objects cut cells = λ i. record {
   table = table i;
   known = q.known;
   limit = limit i;
   room = room i;
+  home = home i;
   classes = classes i;
   first = first i;
   threads = threads i;
@@ -263,7 +270,7 @@ pub raised : {A : Type 0} {h : HeapSeen} {t : HeapCall} {o : PassSeen} {d : Step
 raised {h = h} {k = k} {m = m} e object stamp g true its same task late did = (
   e.unfinished,
   e.check,
-  made_step late its same task refl did.1 (ap (λ (x : ThreadView). (x ∷ [], [])) did.2)
+  made_step late its same task refl refl did.1 (ap (λ (x : ThreadView). (x ∷ [], [])) did.2)
       (follow_quiet h.heap.shape h.heap.start e Settled (Stamp object) (FetchMax stamp) did.0 k m refl refl (λ l. refl) (λ l. refl) (λ l. refl) late.mirrors),
 )
 raised {h = h} {t = t} {o = o} {d = d} {m = m} e object stamp g false its same task late did =
@@ -314,3 +321,24 @@ exit_keeps o (Owned m owner place) i k j since is = (
   start_since since is.1,
 )
 exit_keeps o _ i k j since is = tt
+
+-- WHERE A WORD OF THE THREAD LIES, by where its words begin.
+module _ {h : HeapSeen} {k : ThreadView} {b : Heap} (p : PassSeen) (m : Mirror) (is_of : IsOf h (record p { known = k })) (its : b ≡ h.heap)
+    (home : m.home ≡ p.home) (thread : k.thread ≡ m.thread) where
+  begins : m.home ≡ place_of b.shape (Hold m.thread 0)
+  begins = home ∙ is_of.home ∙ λ i. place_of (sym its i).shape (Hold (thread i) 0)
+
+  pub hold_lies : (n : ℕ) → m.home + n ≡ place_of b.shape (Hold m.thread n)
+  hold_lies n = let is = begins in omega (arith, is)
+
+  pub record_lies : (n : ℕ) → m.home + 64 + n ≡ place_of b.shape (Displaced m.thread n)
+  record_lies n = let is = begins in omega (arith, is)
+
+-- so amid a call
+module _ {A : Type 0} {h : HeapSeen} {t : HeapCall} {o : PassSeen} {d x : StepTree A} {k : ThreadView} {m : Mirror} {b : Heap} (late : Late h t o d k x m)
+    (its : b ≡ h.heap) where
+  pub hold_late : (n : ℕ) → m.home + n ≡ place_of b.shape (Hold m.thread n)
+  hold_late = hold_lies o m late.left.heap its late.home late.mirrors.thread
+
+  pub record_late : (n : ℕ) → m.home + 64 + n ≡ place_of b.shape (Displaced m.thread n)
+  record_late = record_lies o m late.left.heap its late.home late.mirrors.thread

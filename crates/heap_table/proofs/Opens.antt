@@ -379,6 +379,7 @@ fresh h limit t law within = record {
     table = refl;
     room = refl;
     within = within;
+    home = refl;
     classes = refl;
     first = refl;
     threads = refl;

@@ -3,6 +3,7 @@ use Rattle.std.specs.Prelude.{◌≡◌, ℕ, zero, suc, ◌+◌, ◌-◌, ◌%�
 use Rattle.atomic_table.specs.Seated.{TableId}
 use Rattle.plain_monitor.specs.declared.entry.Logged.{Logged}
 use Rattle.core_world.specs.declared.word_id.WordId.{WordId}
+use Rattle.core_world.specs.declared.word_id.WordId.TheVariants.{Hold}
 use Rattle.core_world.specs.Threads.ThreadView.{ThreadView, DumpShot}
 use Rattle.core_world.specs.Opening.{first_known}
 use Rattle.core_world.specs.World.{World}
@@ -28,6 +29,8 @@ pub record PassSeen : Type 0 where
   pub limit : ℕ
   -- how many a page of it may have
   pub room : ℕ
+  -- where its thread's words begin
+  pub home : ℕ
   -- how many classes the heap has
   pub classes : ℕ
   -- the first word of its generator
@@ -44,6 +47,7 @@ pub record IsOf (h : HeapSeen) (p : PassSeen) : Type 0 where
   pub table : p.table ≡ h.table
   pub room : p.room ≡ h.room
   pub within : p.known.thread < h.heap.shape.threads
+  pub home : p.home ≡ place_of h.heap.shape (Hold p.known.thread 0)
   pub classes : p.classes ≡ h.heap.shape.classes
   pub first : p.first ≡ (h.heap.start + p.known.thread) % 2 ^ 32
   pub threads : p.threads ≡ h.heap.shape.threads
@@ -59,6 +63,7 @@ first_pass h limit t =
       known = first_known t;
       limit = limit;
       room = h.room;
+      home = place_of h.heap.shape (Hold t 0);
       classes = h.heap.shape.classes;
       first = (h.heap.start + t) % 2 ^ 32;
       threads = h.heap.shape.threads;

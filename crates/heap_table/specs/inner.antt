@@ -10,4 +10,5 @@ pub mod Openings
 pub mod Parts
 pub mod Prototypes
 pub mod Ruled
+pub mod Seats
 pub mod Seen

@@ -127,6 +127,7 @@ fn looked_next(form: Option<SafeForm>, stand: Stand) -> Stand
 }
 
 // Follows what the thread knows after a load that found this word: a function of its own, so that the hot way stays small.
+#[cold]
 #[inline(never)]
 fn look_closely(word: u64, stand: &mut Stand)
     ensures { stand.new ≡ looked (read_safe word) stand.old }

@@ -7,6 +7,7 @@ ghost use Rattle.core_world.specs.Words.Forms.{is_biased};
 ghost use Rattle.heap_table.specs.Layout.{word_count};
 ghost use Rattle.heap_table.specs.Quick.{entered};
 ghost use Rattle.heap_table.specs.Ruled.{heap_in, only};
+ghost use Rattle.heap_table.specs.inner.Seats.{IsSeatOn, IsTableOf};
 ghost use Rattle.heap_table.specs.inner.Amid.{Awaits, AwaitsSince, EntersIdle, IsIdle, IsSameFrame, KeepsStart, Leads, LeadsSince, MayHold};
 ghost use Rattle.heap_table.specs.inner.Amid.{enter_left, hold_end, lagging, mark_left, seized_left, taken};
 
@@ -17,7 +18,7 @@ use crate::quick::QuickEnter;
 use crate::quick_enters::seize;
 use crate::rule::{Place, Words};
 use crate::setting::Setting;
-use crate::steps::{step_at, step_in_thread};
+use crate::steps::step_at;
 use core_world::{Act, Stage, WordId};
 use plain_monitor::{Entry, Path};
 
@@ -34,13 +35,12 @@ fn take_hold(
     at: usize,
     path: Path,
 )
-    requires setting { (words.now.shared.key ≡ setting.now)
-        × (words.now.shared.table_id.words ≡ word_count setting.now.shape) }
-    requires seat { (seat.old.table_id ≡ words.now.shared.table_id) × (seat.old.me ≡ (only seat.old.me.0 ∷ [], [])) }
+    requires setting { IsTableOf setting.now words.now.shared.key words.now.shared.table_id }
+    requires seat { IsSeatOn words.now.shared.table_id seat.old }
     requires may { MayHold setting.now.shape call.now mirror.old object word at }
     requires amid { Awaits setting.now call.now mirror.old (only seat.old.me.0)
         (hold_end call.now (local_of (only seat.old.me.0)) object path) }
-    ensures seat { (seat.new.table_id ≡ seat.old.table_id) × (seat.new.me ≡ (only seat.new.me.0 ∷ [], [])) }
+    ensures seat { IsSeatOn seat.old.table_id seat.new }
     ensures frame { IsSameFrame mirror.old mirror.new }
     ensures idle { IsIdle call.now mirror.new }
     ensures leads { Leads (heap_in setting.now) call.now.task
@@ -60,7 +60,8 @@ fn take_hold(
         WordId::Hold { thread, place },
         Act::Store { word },
     );
-    step_in_thread(words, setting, seat, &first);
+    let hold_at = mirror.hold_at(place);
+    step_at(words, setting, seat, hold_at, &first);
     mirror.holds.push(object, word);
     let entry = Entry::Enter { object, path };
     let second = logging(
@@ -88,13 +89,12 @@ fn end_enter(
     at: usize,
     how: QuickEnter,
 )
-    requires setting { (words.now.shared.key ≡ setting.now)
-        × (words.now.shared.table_id.words ≡ word_count setting.now.shape) }
-    requires seat { (seat.old.table_id ≡ words.now.shared.table_id) × (seat.old.me ≡ (only seat.old.me.0 ∷ [], [])) }
+    requires setting { IsTableOf setting.now words.now.shared.key words.now.shared.table_id }
+    requires seat { IsSeatOn words.now.shared.table_id seat.old }
     requires may { MayHold setting.now.shape call.now mirror.old object word at }
     requires amid { AwaitsSince setting.now call.now mirror.old (only seat.old.me.0)
         (λ start. seized_left setting.now.shape call.now start (entered object now) how) }
-    ensures seat { (seat.new.table_id ≡ seat.old.table_id) × (seat.new.me ≡ (only seat.new.me.0 ∷ [], [])) }
+    ensures seat { IsSeatOn seat.old.table_id seat.new }
     ensures frame { IsSameFrame mirror.old mirror.new }
     ensures idle { EntersIdle how call.now mirror.new }
     ensures start { KeepsStart how (only seat.old.me.0) (only seat.new.me.0) }
@@ -124,15 +124,14 @@ pub fn enter_marked(
     word: u64,
     at: usize,
 ) -> QuickEnter
-    requires setting { (words.now.shared.key ≡ setting.now)
-        × (words.now.shared.table_id.words ≡ word_count setting.now.shape) }
-    requires seat { (seat.old.table_id ≡ words.now.shared.table_id) × (seat.old.me ≡ (only seat.old.me.0 ∷ [], [])) }
+    requires setting { IsTableOf setting.now words.now.shared.key words.now.shared.table_id }
+    requires seat { IsSeatOn words.now.shared.table_id seat.old }
     requires may { MayHold setting.now.shape call.now mirror.old object word at }
     requires declared { object < setting.now.shape.declared }
     requires found { read_mark mark ≢ None }
     requires amid { AwaitsSince setting.now call.now mirror.old (only seat.old.me.0)
         (λ start. mark_left (is_biased mark) setting.now.shape call.now start (entered object now) mark) }
-    ensures seat { (seat.new.table_id ≡ seat.old.table_id) × (seat.new.me ≡ (only seat.new.me.0 ∷ [], [])) }
+    ensures seat { IsSeatOn seat.old.table_id seat.new }
     ensures frame { IsSameFrame mirror.old mirror.new }
     ensures idle { EntersIdle result call.now mirror.new }
     ensures start { KeepsStart result (only seat.old.me.0) (only seat.new.me.0) }

@@ -188,6 +188,7 @@ impl Holds {
     }
 
     // `clear` for any place, as a function of its own, so that the hot way stays small.
+    #[cold]
     #[inline(never)]
     fn clear_below(&mut self, place: u32)
         requires { place < most_holds }
@@ -276,6 +277,7 @@ impl Holds {
     }
 
     // `next_word` by a search, as a function of its own, so that the hot way stays small.
+    #[cold]
     #[inline(never)]
     fn next_word_searched(&self, object: u32) -> u64
         ensures { result ≡ hold_word object (hold_count object self.now.words + 1) }
@@ -304,6 +306,7 @@ impl Holds {
     }
 
     // `newest` by a search.
+    #[cold]
     #[inline(never)]
     fn newest_searched(&self, object: u32) -> Option<(u32, u32)>
         ensures { IfSome result (λ n. IsNewestOf self.now.words object n.0 n.1) }
@@ -340,6 +343,7 @@ impl Holds {
     }
 
     // `count` by a search.
+    #[cold]
     #[inline(never)]
     fn count_searched(&self) -> u32
         ensures holds { result ≡ all_holds self.now.words }

@@ -7,6 +7,7 @@ ghost use Rattle.core_world.specs.Threads.ThreadView.{local_of};
 ghost use Rattle.core_world.specs.Words.Forms.{is_biased};
 ghost use Rattle.heap_table.specs.Layout.{place_of, word_count};
 ghost use Rattle.heap_table.specs.Ruled.{heap_in, only};
+ghost use Rattle.heap_table.specs.inner.Seats.{IsSeatOn, IsTableOf};
 ghost use Rattle.heap_table.specs.inner.Amid.{Awaits, IsIdle, IsSameFrame, KeepsExit, Leads, LeavesIdle, MayLeave, exit_found, exit_left, lagging};
 ghost use Rattle.heap_table.specs.declared.quick.QuickExit.TheVariants.{Left};
 ghost use Rattle.heap_table.specs.inner.Leaving.{IsAmidPart, KeepsPart, PartLeads, clear_by, clears, ending_part, left_by};
@@ -18,7 +19,7 @@ use crate::quick::QuickExit;
 use crate::quick_exits::{ExitPart, part};
 use crate::rule::{Place, Words};
 use crate::setting::Setting;
-use crate::steps::step_in_thread;
+use crate::steps::step_at;
 use core_world::{Act, Stage, StepPlan, WordId};
 use plain_monitor::Entry;
 
@@ -52,12 +53,11 @@ fn clear_hold(
     last: bool,
     logged: bool,
 )
-    requires setting { (words.now.shared.key ≡ setting.now)
-        × (words.now.shared.table_id.words ≡ word_count setting.now.shape) }
-    requires seat { (seat.old.table_id ≡ words.now.shared.table_id) × (seat.old.me ≡ (only seat.old.me.0 ∷ [], [])) }
+    requires setting { IsTableOf setting.now words.now.shared.key words.now.shared.table_id }
+    requires seat { IsSeatOn words.now.shared.table_id seat.old }
     requires may { MayLeave call.now mirror.old object place last }
     requires amid { IsAmidPart setting.now call.now object mirror.old (only seat.old.me.0) (ending_part logged) }
-    ensures seat { (seat.new.table_id ≡ seat.old.table_id) × (seat.new.me ≡ (only seat.new.me.0 ∷ [], [])) }
+    ensures seat { IsSeatOn seat.old.table_id seat.new }
     ensures frame { IsSameFrame mirror.old mirror.new }
     ensures idle { IsIdle call.now mirror.new }
     ensures leads { PartLeads setting.now call.now object mirror.old (only seat.old.me.0) (ending_part logged)
@@ -68,7 +68,8 @@ fn clear_hold(
         place,
     };
     let clear = clearing(call, object, at, logged);
-    let found = step_in_thread(words, setting, seat, &clear);
+    let hold_at = mirror.hold_at(place);
+    let found = step_at(words, setting, seat, hold_at, &clear);
     mirror.note(Entry::Exit { object }, found);
     mirror.holds.clear(place, last);
 }
@@ -105,7 +106,8 @@ fn left_by(how: &ExitPart, place: u32) -> QuickExit
     }
 }
 
-// Ends what led so far: clears the hold word, where the lock was let go, and else has the mirror say what is unfinished.
+// Ends what led so far: clears the hold word, where the lock was let go, and else has the mirror say what is unfinished. Each of the two answers by itself:
+// an answer by the part, after both, would tell all parts apart once more.
 #[inline(always)]
 fn end_exit(
     words: &Words,
@@ -117,13 +119,13 @@ fn end_exit(
     place: u32,
     last: bool,
     how: &ExitPart,
-)
-    requires setting { (words.now.shared.key ≡ setting.now)
-        × (words.now.shared.table_id.words ≡ word_count setting.now.shape) }
-    requires seat { (seat.old.table_id ≡ words.now.shared.table_id) × (seat.old.me ≡ (only seat.old.me.0 ∷ [], [])) }
+) -> QuickExit
+    requires setting { IsTableOf setting.now words.now.shared.key words.now.shared.table_id }
+    requires seat { IsSeatOn words.now.shared.table_id seat.old }
     requires may { MayLeave call.now mirror.old object place last }
     requires amid { IsAmidPart setting.now call.now object mirror.old (only seat.old.me.0) how.now }
-    ensures seat { (seat.new.table_id ≡ seat.old.table_id) × (seat.new.me ≡ (only seat.new.me.0 ∷ [], [])) }
+    ensures answer { result ≡ left_by place how.now }
+    ensures seat { IsSeatOn seat.old.table_id seat.new }
     ensures frame { IsSameFrame mirror.old mirror.new }
     ensures idle { LeavesIdle (left_by place how.now) call.now mirror.new }
     ensures start { KeepsPart how.now (only seat.old.me.0) (only seat.new.me.0) }
@@ -135,8 +137,12 @@ fn end_exit(
             clear_hold(
                 words, setting, seat, mirror, call, object, place, last, logged,
             );
+            QuickExit::Left
         }
-        None => mirror.stays_amid(call),
+        None => {
+            mirror.stays_amid(call);
+            left_by(how, place)
+        }
     }
 }
 
@@ -155,9 +161,8 @@ pub fn leave_marked(
     place: u32,
     last: bool,
 ) -> QuickExit
-    requires setting { (words.now.shared.key ≡ setting.now)
-        × (words.now.shared.table_id.words ≡ word_count setting.now.shape) }
-    requires seat { (seat.old.table_id ≡ words.now.shared.table_id) × (seat.old.me ≡ (only seat.old.me.0 ∷ [], [])) }
+    requires setting { IsTableOf setting.now words.now.shared.key words.now.shared.table_id }
+    requires seat { IsSeatOn words.now.shared.table_id seat.old }
     requires may { MayLeave call.now mirror.old object place last }
     requires depth { depth ≡ hold_count object mirror.old.holds.words }
     requires at { at ≡ place_of setting.now.shape (Mark object) }
@@ -166,7 +171,7 @@ pub fn leave_marked(
     requires found { read_mark mark ≢ None }
     requires amid { Awaits setting.now call.now mirror.old (only seat.old.me.0)
         (exit_found (is_biased mark) call.now (local_of (only seat.old.me.0)) object) }
-    ensures seat { (seat.new.table_id ≡ seat.old.table_id) × (seat.new.me ≡ (only seat.new.me.0 ∷ [], [])) }
+    ensures seat { IsSeatOn seat.old.table_id seat.new }
     ensures frame { IsSameFrame mirror.old mirror.new }
     ensures idle { LeavesIdle result call.now mirror.new }
     ensures start { KeepsExit object result (only seat.old.me.0) (only seat.new.me.0) }
@@ -179,6 +184,5 @@ pub fn leave_marked(
     );
     end_exit(
         words, setting, seat, mirror, call, object, place, last, &how,
-    );
-    left_by(&how, place)
+    )
 }

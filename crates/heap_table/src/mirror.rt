@@ -29,6 +29,8 @@ const MOST_LOGGED: u64 = 2_199_023_255_552;
 #[derive(Drop)]
 pub struct Mirror {
     pub thread: u32,
+    /// Where the thread's words begin in the table.
+    pub home: u32,
     /// The thread's own bits in a mark that is biased to it.
     pub own_bits: u64,
     /// How many entries a page of the log may have.
@@ -151,7 +153,7 @@ impl Mirror {
     ghost use Rattle.heap_table.specs.inner.Kept.{StampFits, with_any_entry, entry_after};
     ghost use Rattle.heap_table.specs.inner.Layout.{IsPlaced};
 
-    /// Makes what the thread knows before its first step. `room` is how many entries a page of its log may have, and
+    /// Makes what the thread knows before its first step. Its words begin at `home`. `room` is how many entries a page of its log may have, and
     /// `first` the first word of its hash generator.
     ///
     /// # Errors
@@ -160,6 +162,7 @@ impl Mirror {
     pub fn new(
         alloc: Global,
         thread: u32,
+        home: u32,
         room: u32,
         keeps: bool,
         classes: u32,
@@ -171,9 +174,11 @@ impl Mirror {
         ensures follows { IfOk result (λ m. Mirrors m (first_known thread)) }
         ensures fixed { IfOk result (λ m. (m.room ≡ room) × (m.given ≡ 0) × (m.classes ≡ classes) × (m.first ≡ first)
             × (m.shots ≡ shots) × (m.keeps ≡ keeps)) }
+        ensures home { IfOk result (λ m. m.home ≡ home) }
     {
         Ok(Mirror {
             thread,
+            home,
             own_bits: (thread as u64 + 1) * 1024,
             room,
             keeps,
@@ -204,6 +209,22 @@ impl Mirror {
         })
     }
 
+    /// Where the thread's hold word of this place lies.
+    #[inline(always)]
+    pub fn hold_at(&self, place: u32) -> usize
+        ensures { result ≡ self.now.home + place }
+    {
+        self.home as usize + place as usize
+    }
+
+    /// Where the displaced header of the thread's lock record of this place lies.
+    #[inline(always)]
+    pub fn displaced_at(&self, place: u32) -> usize
+        ensures { result ≡ self.now.home + 64 + place }
+    {
+        self.home as usize + 64 + place as usize
+    }
+
     /// `follow` for a load of the safepoint word that leaves unfinished what is unfinished. Where nobody asks by that word, and the
     /// thread doesn't either, nothing is written: all is known already.
     #[inline(always)]
@@ -215,6 +236,7 @@ impl Mirror {
             × (limit_by self.new.keeps self.new.given self.new.room ≡ limit_by self.old.keeps self.old.given self.old.room)
             × (self.new.classes ≡ self.old.classes) × (self.new.first ≡ self.old.first) × (self.new.shots.threads ≡ self.old.shots.threads)
             × (self.new.shots.objects ≡ self.old.shots.objects) }
+        ensures home { self.new.home ≡ self.old.home }
         ensures draft { IsLeft step.now.own self.old.shots.draft.cut.items
             (cells_shown self.old.shots.draft.cells.items)
             self.new.shots.draft.cut.items (cells_shown self.new.shots.draft.cells.items) }
@@ -243,6 +265,7 @@ impl Mirror {
             × (limit_by self.new.keeps self.new.given self.new.room ≡ limit_by self.old.keeps self.old.given self.old.room)
             × (self.new.classes ≡ self.old.classes) × (self.new.first ≡ self.old.first) × (self.new.shots.threads ≡ self.old.shots.threads)
             × (self.new.shots.objects ≡ self.old.shots.objects) }
+        ensures home { self.new.home ≡ self.old.home }
         ensures draft { IsLeft step.now.own self.old.shots.draft.cut.items
             (cells_shown self.old.shots.draft.cells.items)
             self.new.shots.draft.cut.items (cells_shown self.new.shots.draft.cells.items) }

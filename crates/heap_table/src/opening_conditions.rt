@@ -47,10 +47,12 @@ fn next_pass(
     }) (limit_by keeps 0 room) thread) }
 {
     let first = setting.start.wrapping_add(thread);
+    let home = setting.shape.hold_at(thread, 0) as u32;
     let shots = Shots::new(alloc, setting.shape.threads(), setting.shape.objects())?;
     let mirror = Mirror::new(
         alloc,
         thread,
+        home,
         room,
         keeps,
         setting.shape.classes(),

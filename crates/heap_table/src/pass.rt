@@ -43,6 +43,7 @@ impl Model for Pass {
       known = only p.seat.me.0;
       limit = limit_by p.mirror.keeps p.mirror.given p.mirror.room;
       room = p.mirror.room;
+      home = p.mirror.home;
       classes = p.mirror.classes;
       first = p.mirror.first;
       threads = p.mirror.shots.threads;

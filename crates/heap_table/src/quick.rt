@@ -1,9 +1,11 @@
 //! Enters and exits of the common ways, each as one function: the same steps as elsewhere, and what the thread knows written once, after the last
 //! of them. Where something is in the way, the answer says how far the steps came.
-ghost use Rattle.std.specs.Prelude.{◌≡◌};
+ghost use Rattle.std.specs.Prelude.{◌≡◌, ◌≢◌, ◌≤◌};
 ghost use Rattle.core_world.specs.declared.heap_call.HeapCall.TheVariants.{Enter, Exit};
 ghost use Rattle.heap_table.specs.Quick.{EntersFree, HasEntered, HasLeft, IsFree, LeavesFree, entering, leaving};
-ghost use Rattle.heap_table.specs.Resting.{MayOperate};
+ghost use Rattle.core_world.specs.Locks.{hold_count};
+ghost use Rattle.heap_table.specs.Resting.{MayOperate, Rests};
+ghost use Rattle.heap_table.specs.declared.quick.QuickExit.TheVariants as exits;
 
 use crate::call_context::CallContext;
 use crate::heap::Heap;
@@ -148,8 +150,10 @@ impl Heap {
 
     #[inline(always)]
     fn exit_quickly(&self, pass: &mut Pass, object: u32, search: bool) -> QuickExit
-        requires may { MayOperate self.now pass.old (Exit object) }
+        requires rests { Rests self.now pass.old }
+        requires may { 1 ≤ hold_count object pass.old.known.holds → MayOperate self.now pass.old (Exit object) }
         requires free { IsFree pass.old.known }
+        ensures held { result ≢ exits.Not → 1 ≤ hold_count object pass.old.known.holds }
         ensures left { HasLeft self.now pass.old pass.new object result }
         ensures free { LeavesFree pass.new.known result }
     {
@@ -203,11 +207,14 @@ impl Heap {
         self.exit_quickly(pass, object, true)
     }
 
-    /// The same where that is the newest of all holds, so that nothing has to be looked for.
+    /// The same where that is the newest of all holds, so that nothing has to be looked for. Where the thread doesn't hold the object, nothing is asked of the
+    /// exit.
     #[inline(always)]
     pub fn exit_at_once(&self, pass: &mut Pass, object: u32) -> QuickExit
-        requires may { MayOperate self.now pass.old (Exit object) }
+        requires rests { Rests self.now pass.old }
+        requires may { 1 ≤ hold_count object pass.old.known.holds → MayOperate self.now pass.old (Exit object) }
         requires free { IsFree pass.old.known }
+        ensures held { result ≢ exits.Not → 1 ≤ hold_count object pass.old.known.holds }
         ensures left { HasLeft self.now pass.old pass.new object result }
         ensures free { LeavesFree pass.new.known result }
     {

@@ -8,6 +8,7 @@ ghost use Rattle.core_world.specs.Words.Forms.{is_biased};
 ghost use Rattle.heap_table.specs.Layout.{place_of, word_count};
 ghost use Rattle.heap_table.specs.Quick.{entered};
 ghost use Rattle.heap_table.specs.Ruled.{only};
+ghost use Rattle.heap_table.specs.inner.Seats.{IsSeatOn, IsTableOf};
 ghost use Rattle.heap_table.specs.inner.Amid.{Awaits, AwaitsSince, Goes, GoesSince, IsStartOf, MaySeize};
 ghost use Rattle.heap_table.specs.inner.Amid.{again_enter, biased_left, first_enter, hold_end, mark_left, monitor_enter, monitor_left};
 ghost use Rattle.heap_table.specs.inner.Amid.{record_left, recorded_end, seized_left, unbiased_enter};
@@ -21,7 +22,7 @@ use crate::quick::QuickEnter;
 use crate::reads::{form_of, has_bias_bits, is_own_by_sum};
 use crate::rule::{Place, Words};
 use crate::setting::Setting;
-use crate::steps::{step_at, step_in_monitor, step_in_thread};
+use crate::steps::{step_at, step_in_monitor};
 use core_world::{Act, Stage, WordId};
 use mark_word::{MarkForm, OwnerForm, encode, encode_owner};
 use plain_monitor::Path;
@@ -39,13 +40,12 @@ fn displace(
     displaced: u64,
     path: Path,
 )
-    requires setting { (words.now.shared.key ≡ setting.now)
-        × (words.now.shared.table_id.words ≡ word_count setting.now.shape) }
-    requires seat { (seat.old.table_id ≡ words.now.shared.table_id) × (seat.old.me ≡ (only seat.old.me.0 ∷ [], [])) }
+    requires setting { IsTableOf setting.now words.now.shared.key words.now.shared.table_id }
+    requires seat { IsSeatOn words.now.shared.table_id seat.old }
     requires place { free_place mirror.now.holds.words ≡ mirror.now.holds.used }
     requires amid { Awaits setting.now call.now mirror.now (only seat.old.me.0)
         (recorded_end call.now stage (local_of (only seat.old.me.0)) object displaced path) }
-    ensures seat { (seat.new.table_id ≡ seat.old.table_id) × (seat.new.me ≡ (only seat.new.me.0 ∷ [], [])) }
+    ensures seat { IsSeatOn seat.old.table_id seat.new }
     ensures start { IsStartOf (only seat.old.me.0) (only seat.new.me.0) }
     ensures leads { Goes setting.now call.now mirror.now
         (only seat.old.me.0) (recorded_end call.now stage (local_of (only seat.old.me.0)) object displaced path)
@@ -59,7 +59,8 @@ fn displace(
         WordId::Displaced { thread, place },
         Act::Store { word: displaced },
     );
-    step_in_thread(words, setting, seat, &first);
+    let record_at = mirror.displaced_at(place);
+    step_at(words, setting, seat, record_at, &first);
 }
 
 // By a lock record, where the mark is neutral: it becomes the record's displaced word, and is exchanged for the record's place. The answer is the
@@ -75,14 +76,13 @@ fn seize_by_record(
     mark: u64,
     at: usize,
 ) -> Option<u64>
-    requires setting { (words.now.shared.key ≡ setting.now)
-        × (words.now.shared.table_id.words ≡ word_count setting.now.shape) }
-    requires seat { (seat.old.table_id ≡ words.now.shared.table_id) × (seat.old.me ≡ (only seat.old.me.0 ∷ [], [])) }
+    requires setting { IsTableOf setting.now words.now.shared.key words.now.shared.table_id }
+    requires seat { IsSeatOn words.now.shared.table_id seat.old }
     requires may { MaySeize mirror.now }
     requires at { at ≡ place_of setting.now.shape (Mark object) }
     requires amid { Awaits setting.now call.now mirror.now (only seat.old.me.0)
         (first_enter call.now (local_of (only seat.old.me.0)) object mark) }
-    ensures seat { (seat.new.table_id ≡ seat.old.table_id) × (seat.new.me ≡ (only seat.new.me.0 ∷ [], [])) }
+    ensures seat { IsSeatOn seat.old.table_id seat.new }
     ensures start { IsStartOf (only seat.old.me.0) (only seat.new.me.0) }
     ensures leads { Goes setting.now call.now mirror.now
         (only seat.old.me.0) (first_enter call.now (local_of (only seat.old.me.0)) object mark)
@@ -92,7 +92,8 @@ fn seize_by_record(
     let place = mirror.holds.used;
     let record = WordId::Displaced { thread, place };
     let first = quiet(call, Stage::Settled, record, Act::Store { word: mark });
-    step_in_thread(words, setting, seat, &first);
+    let record_at = mirror.displaced_at(place);
+    step_at(words, setting, seat, record_at, &first);
     let act = Act::CompareExchange {
         expected: mark,
         word: encode(&MarkForm::Locked { thread, place }),
@@ -118,13 +119,12 @@ fn seize_by_monitor(
     object: u32,
     monitor: u32,
 ) -> Option<u64>
-    requires setting { (words.now.shared.key ≡ setting.now)
-        × (words.now.shared.table_id.words ≡ word_count setting.now.shape) }
-    requires seat { (seat.old.table_id ≡ words.now.shared.table_id) × (seat.old.me ≡ (only seat.old.me.0 ∷ [], [])) }
+    requires setting { IsTableOf setting.now words.now.shared.key words.now.shared.table_id }
+    requires seat { IsSeatOn words.now.shared.table_id seat.old }
     requires may { MaySeize mirror.now }
     requires amid { Awaits setting.now call.now mirror.now (only seat.old.me.0)
         (monitor_enter call.now (local_of (only seat.old.me.0)) object monitor) }
-    ensures seat { (seat.new.table_id ≡ seat.old.table_id) × (seat.new.me ≡ (only seat.new.me.0 ∷ [], [])) }
+    ensures seat { IsSeatOn seat.old.table_id seat.new }
     ensures start { IsStartOf (only seat.old.me.0) (only seat.new.me.0) }
     ensures leads { Goes setting.now call.now mirror.now
         (only seat.old.me.0) (monitor_enter call.now (local_of (only seat.old.me.0)) object monitor)
@@ -167,13 +167,12 @@ fn seize_again(
     object: u32,
     monitor: u32,
 )
-    requires setting { (words.now.shared.key ≡ setting.now)
-        × (words.now.shared.table_id.words ≡ word_count setting.now.shape) }
-    requires seat { (seat.old.table_id ≡ words.now.shared.table_id) × (seat.old.me ≡ (only seat.old.me.0 ∷ [], [])) }
+    requires setting { IsTableOf setting.now words.now.shared.key words.now.shared.table_id }
+    requires seat { IsSeatOn words.now.shared.table_id seat.old }
     requires may { MaySeize mirror.now }
     requires amid { Awaits setting.now call.now mirror.now (only seat.old.me.0)
         (again_enter call.now (local_of (only seat.old.me.0)) object monitor) }
-    ensures seat { (seat.new.table_id ≡ seat.old.table_id) × (seat.new.me ≡ (only seat.new.me.0 ∷ [], [])) }
+    ensures seat { IsSeatOn seat.old.table_id seat.new }
     ensures start { IsStartOf (only seat.old.me.0) (only seat.new.me.0) }
     ensures leads { Goes setting.now call.now mirror.now
         (only seat.old.me.0) (again_enter call.now (local_of (only seat.old.me.0)) object monitor)
@@ -211,13 +210,12 @@ fn seize_inflated(
     now: u64,
     monitor: u32,
 ) -> QuickEnter
-    requires setting { (words.now.shared.key ≡ setting.now)
-        × (words.now.shared.table_id.words ≡ word_count setting.now.shape) }
-    requires seat { (seat.old.table_id ≡ words.now.shared.table_id) × (seat.old.me ≡ (only seat.old.me.0 ∷ [], [])) }
+    requires setting { IsTableOf setting.now words.now.shared.key words.now.shared.table_id }
+    requires seat { IsSeatOn words.now.shared.table_id seat.old }
     requires may { MaySeize mirror.now }
     requires amid { AwaitsSince setting.now call.now mirror.now (only seat.old.me.0)
         (λ start. monitor_enter call.now start.local object monitor) }
-    ensures seat { (seat.new.table_id ≡ seat.old.table_id) × (seat.new.me ≡ (only seat.new.me.0 ∷ [], [])) }
+    ensures seat { IsSeatOn seat.old.table_id seat.new }
     ensures start { IsStartOf (only seat.old.me.0) (only seat.new.me.0) }
     ensures leads { GoesSince setting.now call.now mirror.now
         (only seat.old.me.0) (λ start. monitor_enter call.now start.local object monitor)
@@ -253,15 +251,14 @@ fn seize_unbiased(
     mark: u64,
     at: usize,
 ) -> QuickEnter
-    requires setting { (words.now.shared.key ≡ setting.now)
-        × (words.now.shared.table_id.words ≡ word_count setting.now.shape) }
-    requires seat { (seat.old.table_id ≡ words.now.shared.table_id) × (seat.old.me ≡ (only seat.old.me.0 ∷ [], [])) }
+    requires setting { IsTableOf setting.now words.now.shared.key words.now.shared.table_id }
+    requires seat { IsSeatOn words.now.shared.table_id seat.old }
     requires may { MaySeize mirror.now }
     requires at { at ≡ place_of setting.now.shape (Mark object) }
     requires found { read_mark mark ≢ None }
     requires amid { AwaitsSince setting.now call.now mirror.now (only seat.old.me.0)
         (λ start. unbiased_enter setting.now.shape call.now start object mark) }
-    ensures seat { (seat.new.table_id ≡ seat.old.table_id) × (seat.new.me ≡ (only seat.new.me.0 ∷ [], [])) }
+    ensures seat { IsSeatOn seat.old.table_id seat.new }
     ensures start { IsStartOf (only seat.old.me.0) (only seat.new.me.0) }
     ensures leads { GoesSince setting.now call.now mirror.now
         (only seat.old.me.0) (λ start. unbiased_enter setting.now.shape call.now start object mark)
@@ -307,15 +304,14 @@ fn seize_biased(
     now: u64,
     mark: u64,
 ) -> QuickEnter
-    requires setting { (words.now.shared.key ≡ setting.now)
-        × (words.now.shared.table_id.words ≡ word_count setting.now.shape) }
-    requires seat { (seat.old.table_id ≡ words.now.shared.table_id) × (seat.old.me ≡ (only seat.old.me.0 ∷ [], [])) }
+    requires setting { IsTableOf setting.now words.now.shared.key words.now.shared.table_id }
+    requires seat { IsSeatOn words.now.shared.table_id seat.old }
     requires may { MaySeize mirror.now }
     requires declared { object < setting.now.shape.declared }
     requires biased { is_biased mark ≡ true }
     requires amid { AwaitsSince setting.now call.now mirror.now (only seat.old.me.0)
         (λ start. biased_left setting.now.shape call.now start (entered object now) mark) }
-    ensures seat { (seat.new.table_id ≡ seat.old.table_id) × (seat.new.me ≡ (only seat.new.me.0 ∷ [], [])) }
+    ensures seat { IsSeatOn seat.old.table_id seat.new }
     ensures start { IsStartOf (only seat.old.me.0) (only seat.new.me.0) }
     ensures leads { GoesSince setting.now call.now mirror.now
         (only seat.old.me.0) (λ start. biased_left setting.now.shape call.now start (entered object now) mark)
@@ -346,16 +342,15 @@ pub fn seize(
     mark: u64,
     at: usize,
 ) -> QuickEnter
-    requires setting { (words.now.shared.key ≡ setting.now)
-        × (words.now.shared.table_id.words ≡ word_count setting.now.shape) }
-    requires seat { (seat.old.table_id ≡ words.now.shared.table_id) × (seat.old.me ≡ (only seat.old.me.0 ∷ [], [])) }
+    requires setting { IsTableOf setting.now words.now.shared.key words.now.shared.table_id }
+    requires seat { IsSeatOn words.now.shared.table_id seat.old }
     requires may { MaySeize mirror.now }
     requires at { at ≡ place_of setting.now.shape (Mark object) }
     requires declared { object < setting.now.shape.declared }
     requires found { read_mark mark ≢ None }
     requires amid { AwaitsSince setting.now call.now mirror.now (only seat.old.me.0)
         (λ start. mark_left (is_biased mark) setting.now.shape call.now start (entered object now) mark) }
-    ensures seat { (seat.new.table_id ≡ seat.old.table_id) × (seat.new.me ≡ (only seat.new.me.0 ∷ [], [])) }
+    ensures seat { IsSeatOn seat.old.table_id seat.new }
     ensures start { IsStartOf (only seat.old.me.0) (only seat.new.me.0) }
     ensures leads { GoesSince setting.now call.now mirror.now
         (only seat.old.me.0) (λ start. mark_left (is_biased mark) setting.now.shape call.now start (entered object now) mark)

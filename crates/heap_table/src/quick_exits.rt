@@ -11,6 +11,7 @@ ghost use Rattle.core_world.specs.Words.Forms.{is_biased};
 ghost use Rattle.heap_table.specs.Layout.{place_of, word_count};
 ghost use Rattle.heap_table.specs.Ruled.{heap_in, only};
 ghost use Rattle.heap_table.specs.declared.quick_exits.ExitPart.TheVariants as parts;
+ghost use Rattle.heap_table.specs.inner.Seats.{IsSeatOn, IsTableOf};
 ghost use Rattle.heap_table.specs.inner.Amid.{Awaits, exit_found, marked_exit, monitor_exit, record_exit, recursions_exit, release_exit};
 ghost use Rattle.heap_table.specs.inner.Amid.{unbiased_exit};
 ghost use Rattle.heap_table.specs.inner.Leaving.{GoesToPart, KeepsPart};
@@ -22,7 +23,7 @@ use crate::plans::{logging, quiet};
 use crate::reads::{form_of, has_bias_bits};
 use crate::rule::{Place, Words};
 use crate::setting::Setting;
-use crate::steps::{step_at, step_in_monitor, step_in_thread};
+use crate::steps::{step_at, step_in_monitor};
 use core_world::{Act, Stage, WordId};
 use mark_word::{MarkForm, OwnerForm, encode_owner};
 use plain_monitor::Entry;
@@ -54,12 +55,11 @@ pub fn raise_at(
     at: usize,
     stamp: u64,
 )
-    requires setting { (words.now.shared.key ≡ setting.now)
-        × (words.now.shared.table_id.words ≡ word_count setting.now.shape) }
-    requires seat { (seat.old.table_id ≡ words.now.shared.table_id) × (seat.old.me ≡ (only seat.old.me.0 ∷ [], [])) }
+    requires setting { IsTableOf setting.now words.now.shared.key words.now.shared.table_id }
+    requires seat { IsSeatOn words.now.shared.table_id seat.old }
     requires place { at ≡ place_of setting.now.shape (WordId.Stamp object) }
     requires may { depth ≡ 1 → MayStep (heap_in setting.now) (only seat.old.me.0) (raise_stamp_plan call.now object stamp) }
-    ensures seat { (seat.new.table_id ≡ seat.old.table_id) × (seat.new.me ≡ (only seat.new.me.0 ∷ [], [])) }
+    ensures seat { IsSeatOn seat.old.table_id seat.new }
     ensures raised { IsStepIf (depth == 1) (heap_in setting.now) (raise_stamp_plan call.now object stamp)
         (only seat.old.me.0) (only seat.new.me.0) }
 {
@@ -88,14 +88,13 @@ fn part_from_record(
     at: usize,
     place: u32,
 ) -> ExitPart
-    requires setting { (words.now.shared.key ≡ setting.now)
-        × (words.now.shared.table_id.words ≡ word_count setting.now.shape) }
-    requires seat { (seat.old.table_id ≡ words.now.shared.table_id) × (seat.old.me ≡ (only seat.old.me.0 ∷ [], [])) }
+    requires setting { IsTableOf setting.now words.now.shared.key words.now.shared.table_id }
+    requires seat { IsSeatOn words.now.shared.table_id seat.old }
     requires at { at ≡ place_of setting.now.shape (Mark object) }
     requires place { place ≡ top_place object mirror.now.holds.words }
     requires amid { Awaits setting.now call.now mirror.now (only seat.old.me.0)
         (record_exit call.now (local_of (only seat.old.me.0)) object header mark) }
-    ensures seat { (seat.new.table_id ≡ seat.old.table_id) × (seat.new.me ≡ (only seat.new.me.0 ∷ [], [])) }
+    ensures seat { IsSeatOn seat.old.table_id seat.new }
     ensures start { KeepsPart result (only seat.old.me.0) (only seat.new.me.0) }
     ensures leads { GoesToPart setting.now call.now object mirror.now
         (only seat.old.me.0) (record_exit call.now (local_of (only seat.old.me.0)) object header mark)
@@ -130,13 +129,12 @@ fn lower(
     monitor: u32,
     recursions: u64,
 )
-    requires setting { (words.now.shared.key ≡ setting.now)
-        × (words.now.shared.table_id.words ≡ word_count setting.now.shape) }
-    requires seat { (seat.old.table_id ≡ words.now.shared.table_id) × (seat.old.me ≡ (only seat.old.me.0 ∷ [], [])) }
+    requires setting { IsTableOf setting.now words.now.shared.key words.now.shared.table_id }
+    requires seat { IsSeatOn words.now.shared.table_id seat.old }
     requires some { 0 < recursions }
     requires amid { Awaits setting.now call.now mirror.now (only seat.old.me.0)
         (recursions_exit call.now (local_of (only seat.old.me.0)) object monitor recursions) }
-    ensures seat { (seat.new.table_id ≡ seat.old.table_id) × (seat.new.me ≡ (only seat.new.me.0 ∷ [], [])) }
+    ensures seat { IsSeatOn seat.old.table_id seat.new }
     ensures start { KeepsPart parts.Held (only seat.old.me.0) (only seat.new.me.0) }
     ensures leads { GoesToPart setting.now call.now object mirror.now
         (only seat.old.me.0) (recursions_exit call.now (local_of (only seat.old.me.0)) object monitor recursions)
@@ -165,13 +163,12 @@ fn release(
     monitor: u32,
     place: u32,
 )
-    requires setting { (words.now.shared.key ≡ setting.now)
-        × (words.now.shared.table_id.words ≡ word_count setting.now.shape) }
-    requires seat { (seat.old.table_id ≡ words.now.shared.table_id) × (seat.old.me ≡ (only seat.old.me.0 ∷ [], [])) }
+    requires setting { IsTableOf setting.now words.now.shared.key words.now.shared.table_id }
+    requires seat { IsSeatOn words.now.shared.table_id seat.old }
     requires place { place ≡ top_place object mirror.now.holds.words }
     requires amid { Awaits setting.now call.now mirror.now (only seat.old.me.0)
         (release_exit call.now (local_of (only seat.old.me.0)) object monitor) }
-    ensures seat { (seat.new.table_id ≡ seat.old.table_id) × (seat.new.me ≡ (only seat.new.me.0 ∷ [], [])) }
+    ensures seat { IsSeatOn seat.old.table_id seat.new }
     ensures start { KeepsPart parts.Logged (only seat.old.me.0) (only seat.new.me.0) }
     ensures leads { GoesToPart setting.now call.now object mirror.now
         (only seat.old.me.0) (release_exit call.now (local_of (only seat.old.me.0)) object monitor)
@@ -196,13 +193,12 @@ fn part_from_monitor(
     monitor: u32,
     place: u32,
 ) -> ExitPart
-    requires setting { (words.now.shared.key ≡ setting.now)
-        × (words.now.shared.table_id.words ≡ word_count setting.now.shape) }
-    requires seat { (seat.old.table_id ≡ words.now.shared.table_id) × (seat.old.me ≡ (only seat.old.me.0 ∷ [], [])) }
+    requires setting { IsTableOf setting.now words.now.shared.key words.now.shared.table_id }
+    requires seat { IsSeatOn words.now.shared.table_id seat.old }
     requires place { place ≡ top_place object mirror.now.holds.words }
     requires amid { Awaits setting.now call.now mirror.now (only seat.old.me.0)
         (monitor_exit call.now (local_of (only seat.old.me.0)) object monitor) }
-    ensures seat { (seat.new.table_id ≡ seat.old.table_id) × (seat.new.me ≡ (only seat.new.me.0 ∷ [], [])) }
+    ensures seat { IsSeatOn seat.old.table_id seat.new }
     ensures start { KeepsPart result (only seat.old.me.0) (only seat.new.me.0) }
     ensures leads { GoesToPart setting.now call.now object mirror.now
         (only seat.old.me.0) (monitor_exit call.now (local_of (only seat.old.me.0)) object monitor)
@@ -245,15 +241,14 @@ fn part_marked(
     at: usize,
     place: u32,
 ) -> ExitPart
-    requires setting { (words.now.shared.key ≡ setting.now)
-        × (words.now.shared.table_id.words ≡ word_count setting.now.shape) }
-    requires seat { (seat.old.table_id ≡ words.now.shared.table_id) × (seat.old.me ≡ (only seat.old.me.0 ∷ [], [])) }
+    requires setting { IsTableOf setting.now words.now.shared.key words.now.shared.table_id }
+    requires seat { IsSeatOn words.now.shared.table_id seat.old }
     requires at { at ≡ place_of setting.now.shape (Mark object) }
     requires place { place ≡ top_place object mirror.now.holds.words }
     requires found { read_mark mark ≢ None }
     requires amid { Awaits setting.now call.now mirror.now (only seat.old.me.0)
         (marked_exit call.now (local_of (only seat.old.me.0)) object header mark) }
-    ensures seat { (seat.new.table_id ≡ seat.old.table_id) × (seat.new.me ≡ (only seat.new.me.0 ∷ [], [])) }
+    ensures seat { IsSeatOn seat.old.table_id seat.new }
     ensures start { KeepsPart result (only seat.old.me.0) (only seat.new.me.0) }
     ensures leads { GoesToPart setting.now call.now object mirror.now
         (only seat.old.me.0) (marked_exit call.now (local_of (only seat.old.me.0)) object header mark)
@@ -286,9 +281,8 @@ fn part_unbiased(
     at: usize,
     place: u32,
 ) -> ExitPart
-    requires setting { (words.now.shared.key ≡ setting.now)
-        × (words.now.shared.table_id.words ≡ word_count setting.now.shape) }
-    requires seat { (seat.old.table_id ≡ words.now.shared.table_id) × (seat.old.me ≡ (only seat.old.me.0 ∷ [], [])) }
+    requires setting { IsTableOf setting.now words.now.shared.key words.now.shared.table_id }
+    requires seat { IsSeatOn words.now.shared.table_id seat.old }
     requires place { place ≡ top_place object mirror.now.holds.words }
     requires depth { depth ≡ hold_count object mirror.now.holds.words }
     requires at { at ≡ place_of setting.now.shape (Mark object) }
@@ -296,7 +290,7 @@ fn part_unbiased(
     requires next { mirror.now.last + 1 < 2 ^ 64 }
     requires amid { Awaits setting.now call.now mirror.now (only seat.old.me.0)
         (unbiased_exit call.now (local_of (only seat.old.me.0)) object) }
-    ensures seat { (seat.new.table_id ≡ seat.old.table_id) × (seat.new.me ≡ (only seat.new.me.0 ∷ [], [])) }
+    ensures seat { IsSeatOn seat.old.table_id seat.new }
     ensures start { KeepsPart result (only seat.old.me.0) (only seat.new.me.0) }
     ensures leads { GoesToPart setting.now call.now object mirror.now
         (only seat.old.me.0) (unbiased_exit call.now (local_of (only seat.old.me.0)) object)
@@ -309,7 +303,8 @@ fn part_unbiased(
         place,
     };
     let first = quiet(call, Stage::Settled, record, Act::Load);
-    let header = step_in_thread(words, setting, seat, &first);
+    let record_at = mirror.displaced_at(place);
+    let header = step_at(words, setting, seat, record_at, &first);
     if header == 0 {
         return ExitPart::Held;
     }
@@ -334,9 +329,8 @@ pub fn part(
     at: usize,
     place: u32,
 ) -> ExitPart
-    requires setting { (words.now.shared.key ≡ setting.now)
-        × (words.now.shared.table_id.words ≡ word_count setting.now.shape) }
-    requires seat { (seat.old.table_id ≡ words.now.shared.table_id) × (seat.old.me ≡ (only seat.old.me.0 ∷ [], [])) }
+    requires setting { IsTableOf setting.now words.now.shared.key words.now.shared.table_id }
+    requires seat { IsSeatOn words.now.shared.table_id seat.old }
     requires place { place ≡ top_place object mirror.now.holds.words }
     requires depth { depth ≡ hold_count object mirror.now.holds.words }
     requires at { at ≡ place_of setting.now.shape (Mark object) }
@@ -345,7 +339,7 @@ pub fn part(
     requires found { read_mark mark ≢ None }
     requires amid { Awaits setting.now call.now mirror.now (only seat.old.me.0)
         (exit_found (is_biased mark) call.now (local_of (only seat.old.me.0)) object) }
-    ensures seat { (seat.new.table_id ≡ seat.old.table_id) × (seat.new.me ≡ (only seat.new.me.0 ∷ [], [])) }
+    ensures seat { IsSeatOn seat.old.table_id seat.new }
     ensures start { KeepsPart result (only seat.old.me.0) (only seat.new.me.0) }
     ensures leads { GoesToPart setting.now call.now object mirror.now
         (only seat.old.me.0) (exit_found (is_biased mark) call.now (local_of (only seat.old.me.0)) object)

@@ -162,7 +162,8 @@ impl HeapShape {
     #[inline(always)]
     pub fn hold_at(&self, thread: u32, place: u32) -> usize
         requires { (thread < self.now.threads) × (place < most_holds) }
-        ensures { result ≡ place_of self.now (WordId.Hold thread place) }
+        ensures place { result ≡ place_of self.now (WordId.Hold thread place) }
+        ensures low { result < 1000064 }
     {
         self.thread_at(thread) + place as usize
     }
@@ -269,20 +270,7 @@ impl HeapShape {
         self.place(at)
     }
 
-    /// `place` for hold words and lock records: with fewer kinds to tell apart the code stays small that is built into another function.
-    #[inline(always)]
-    pub fn place_in_thread(&self, at: WordId) -> usize
-        requires { IsIn self.now at }
-        ensures { result ≡ place_of self.now at }
-    {
-        match at {
-            WordId::Hold { thread, place } => self.hold_at(thread, place),
-            WordId::Displaced { thread, place } => self.displaced_at(thread, place),
-            _ => self.place_elsewhere(at),
-        }
-    }
-
-    /// The same for owner words and recursions.
+    /// `place` for owner words and recursions: with fewer kinds to tell apart the code stays small that is built into another function.
     #[inline(always)]
     pub fn place_in_monitor(&self, at: WordId) -> usize
         requires { IsIn self.now at }

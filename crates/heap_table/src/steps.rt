@@ -4,6 +4,7 @@ ghost use Rattle.core_world.specs.Steps.{known_after};
 ghost use Rattle.heap_table.specs.Layout.{place_of, word_count};
 ghost use Rattle.heap_table.specs.Ruled.{only, heap_in, Stepped};
 ghost use Rattle.heap_table.specs.inner.Ruled.{MayStep};
+ghost use Rattle.heap_table.specs.inner.Seats.{IsSeatOn, IsTableOf};
 
 use crate::choice::{Chosen, Does};
 use crate::rule::{Place, Words};
@@ -20,9 +21,8 @@ fn step_as<C: Chosen>(
     plan: &StepPlan,
 ) -> u64
     requires chosen { (C.heap ≡ heap_in setting.now) × (C.plan ≡ plan.now) }
-    requires setting { (words.now.shared.key ≡ setting.now)
-        × (words.now.shared.table_id.words ≡ word_count setting.now.shape) }
-    requires seat { (seat.old.table_id ≡ words.now.shared.table_id) × (seat.old.me ≡ (only seat.old.me.0 ∷ [], [])) }
+    requires setting { IsTableOf setting.now words.now.shared.key words.now.shared.table_id }
+    requires seat { IsSeatOn words.now.shared.table_id seat.old }
     requires may { MayStep (heap_in setting.now) (only seat.old.me.0) plan.now }
     requires place { at ≡ place_of setting.now.shape plan.now.at }
     ensures seat { (seat.new.table_id ≡ seat.old.table_id)
@@ -46,9 +46,8 @@ fn step_as<C: Chosen>(
 /// Makes one atomic act on the word of the plan. It answers the word that it found.
 #[inline(always)]
 pub fn step_in_table(words: &Words, setting: &Setting, seat: &mut Place, plan: StepPlan) -> u64
-    requires setting { (words.now.shared.key ≡ setting.now)
-        × (words.now.shared.table_id.words ≡ word_count setting.now.shape) }
-    requires seat { (seat.old.table_id ≡ words.now.shared.table_id) × (seat.old.me ≡ (only seat.old.me.0 ∷ [], [])) }
+    requires setting { IsTableOf setting.now words.now.shared.key words.now.shared.table_id }
+    requires seat { IsSeatOn words.now.shared.table_id seat.old }
     requires may { MayStep (heap_in setting.now) (only seat.old.me.0) plan }
     ensures seat { (seat.new.table_id ≡ seat.old.table_id)
         × (seat.new.me ≡ (known_after setting.now.shape setting.now.start plan result (only seat.old.me.0) ∷ [], [])) }
@@ -58,27 +57,11 @@ pub fn step_in_table(words: &Words, setting: &Setting, seat: &mut Place, plan: S
     step_at(words, setting, seat, at, &plan)
 }
 
-/// The same, in less code, for a hold word or a lock record.
-#[inline(always)]
-pub fn step_in_thread(words: &Words, setting: &Setting, seat: &mut Place, plan: &StepPlan) -> u64
-    requires setting { (words.now.shared.key ≡ setting.now)
-        × (words.now.shared.table_id.words ≡ word_count setting.now.shape) }
-    requires seat { (seat.old.table_id ≡ words.now.shared.table_id) × (seat.old.me ≡ (only seat.old.me.0 ∷ [], [])) }
-    requires may { MayStep (heap_in setting.now) (only seat.old.me.0) plan.now }
-    ensures seat { (seat.new.table_id ≡ seat.old.table_id)
-        × (seat.new.me ≡ (known_after setting.now.shape setting.now.start plan.now result (only seat.old.me.0) ∷ [], [])) }
-    ensures stepped { Stepped (heap_in setting.now) (only seat.old.me.0) plan.now result }
-{
-    let at = setting.shape.place_in_thread(plan.at);
-    step_at(words, setting, seat, at, plan)
-}
-
 /// The same, in less code, for an owner word or recursions.
 #[inline(always)]
 pub fn step_in_monitor(words: &Words, setting: &Setting, seat: &mut Place, plan: &StepPlan) -> u64
-    requires setting { (words.now.shared.key ≡ setting.now)
-        × (words.now.shared.table_id.words ≡ word_count setting.now.shape) }
-    requires seat { (seat.old.table_id ≡ words.now.shared.table_id) × (seat.old.me ≡ (only seat.old.me.0 ∷ [], [])) }
+    requires setting { IsTableOf setting.now words.now.shared.key words.now.shared.table_id }
+    requires seat { IsSeatOn words.now.shared.table_id seat.old }
     requires may { MayStep (heap_in setting.now) (only seat.old.me.0) plan.now }
     ensures seat { (seat.new.table_id ≡ seat.old.table_id)
         × (seat.new.me ≡ (known_after setting.now.shape setting.now.start plan.now result (only seat.old.me.0) ∷ [], [])) }
@@ -97,9 +80,8 @@ pub fn step_at(
     at: usize,
     plan: &StepPlan,
 ) -> u64
-    requires setting { (words.now.shared.key ≡ setting.now)
-        × (words.now.shared.table_id.words ≡ word_count setting.now.shape) }
-    requires seat { (seat.old.table_id ≡ words.now.shared.table_id) × (seat.old.me ≡ (only seat.old.me.0 ∷ [], [])) }
+    requires setting { IsTableOf setting.now words.now.shared.key words.now.shared.table_id }
+    requires seat { IsSeatOn words.now.shared.table_id seat.old }
     requires may { MayStep (heap_in setting.now) (only seat.old.me.0) plan.now }
     requires place { at ≡ place_of setting.now.shape plan.now.at }
     ensures seat { (seat.new.table_id ≡ seat.old.table_id)

@@ -36,6 +36,7 @@ redrafted h p cut cells i = record {
   table = i.table;
   room = i.room;
   within = i.within;
+  home = i.home;
   classes = i.classes;
   first = i.first;
   threads = i.threads;

@@ -24,6 +24,7 @@ use plain_monitor::{Ending, Entry, Value, ending_entry, value_word};
 /// # Errors
 ///
 /// `Unguarded` exactly where the thread has no hold on the object. Then no step is made.
+#[inline(always)]
 pub fn get(heap: &Heap, pass: &mut Pass, object: u32, slot: u32) -> Result<Value, Unguarded>
     requires { MayOperate heap.now pass.old (Get object slot) }
     ensures rests { Rests heap.now pass.new }
@@ -42,6 +43,7 @@ pub fn get(heap: &Heap, pass: &mut Pass, object: u32, slot: u32) -> Result<Value
 
 /// Loads the value of the object's slot, as `get` does, where the thread has a hold on the object by its log. Whoever
 /// calls has looked for that, so the hold words are not looked through again.
+#[inline(always)]
 pub fn get_held(heap: &Heap, pass: &mut Pass, object: u32, slot: u32) -> Value
     requires may { MayOperate heap.now pass.old (Get object slot) }
     requires held { 1 ≤ held_by nothing_held pass.old.known.log object }
@@ -63,6 +65,7 @@ pub fn get_held(heap: &Heap, pass: &mut Pass, object: u32, slot: u32) -> Value
 /// # Errors
 ///
 /// `Unguarded` exactly where the thread has no hold on the object. Then no step is made.
+#[inline(always)]
 pub fn put(
     heap: &Heap,
     pass: &mut Pass,
@@ -88,6 +91,7 @@ pub fn put(
 
 /// Stores the value in the object's slot, as `put` does, where the thread has a hold on the object by its log. Whoever
 /// calls has looked for that, so the hold words are not looked through again.
+#[inline(always)]
 pub fn put_held(heap: &Heap, pass: &mut Pass, object: u32, slot: u32, value: Value)
     requires may { MayOperate heap.now pass.old (Put object slot value) }
     requires held { 1 ≤ held_by nothing_held pass.old.known.log object }

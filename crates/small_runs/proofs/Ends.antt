@@ -1,7 +1,7 @@
 -- A world of a heap of one thread, in which that rests, is an end of the heap.
 use Rattle.std.proofs.Common.{◌≡◌, ℕ, zero, suc, ◌+◌, ◌%◌, ◌^◌, ◌<◌, List, true, Some, refl, sym, ap, ◌∙◌, subst, arith}
 use Rattle.std.specs.Prelude.{slice_index, slice_get}
-use Rattle.core_world.specs.declared.word_id.WordId.TheVariants.{Safepoint}
+use Rattle.core_world.specs.declared.word_id.WordId.TheVariants.{Hold, Safepoint}
 use Rattle.core_world.specs.Steps.{is_idle}
 use Rattle.core_world.specs.Threads.AtRest.{AtRest}
 use Rattle.core_world.specs.Threads.ThreadView.{ThreadView}
@@ -11,6 +11,7 @@ use Rattle.core_law.specs.Logic.{Heap}
 use Rattle.core_law.specs.Reached.{IsReachable}
 use Rattle.core_law.proofs.Lawful.{sound_rests}
 use Rattle.core_steps.proofs.ReachedWorlds.{comes_sound}
+use Rattle.heap_table.specs.Layout.{place_of}
 use Rattle.heap_table.specs.Resting.{Rests}
 use Rattle.heap_table.specs.Seen.{HeapSeen}
 use Rattle.closed_heap_laws.specs.OfARun.{IsEnd}
@@ -58,6 +59,7 @@ resting h t w limits room some c over =
         table = refl;
         room = refl;
         within = subst (λ (u : ℕ). u < h.heap.shape.threads) (sym k.thread) some;
+        home = ap (λ (u : ℕ). place_of h.heap.shape (Hold u 0)) (sym k.thread);
         classes = refl;
         first = ap (λ (u : ℕ). (h.heap.start + u) % 2 ^ 32) (sym k.thread);
         threads = refl;

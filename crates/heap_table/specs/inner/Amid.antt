@@ -53,6 +53,7 @@ use Rattle.heap_table.specs.declared.quick.QuickExit.TheVariants as exits
 -- knows.
 pub record Late {A : Type 0} (h : HeapSeen) (t : HeapCall) (o : PassSeen) (d : StepTree A) (k : ThreadView) (x : StepTree A) (m : Mirror) : Type 0 where
   pub left : AreLeft h t o d (record o { known = k }) x
+  pub home : m.home ≡ o.home
   pub mirrors : Mirrors m k
 
 -- some call of this task, on this heap
@@ -302,6 +303,7 @@ pub record MayLeave (e : CallContext) (m : Mirror) (o p : ℕ) (last : Bool) : T
 -- what stays of a pass, whatever its thread comes to know
 pub record IsSameFrame (m n : Mirror) : Type 0 where
   pub room : n.room ≡ m.room
+  pub home : n.home ≡ m.home
   pub limit : limit_by n.keeps n.given n.room ≡ limit_by m.keeps m.given m.room
   pub classes : n.classes ≡ m.classes
   pub first : n.first ≡ m.first

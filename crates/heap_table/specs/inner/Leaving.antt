@@ -59,6 +59,8 @@ PartShown g e o _ m j = Mirrors (lagging e m) j
 pub record LatePart (h : HeapSeen) (p : PassSeen) (d : ExitTree) (e : CallContext) (o : ℕ) (r : ExitPart) (l : Local) (m : Mirror) (k : ThreadView)
     : Type 0 where
   pub left : AreLeft h e.task p d (record p { known = k }) (part_left e l o r)
+  pub home : m.home ≡ p.home
+  pub own : k.thread ≡ m.thread
   pub thread : l.thread ≡ m.thread
   pub holds : l.holds ≡ m.holds.words
   pub shown : PartShown h.heap e o r m k

@@ -58,6 +58,7 @@ loop-pass-preserved c =
       known = only c.pass.inside.seat.me.0;
       limit = limit_by m.keeps m.given m.room;
       room = m.room;
+      home = m.home;
       classes = m.classes;
       first = m.first;
       threads = m.shots.threads;

@@ -90,4 +90,4 @@ pub returns-in_default-clause-leads : goal.returns-in_default-clause-leads
 returns-in_default-clause-leads c = λ h o d its local late.
     let k = start_now h o in
     let left = late_as late (left_as_found c.args.how c.in_default.not-Done c.args.setting.now.shape c.args.call.now k (entered c.args.object c.args.now)) in
-    record { left = left.left; mirrors = c.stays_amid.ensures.shows _ left.mirrors }
+    record { left = left.left; home = c.stays_amid.ensures.frame.home ∙ left.home; mirrors = c.stays_amid.ensures.shows _ left.mirrors }

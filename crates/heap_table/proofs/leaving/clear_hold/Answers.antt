@@ -6,6 +6,7 @@ use Rattle.plain_monitor.specs.declared.entry.Entry.TheVariants as entry
 use Rattle.core_law.specs.Logic.{Heap}
 use Rattle.core_world.specs.declared.act.Act.TheVariants.{Load}
 use Rattle.core_world.specs.declared.plan.LocalEffect.TheVariants.{Unchanged}
+use Rattle.core_world.specs.declared.plan.StepPlan.{StepPlan}
 use Rattle.core_world.specs.declared.stage.Stage.TheVariants.{Settled}
 use Rattle.core_world.specs.declared.word_id.WordId.{WordId}
 use Rattle.core_world.specs.declared.word_id.WordId.TheVariants.{Hold, Stamp}
@@ -14,6 +15,7 @@ use Rattle.core_world.specs.Threads.ThreadView.{ThreadView, Local}
 use Rattle.core_world.specs.Trees.Plans.{CallContext, logging_plan, top_place, with_stage}
 use Rattle.core_world.specs.Trees.StepTree.{step}
 use Rattle.heap_table.specs.Kept.{Mirrors}
+use Rattle.heap_table.specs.Layout.{place_of}
 use Rattle.heap_table.specs.Ruled.{only}
 use Rattle.heap_table.specs.Seen.{HeapSeen, PassSeen}
 use Rattle.heap_table.specs.declared.holds.Holds.{Holds}
@@ -23,7 +25,7 @@ use Rattle.heap_table.specs.inner.Leaving.{LatePart, PartShown, clear_by, ending
 use Rattle.heap_table.specs.inner.Ruled.{MayStep}
 use Rattle.heap_table.proofs.ExitEnds.{part_few, part_low}
 use Rattle.heap_table.proofs.HoldSteps.{follow_clear, follow_left}
-use Rattle.heap_table.proofs.Late.{gone, knows_gone, may_go, shows_alike, shows_idle}
+use Rattle.heap_table.proofs.Late.{gone, hold_lies, knows_gone, may_go, shows_alike, shows_idle}
 use Rattle.heap_table.proofs.Stamps.{low, short}
 use Rattle.heap_table.proofs.StepsLeft.{AreLeft, left_as}
 use Rattle.heap_table.proofs.leaving.clear_hold.Goals as goal
@@ -86,11 +88,23 @@ left_to_clear : (c : After-clearing-clear) (h : HeapSeen) (p : PassSeen) (d : Ex
     LatePart h p d e c.args.object (ending_part c.args.logged) l c.args.mirror.now (only c.args.seat.now.me.0) → to_clear c h p d l
 left_to_clear c h p d l late = left_as late.left (by_step c.args.logged c.args.call.now l c.args.object)
 
-pub step_in_thread-found-requires-clause-may : goal.step_in_thread-found-requires-clause-may
-step_in_thread-found-requires-clause-may c =
-    let z = (goal.at.step_in_thread-found-requires-clause-may c).After-clearing-clear in
+pub step_at-found-requires-clause-may : goal.step_at-found-requires-clause-may
+step_at-found-requires-clause-may c =
+    let z = (goal.at.step_at-found-requires-clause-may c).After-clearing-clear in
     let a = c.requires.amid in
     may_go (left_to_clear z a.heap a.begun a.due a.local a.late) a.its (said z a.local a.late.thread a.late.holds) (of_call c.args.logged _ _ _)
+
+at_place : (b : Bool) (e : CallContext) (o : ℕ) (at : WordId) → (clear_by b e o at).at ≡ at
+at_place true e o at = refl
+at_place false e o at = refl
+
+pub step_at-found-requires-clause-place : goal.step_at-found-requires-clause-place
+step_at-found-requires-clause-place c =
+    let a = c.requires.amid in
+    let m = c.args.mirror.now in
+    let plan = ap (λ (p : StepPlan). p.at) c.clearing-clear.ensures ∙ at_place c.args.logged c.args.call.now c.args.object (Hold m.thread c.args.place) in
+    c.hold_at-hold_at.ensures ∙ hold_lies a.begun m a.late.left.heap a.its a.late.home a.late.own c.args.place
+    ∙ ap (place_of c.args.setting.now.shape) (sym plan)
 
 -- The log has room for the entry.
 pub note-requires-clause-few : goal.note-requires-clause-few
@@ -118,7 +132,7 @@ clear-requires-clause-place c =
     subst (λ (p : ℕ). p < most_holds) (ap (top_place o) a.late.holds ∙ sym c.requires.may.clears.place) (in_place c.args.logged c.args.call.now o _ _ _ _ may)
 
 abbrev after_step : After-clear → After-clearing-clear
-after_step c = c.before.before.before.before.before.before.before
+after_step c = c.before.before.before.before.before.before.before.before
 
 still_idle : (c : After-clear) → IsIdle c.args.call.now (record c.note.new.self { holds = c.clear.new.self })
 still_idle c = let idle = c.requires.may.clears.idle in
@@ -134,11 +148,11 @@ returns-clause-leads c = λ h p d l its late.
     let o = c.args.object in
     let b = c.args.logged in
     let k = only c.args.seat.now.me.0 in
-    let n = c.step_in_thread-found.result in
+    let n = c.step_at-found.result in
     let place = top_place o l.holds in
     let plan = clear_by b e o (Hold l.thread place) in
     let left = left_to_clear z h p d l late in
-    let told = c.step_in_thread-found.ensures.seat.1 in
+    let told = c.step_at-found.ensures.seat.1 in
     let says = said z l late.thread late.holds in
     let task = of_call b e o (Hold l.thread place) in
     let at = c.requires.may.clears.place ∙ ap (top_place o) (sym late.holds) in
@@ -147,6 +161,7 @@ returns-clause-leads c = λ h p d l its late.
     (λ j shows. c.note.ensures.shows h.heap.shape h.heap.start e Settled (Stamp o) Load j (aside o n c.args.mirror.now) shows) b late.shown in
     let now = shows_idle e _ (record c.note.new.self { holds = c.clear.new.self }) (still_idle (goal.at.returns-clause-leads c).After-clear) shown in
     record {
-      left = gone left its says task (keeps_none b e o (Hold l.thread place)) c.step_in_thread-found.ensures.stepped told;
+      left = gone left its says task (keeps_none b e o (Hold l.thread place)) c.step_at-found.ensures.stepped told;
+      home = c.note.ensures.frame.home ∙ late.home;
       mirrors = shows_alike _ _ _ _ _ _ (subst (Mirrors (record c.note.new.self { holds = c.clear.new.self })) (sym (knows_gone left its says task n told)) now);
     }

@@ -51,6 +51,9 @@ clear_hold-requires-clause-amid c =
     subst (IsAmidPart c.args.setting.now c.args.call.now c.args.object c.args.mirror.now (only c.args.seat.now.me.0))
     (ends c.args.place c.in-Some.logged c.args.how.now (sym c.clears.ensures ∙ c.in-Some.is)) c.requires.amid
 
+pub returns-in-Some-clause-answer : goal.returns-in-Some-clause-answer
+returns-in-Some-clause-answer c = sym (over_by c.args.place c.in-Some.logged c.args.how.now (sym c.clears.ensures ∙ c.in-Some.is))
+
 pub returns-in-Some-clause-idle : goal.returns-in-Some-clause-idle
 returns-in-Some-clause-idle c =
     subst (λ (x : _). LeavesIdle x c.args.call.now c.clear_hold.new.mirror)
@@ -110,5 +113,6 @@ returns-in-None-clause-leads c = λ h p d l its late.
     let is = sym c.clears.ensures ∙ c.in-None.is in
     record {
       left = left_as late.left (left_so c.args.place c.args.how.now is c.args.call.now l c.args.object);
+      home = c.stays_amid.ensures.frame.home ∙ late.home;
       mirrors = c.stays_amid.ensures.shows _ (shown_so c.args.how.now is h.heap c.args.call.now c.args.object c.args.mirror.now _ late.shown);
     }

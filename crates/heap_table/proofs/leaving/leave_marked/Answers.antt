@@ -25,7 +25,7 @@ end_exit-requires-clause-amid c =
 
 pub returns-clause-idle : goal.returns-clause-idle
 returns-clause-idle c =
-    subst (λ (r : QuickExit). LeavesIdle r c.args.call.now c.end_exit.new.mirror) (sym c.left_by.ensures) c.end_exit.ensures.idle
+    subst (λ (r : QuickExit). LeavesIdle r c.args.call.now c.end_exit.new.mirror) (sym c.end_exit.ensures.answer) c.end_exit.ensures.idle
 
 -- what was taken at the beginning, by the answer
 keeps_so : (r : ExitPart) (o place : ℕ) (i k j : ThreadView) → place ≡ top_place o i.holds → KeepsPart r i k → KeepsPart r k j → KeepsExit o (left_by place r) i j
@@ -38,10 +38,10 @@ keeps_so (parts.Owned m owner) o place i k j at since is = (at, start_since sinc
 pub returns-clause-start : goal.returns-clause-start
 returns-clause-start c =
     let at = c.requires.may.clears.place ∙ ap (top_place c.args.object) (sym c.requires.amid.late.mirrors.holds) in
-    subst (λ (r : QuickExit). KeepsExit c.args.object r (only c.args.seat.now.me.0) (only c.end_exit.new.seat.me.0)) (sym c.left_by.ensures)
+    subst (λ (r : QuickExit). KeepsExit c.args.object r (only c.args.seat.now.me.0) (only c.end_exit.new.seat.me.0)) (sym c.end_exit.ensures.answer)
     (keeps_so c.part-how.result c.args.object c.args.place _ _ _ at c.part-how.ensures.start c.end_exit.ensures.start)
 
 pub returns-clause-leads : goal.returns-clause-leads
 returns-clause-leads c = λ h p d its late.
     late_as (c.end_exit.ensures.leads h p d (local_of (only c.args.seat.now.me.0)) its (c.part-how.ensures.leads h p d its late))
-    (ap (exit_left c.args.call.now (local_of (only c.args.seat.now.me.0)) c.args.object) (sym c.left_by.ensures))
+    (ap (exit_left c.args.call.now (local_of (only c.args.seat.now.me.0)) c.args.object) (sym c.end_exit.ensures.answer))

@@ -39,6 +39,7 @@ returns-clause-pass c =
     let mirror = c.in_ok-mirror.mirror in
     let limit : limit_by mirror.keeps mirror.given mirror.room ≡ limit_by c.args.keeps 0 c.args.room =
     λ i. limit_by (fixed.5 i) (fixed.1 i) (fixed.0 i) in
+    let home = c.in_ok-mirror.ensures.home ∙ c.hold_at-home.ensures.place in
     let classes = fixed.2 ∙ c.classes.ensures in
     let threads = ap (λ (z : Shots). z.threads) fixed.4 ∙ fresh.0 ∙ c.threads.ensures.same in
     let objects = ap (λ (z : Shots). z.objects) fixed.4 ∙ fresh.1 ∙ c.objects.ensures in
@@ -49,6 +50,7 @@ returns-clause-pass c =
       known = known i;
       limit = limit i;
       room = fixed.0 i;
+      home = home i;
       classes = classes i;
       first = fixed.3 i;
       threads = threads i;

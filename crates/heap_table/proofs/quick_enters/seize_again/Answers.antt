@@ -45,7 +45,7 @@ raising : (c : After-quiet-second) → let e = c.args.call.now in let k = only c
     (step (raise_count_plan e c.args.object c.args.monitor c.step_in_monitor-recursions.result)
     (λ _. record_steps e (RecursionsRaised c.args.object) (local_of k) c.args.object MonitorAgain >>= answer))
 raising c = λ h o d its late.
-    made_step late its c.quiet-first.ensures refl refl c.step_in_monitor-recursions.ensures.stepped c.step_in_monitor-recursions.ensures.seat.1
+    made_step late its c.quiet-first.ensures refl refl refl c.step_in_monitor-recursions.ensures.stepped c.step_in_monitor-recursions.ensures.seat.1
     (follow_quiet h.heap.shape h.heap.start c.args.call.now Settled (Recursions c.args.monitor) Load c.step_in_monitor-recursions.result _ _ refl refl
     (λ l. refl) (λ l. refl) (λ l. refl) late.mirrors)
 
@@ -73,7 +73,7 @@ raised c = λ h o d its late.
     let e = c.args.call.now in
     let k = only c.args.seat.now.me.0 in
     let here = raising (second_of c) h o d its late in
-    late_as (made_step here its c.quiet-second.ensures refl refl c.step_in_monitor.ensures.stepped c.step_in_monitor.ensures.seat.1
+    late_as (made_step here its c.quiet-second.ensures refl refl refl c.step_in_monitor.ensures.stepped c.step_in_monitor.ensures.seat.1
     (follow_quiet h.heap.shape h.heap.start e (RecursionsRaised c.args.object) (Recursions c.args.monitor) (Store (c.step_in_monitor-recursions.result + 1))
     c.step_in_monitor.result _ _ refl refl (λ l. refl) (λ l. refl) (λ l. refl) here.mirrors))
     (recorded_ended e (local_of k) c.args.object MonitorAgain (not_entering _ _ late.mirrors c.requires.may.waits) (RecursionsRaised c.args.object) 3

@@ -52,7 +52,7 @@ loaded : (c : After-step_at-prototype) → let e = c.args.call.now in let s = c.
     GoesSince c.args.setting.now e c.args.mirror.now (only c.args.seat.now.me.0) (λ k. biased_left s e k b c.args.mark)
     (only c.step_at-prototype.new.seat.me.0) (λ k. prototype_left s e k b c.args.mark c.step_at-prototype.result)
 loaded c = λ h o d its local late.
-    made_step late its (first_plan (first_of c)) refl refl c.step_at-prototype.ensures.stepped c.step_at-prototype.ensures.seat.1
+    made_step late its (first_plan (first_of c)) refl refl refl c.step_at-prototype.ensures.stepped c.step_at-prototype.ensures.seat.1
     (follow_quiet h.heap.shape h.heap.start c.args.call.now Settled (Prototype (class_in_shape c.args.setting.now.shape c.args.object)) Load
     c.step_at-prototype.result _ _ refl refl (λ l. refl) (λ l. refl) (λ l. refl) late.mirrors)
 

@@ -52,7 +52,7 @@ returns-then-found-ne0-clause-leads c = λ h o d its late.
     let plan = grab_plan c.args.call.now (only c.args.seat.now.me.0).thread c.args.object c.args.monitor in
     let n = c.step_in_monitor-found.result in
     let other : hits plan.act n ≡ false = ne_eqb _ _ c.if-found-ne0.true in
-    made_step late its (first_plan y) refl refl c.step_in_monitor-found.ensures.stepped c.step_in_monitor-found.ensures.seat.1
+    made_step late its (first_plan y) refl refl refl c.step_in_monitor-found.ensures.stepped c.step_in_monitor-found.ensures.seat.1
     (follow_missed h.heap.shape h.heap.start plan n _ _ other refl late.mirrors)
 
 -- It hit: the record gets its word.
@@ -68,7 +68,7 @@ acquired c same = λ h o d its late.
     let e = c.args.call.now in
     let k = only c.args.seat.now.me.0 in
     let n = c.step_in_monitor-found.result in
-    late_as (made_step late its (first_plan (first_of c)) refl refl c.step_in_monitor-found.ensures.stepped c.step_in_monitor-found.ensures.seat.1
+    late_as (made_step late its (first_plan (first_of c)) refl refl refl c.step_in_monitor-found.ensures.stepped c.step_in_monitor-found.ensures.seat.1
     (follow_quiet h.heap.shape h.heap.start e (MonitorAcquired c.args.object) (Owner c.args.monitor) (CompareExchange 0 (owner_of (ByThread k.thread))) n _ _
     (eq-eqb _ _ same) refl (λ l. refl) (λ l. refl) (λ l. refl) late.mirrors))
     (ap (λ (f : Option OwnerForm). monitor_enter_at f e (local_of k) c.args.object c.args.monitor n >>= answer) (ap read_owner same ∙ is_free)

@@ -12,10 +12,12 @@ use Rattle.core_world.specs.Trees.LockSteps.{displace_plan, seize_plan, hold_ste
 use Rattle.core_world.specs.Trees.Operations.{answer}
 use Rattle.core_world.specs.Trees.Plans.{CallContext, done_with, pending_for, free_place, quiet_plan, with_stage}
 use Rattle.core_world.specs.Trees.StepTree.{step, ◌>>=◌}
+use Rattle.core_world.specs.declared.plan.StepPlan.{StepPlan}
+use Rattle.heap_table.specs.Layout.{place_of}
 use Rattle.heap_table.specs.Ruled.{heap_in, only}
 use Rattle.heap_table.specs.inner.Amid.{EnterTree, Goes, IsStartOf, first_enter}
 use Rattle.heap_table.proofs.HoldEnds.{hold_ended, not_entering}
-use Rattle.heap_table.proofs.Late.{exchange_keeps, keeps_start, late_as, may_step, made_step, follow_missed, follow_quiet, start_after}
+use Rattle.heap_table.proofs.Late.{exchange_keeps, keeps_start, late_as, may_step, made_step, follow_missed, follow_quiet, record_late, start_after}
 use Rattle.heap_table.proofs.quick_enters.seize_by_record.Goals as goal
 use Rattle.heap_table.proofs.quick_enters.seize_by_record.Goals.{After-quiet-first, After-quiet-second, After-step_at-found}
 
@@ -34,23 +36,29 @@ first_plan : (c : After-quiet-first) → let k = only c.args.seat.now.me.0 in
 first_plan c = c.quiet-first.ensures
     ∙ λ i. with_stage Settled (quiet_plan c.args.call.now (Displaced (its_thread c i) (its_place c i)) (Store c.args.mark))
 
-pub step_in_thread-requires-clause-may : goal.step_in_thread-requires-clause-may
-step_in_thread-requires-clause-may c =
-    let z = (goal.at.step_in_thread-requires-clause-may c).After-quiet-first in
+pub step_at-requires-clause-place : goal.step_at-requires-clause-place
+step_at-requires-clause-place c =
+    let a = c.requires.amid in
+    c.displaced_at-record_at.ensures ∙ record_late a.late a.its c.args.mirror.now.holds.used
+    ∙ ap (λ (p : StepPlan). place_of c.args.setting.now.shape p.at) (sym c.quiet-first.ensures)
+
+pub step_at-requires-clause-may : goal.step_at-requires-clause-may
+step_at-requires-clause-may c =
+    let z = (goal.at.step_at-requires-clause-may c).After-quiet-first in
     may_step c.requires.amid.late c.requires.amid.its (first_plan z) refl
 
 -- THE MARK is exchanged.
 abbrev first_of : After-quiet-second → After-quiet-first
-first_of c = c.before.before.before.before.before.before
+first_of c = c.before.before.before.before.before.before.before
 
 seizing : (c : After-quiet-second) → let e = c.args.call.now in let k = only c.args.seat.now.me.0 in
-    Goes c.args.setting.now e c.args.mirror.now k (first_enter e (local_of k) c.args.object c.args.mark) (only c.step_in_thread.new.seat.me.0)
+    Goes c.args.setting.now e c.args.mirror.now k (first_enter e (local_of k) c.args.object c.args.mark) (only c.step_at.new.seat.me.0)
     (step (seize_plan e k.thread c.args.object c.args.mark (free_place k.holds)) (seized e (local_of k) c.args.object c.args.mark))
 seizing c = λ h o d its late.
     let e = c.args.call.now in
     let k = only c.args.seat.now.me.0 in
-    made_step late its (first_plan (first_of c)) refl refl c.step_in_thread.ensures.stepped c.step_in_thread.ensures.seat.1
-    (follow_quiet h.heap.shape h.heap.start e Settled (Displaced k.thread (free_place k.holds)) (Store c.args.mark) c.step_in_thread.result _ _ refl refl
+    made_step late its (first_plan (first_of c)) refl refl refl c.step_at.ensures.stepped c.step_at.ensures.seat.1
+    (follow_quiet h.heap.shape h.heap.start e Settled (Displaced k.thread (free_place k.holds)) (Store c.args.mark) c.step_at.result _ _ refl refl
     (λ l. refl) (λ l. refl) (λ l. refl) late.mirrors)
 
 second_plan : (c : After-quiet-second) → let k = only c.args.seat.now.me.0 in
@@ -78,7 +86,7 @@ keeps : (c : After-step_at-found) → IsStartOf (only c.args.seat.now.me.0) (onl
 keeps c =
     let b = heap_in c.args.setting.now in
     let k = only c.args.seat.now.me.0 in
-    let first = keeps_start b c.step_in_thread.result (first_plan (first_of c.before.before.before)) c.step_in_thread.ensures.seat.1 (record { local = refl; kept = refl }) in
+    let first = keeps_start b c.step_at.result (first_plan (first_of c.before.before.before)) c.step_at.ensures.seat.1 (record { local = refl; kept = refl }) in
     start_after b c.step_at-found.result first (its_plan c) c.step_at-found.ensures.seat.1 (exchange_keeps _ _
     (seize_plan c.args.call.now k.thread c.args.object c.args.mark (free_place k.holds)) c.step_at-found.result _ (record { local = refl; kept = refl })
     (record { local = refl; kept = refl }))
@@ -98,7 +106,7 @@ returns-then-found-mark-clause-leads c = λ h o d its late.
     let found = c.step_at-found.result in
     let other : (found == c.args.mark) ≡ false = ne_eqb _ _ c.if-found-mark.true in
     let here = seizing z.before.before.before h o d its late in
-    late_as (made_step here its (its_plan z) refl refl c.step_at-found.ensures.stepped c.step_at-found.ensures.seat.1
+    late_as (made_step here its (its_plan z) refl refl refl c.step_at-found.ensures.stepped c.step_at-found.ensures.seat.1
     (follow_missed h.heap.shape h.heap.start (seize_plan e k.thread c.args.object c.args.mark (free_place k.holds)) found _ _ other refl here.mirrors))
     (ap (λ b. (if b then hold_steps e (local_of k) c.args.object StackFirst >>= done_with else pending_for (why.Raced c.args.mark found)) >>= answer) other)
 
@@ -111,7 +119,7 @@ returns-clause-leads c = λ h o d its late.
     let found = c.step_at-found.result in
     let hit : (found == c.args.mark) ≡ true = eq-eqb _ _ c.if-found-mark.false in
     let here = seizing z.before.before.before h o d its late in
-    late_as (made_step here its (its_plan z) refl refl c.step_at-found.ensures.stepped c.step_at-found.ensures.seat.1
+    late_as (made_step here its (its_plan z) refl refl refl c.step_at-found.ensures.stepped c.step_at-found.ensures.seat.1
     (follow_quiet h.heap.shape h.heap.start e (RecordLocked c.args.object (free_place k.holds)) (Mark c.args.object)
     (CompareExchange c.args.mark (mark_of (Locked k.thread (free_place k.holds)))) found _ _ hit refl (λ l. refl) (λ l. refl) (λ l. refl) here.mirrors))
     (ap (λ b. (if b then hold_steps e (local_of k) c.args.object StackFirst >>= done_with else pending_for (why.Raced c.args.mark found)) >>= answer) hit

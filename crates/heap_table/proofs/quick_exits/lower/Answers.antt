@@ -24,6 +24,6 @@ returns-clause-leads c = λ h p d its late.
     let k = only c.args.seat.now.me.0 in
     let plan = first_plan (goal.at.returns-clause-leads c).After-step_in_monitor.before.before.before in
     held_part (local_of k) parts.Held late.mirrors.thread late.mirrors.holds (λ j g shows. shows) refl
-    (made_step late its plan refl refl c.step_in_monitor.ensures.stepped c.step_in_monitor.ensures.seat.1
+    (made_step late its plan refl refl refl c.step_in_monitor.ensures.stepped c.step_in_monitor.ensures.seat.1
     (follow_quiet h.heap.shape h.heap.start c.args.call.now (RecursionsLowered c.args.object) (Recursions c.args.monitor) (Store (c.args.recursions - 1))
     c.step_in_monitor.result _ _ refl refl (λ l. refl) (λ l. refl) (λ l. refl) late.mirrors))

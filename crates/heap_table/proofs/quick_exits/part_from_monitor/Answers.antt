@@ -40,7 +40,7 @@ found : (c : After-step_in_monitor-owner) → let e = c.args.call.now in let k =
     Goes c.args.setting.now e c.args.mirror.now k (monitor_exit e (local_of k) c.args.object c.args.monitor)
     (only c.step_in_monitor-owner.new.seat.me.0) (owner_left e (local_of k) c.args.object c.args.monitor c.step_in_monitor-owner.result)
 found c = λ h o d its late.
-    made_step late its (first_plan c.before.before.before) refl refl c.step_in_monitor-owner.ensures.stepped c.step_in_monitor-owner.ensures.seat.1
+    made_step late its (first_plan c.before.before.before) refl refl refl c.step_in_monitor-owner.ensures.stepped c.step_in_monitor-owner.ensures.seat.1
     (follow_quiet h.heap.shape h.heap.start c.args.call.now Settled (Owner c.args.monitor) Load c.step_in_monitor-owner.result _ _ refl refl
     (λ l. refl) (λ l. refl) (λ l. refl) late.mirrors)
 
@@ -100,7 +100,7 @@ by_number b c is = λ h o d its late.
     let z = c.before.before.before in
     let here = owned z h o d its late in
     let n = c.step_in_monitor-recursions.result in
-    late_as (made_step here its (second_plan z) refl refl c.step_in_monitor-recursions.ensures.stepped c.step_in_monitor-recursions.ensures.seat.1
+    late_as (made_step here its (second_plan z) refl refl refl c.step_in_monitor-recursions.ensures.stepped c.step_in_monitor-recursions.ensures.seat.1
     (follow_quiet h.heap.shape h.heap.start e Settled (Recursions c.args.monitor) Load n _ _ refl refl (λ l. refl) (λ l. refl) (λ l. refl) here.mirrors))
     (λ i. counted e (sym (stays c) i) c.args.object c.args.monitor n (is i))
 

@@ -8,7 +8,7 @@ use Rattle.core_world.specs.declared.answer.StackOut.TheVariants.{Left, Not}
 use Rattle.core_world.specs.declared.stage.Stage.TheVariants.{Exits}
 use Rattle.core_world.specs.declared.word_id.WordId.TheVariants.{Mark}
 use Rattle.core_world.specs.Steps.{known_hit, known_miss}
-use Rattle.core_world.specs.Threads.ThreadView.{Local, local_of}
+use Rattle.core_world.specs.Threads.ThreadView.{Local, ThreadView, local_of}
 use Rattle.core_world.specs.Trees.LockSteps.{clear_steps, let_go_plan}
 use Rattle.core_world.specs.Trees.Operations.{answer, exit_at}
 use Rattle.core_world.specs.Trees.Plans.{CallContext, logging_plan, top_place, with_stage}
@@ -52,7 +52,7 @@ returns-then-found-mark-clause-leads c = λ h p d its late.
     let plan = first_plan (goal.at.returns-then-found-mark-clause-leads c).After-logging-first in
     held_part (local_of k) (parts.Raced c.args.mark n) late.mirrors.thread late.mirrors.holds (λ j g shows. shows)
     (ap (exchanged e (local_of k) o c.args.mark n) other)
-    (made_step late its plan refl refl c.step_at-found.ensures.stepped c.step_at-found.ensures.seat.1
+    (made_step late its plan refl refl refl c.step_at-found.ensures.stepped c.step_at-found.ensures.seat.1
     (follow_missed h.heap.shape h.heap.start (let_go_plan e o c.args.mark c.args.header (top_place o k.holds)) n _ _ other refl late.mirrors))
 
 -- It hit, and logged the exit.
@@ -71,6 +71,8 @@ returns-clause-leads c = λ h p d its late.
     let knows = knows_gone late.left its its_plan refl n told ∙ ap (λ (b : Bool). cond b (known_hit s start plan n k) (known_miss s start plan n k)) same in
     record {
       left = left_as (gone late.left its its_plan refl refl c.step_at-found.ensures.stepped told) (ap (exchanged e (local_of k) o c.args.mark n) same);
+      home = late.home;
+      own = ap (λ (j : ThreadView). j.thread) knows ∙ late.mirrors.thread;
       thread = late.mirrors.thread;
       holds = late.mirrors.holds;
       shown = subst (IsUnnoted h.heap e o c.args.mirror.now) (sym knows)

@@ -13,18 +13,20 @@ use Rattle.core_world.specs.Trees.LockSteps.{leave_steps, raise_stamp_plan, rais
 use Rattle.core_world.specs.Trees.Operations.{answer, exit_at}
 use Rattle.core_world.specs.Trees.Plans.{CallContext, load, next_stamp, quiet_plan, top_place, with_stage}
 use Rattle.core_world.specs.Trees.StepTree.{ask, done, step, ◌>>=◌}
+use Rattle.core_world.specs.declared.plan.StepPlan.{StepPlan}
+use Rattle.heap_table.specs.Layout.{place_of}
 use Rattle.heap_table.specs.Kept.{Mirrors}
 use Rattle.heap_table.specs.Ruled.{heap_in, only}
 use Rattle.heap_table.specs.Seen.{HeapSeen, PassSeen}
 use Rattle.heap_table.specs.declared.mirror.Mirror.{Mirror}
 use Rattle.heap_table.specs.declared.quick_exits.ExitPart.TheVariants as parts
 use Rattle.heap_table.specs.inner.Amid.{ExitTree, Goes, IsStartOf, Late, lagging, marked_exit, unbiased_exit}
-use Rattle.heap_table.proofs.Late.{amid_by, follow_quiet, late_as, made_step, may_step, raise_if, raise_keeps, raised, start_after}
+use Rattle.heap_table.proofs.Late.{amid_by, follow_quiet, late_as, made_step, may_step, raise_if, record_late, raise_keeps, raised, start_after}
 use Rattle.heap_table.proofs.ExitEnds.{held_part, part_by, part_keeps}
 use Rattle.heap_table.proofs.Loops.{binds}
 use Rattle.heap_table.proofs.LowBits.{found_mark}
 use Rattle.heap_table.proofs.quick_exits.part_unbiased.Goals as goal
-use Rattle.heap_table.proofs.quick_exits.part_unbiased.Goals.{After-raise_at, After-quiet-first, After-step_in_thread-header, After-quiet-second}
+use Rattle.heap_table.proofs.quick_exits.part_unbiased.Goals.{After-raise_at, After-quiet-first, After-step_at-header, After-quiet-second}
 use Rattle.heap_table.proofs.quick_exits.part_unbiased.Goals.{After-step_at-mark}
 
 abbrev gone : CallContext → Local → ℕ → StackOut → ExitTree
@@ -94,42 +96,48 @@ first_plan c =
 abbrev after_raise : After-quiet-first → After-raise_at
 after_raise c = c.before
 
-pub step_in_thread-header-requires-clause-may : goal.step_in_thread-header-requires-clause-may
-step_in_thread-header-requires-clause-may c =
-    let z = (goal.at.step_in_thread-header-requires-clause-may c).After-quiet-first in
+pub step_at-header-requires-clause-place : goal.step_at-header-requires-clause-place
+step_at-header-requires-clause-place c =
+    let a = c.requires.amid in
+    c.displaced_at-record_at.ensures ∙ record_late a.late a.its c.args.place
+    ∙ ap (λ (p : StepPlan). place_of c.args.setting.now.shape p.at) (sym c.quiet-first.ensures)
+
+pub step_at-header-requires-clause-may : goal.step_at-header-requires-clause-may
+step_at-header-requires-clause-may c =
+    let z = (goal.at.step_at-header-requires-clause-may c).After-quiet-first in
     let a = c.requires.amid in may_step (raising (after_raise z) a.heap a.begun a.due a.its a.late).2 a.its (first_plan z) refl
 
-by_header : (b : Bool) (c : After-step_in_thread-header) → let e = c.args.call.now in let k = only c.args.seat.now.me.0 in
-    let n = c.step_in_thread-header.result in (n == 0) ≡ b
+by_header : (b : Bool) (c : After-step_at-header) → let e = c.args.call.now in let k = only c.args.seat.now.me.0 in
+    let n = c.step_at-header.result in (n == 0) ≡ b
     → Goes c.args.setting.now e c.args.mirror.now k (unbiased_exit e (local_of k) c.args.object)
-    (only c.step_in_thread-header.new.seat.me.0) (headed e (local_of k) c.args.object n b)
+    (only c.step_at-header.new.seat.me.0) (headed e (local_of k) c.args.object n b)
 by_header b c is = λ h o d its late.
     let e = c.args.call.now in
     let k = local_of (only c.args.seat.now.me.0) in
-    let n = c.step_in_thread-header.result in
-    let z = c.before.before.before in
+    let n = c.step_at-header.result in
+    let z = c.before.before.before.before in
     let here = (raising (after_raise z) h o d its late).2 in
-    late_as (made_step here its (first_plan z) refl refl c.step_in_thread-header.ensures.stepped c.step_in_thread-header.ensures.seat.1
+    late_as (made_step here its (first_plan z) refl refl refl c.step_at-header.ensures.stepped c.step_at-header.ensures.seat.1
     (follow_quiet h.heap.shape h.heap.start e Settled (Displaced k.thread (top_place c.args.object k.holds)) Load n _ _ refl refl
     (λ l. refl) (λ l. refl) (λ l. refl) here.mirrors)) (ap (headed e k c.args.object n) is)
 
-since_header : (c : After-step_in_thread-header) → IsStartOf (only c.args.seat.now.me.0) (only c.step_in_thread-header.new.seat.me.0)
+since_header : (c : After-step_at-header) → IsStartOf (only c.args.seat.now.me.0) (only c.step_at-header.new.seat.me.0)
 since_header c =
-    let z = c.before.before.before in
-    start_after (heap_in c.args.setting.now) c.step_in_thread-header.result (since_raise (after_raise z)) (first_plan z)
-    c.step_in_thread-header.ensures.seat.1 (record { local = refl; kept = refl })
+    let z = c.before.before.before.before in
+    start_after (heap_in c.args.setting.now) c.step_at-header.result (since_raise (after_raise z)) (first_plan z)
+    c.step_at-header.ensures.seat.1 (record { local = refl; kept = refl })
 
 -- It is 0: the record is recursive.
 pub returns-then-header-eq0-clause-leads : goal.returns-then-header-eq0-clause-leads
 returns-then-header-eq0-clause-leads c = λ h p d its late.
     held_part (local_of (only c.args.seat.now.me.0)) parts.Held late.mirrors.thread late.mirrors.holds (λ j g shows. shows) refl
-    (by_header true (goal.at.returns-then-header-eq0-clause-leads c).After-step_in_thread-header (eq-eqb _ _ c.if-header-eq0.true) h p d its late)
+    (by_header true (goal.at.returns-then-header-eq0-clause-leads c).After-step_at-header (eq-eqb _ _ c.if-header-eq0.true) h p d its late)
 
 -- It is a header: THE MARK is loaded.
 second_plan : (c : After-quiet-second) → c.quiet-second.result ≡ load c.args.call.now (Mark c.args.object)
 second_plan c = c.quiet-second.ensures
 
-abbrev after_header : After-quiet-second → After-step_in_thread-header
+abbrev after_header : After-quiet-second → After-step_at-header
 after_header c = c.before.before
 
 pub step_at-mark-requires-clause-may : goal.step_at-mark-requires-clause-may
@@ -145,15 +153,15 @@ since_mark c =
 
 marked : (c : After-step_at-mark) → let e = c.args.call.now in let k = only c.args.seat.now.me.0 in let j = only c.step_at-mark.new.seat.me.0 in
     Goes c.args.setting.now e c.args.mirror.now k (unbiased_exit e (local_of k) c.args.object)
-    j (marked_exit e (local_of j) c.args.object c.step_in_thread-header.result c.step_at-mark.result)
+    j (marked_exit e (local_of j) c.args.object c.step_at-header.result c.step_at-mark.result)
 marked c = λ h o d its late.
     let e = c.args.call.now in
     let n = c.step_at-mark.result in
     let z = c.before.before.before in
     let here = by_header false (after_header z) (ne_eqb _ _ c.if-header-eq0.false) h o d its late in
-    late_as (made_step here its (second_plan z) refl refl c.step_at-mark.ensures.stepped c.step_at-mark.ensures.seat.1
+    late_as (made_step here its (second_plan z) refl refl refl c.step_at-mark.ensures.stepped c.step_at-mark.ensures.seat.1
     (follow_quiet h.heap.shape h.heap.start e Settled (Mark c.args.object) Load n _ _ refl refl (λ l. refl) (λ l. refl) (λ l. refl) here.mirrors))
-    (ap (λ (k : Local). marked_exit e k c.args.object c.step_in_thread-header.result n) (sym (since_mark c).local))
+    (ap (λ (k : Local). marked_exit e k c.args.object c.step_at-header.result n) (sym (since_mark c).local))
 
 pub part_marked-requires-clause-found : goal.part_marked-requires-clause-found
 part_marked-requires-clause-found c =

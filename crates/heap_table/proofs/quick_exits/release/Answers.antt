@@ -3,11 +3,13 @@ use Rattle.std.proofs.Common.{refl, sym, ap, ◌∙◌, ◌≡◌, subst}
 use Rattle.plain_monitor.specs.declared.entry.Entry.TheVariants as entry
 use Rattle.core_world.specs.declared.act.Act.TheVariants.{Store}
 use Rattle.core_world.specs.declared.stage.Stage.TheVariants.{Exits}
+use Rattle.core_world.specs.Threads.ThreadView.{ThreadView}
 use Rattle.core_world.specs.declared.word_id.WordId.TheVariants.{Owner}
 use Rattle.core_world.specs.Trees.MonitorSteps.{free_plan}
 use Rattle.core_world.specs.Trees.Plans.{logging_plan, top_place, with_stage}
 use Rattle.heap_table.specs.Ruled.{only}
 use Rattle.heap_table.specs.inner.Leaving.{IsUnnoted}
+use Rattle.heap_table.proofs.Knows.{same_thread}
 use Rattle.heap_table.proofs.Late.{gone, knows_gone, may_step}
 use Rattle.heap_table.proofs.Mirrored.{mirrors_by}
 use Rattle.heap_table.proofs.quick_exits.release.Goals as goal
@@ -35,6 +37,8 @@ returns-clause-leads c = λ h p d its late.
     let told = c.step_in_monitor.ensures.seat.1 in
     record {
       left = gone late.left its plan refl refl c.step_in_monitor.ensures.stepped told;
+      home = late.home;
+      own = ap (λ (j : ThreadView). j.thread) (knows_gone late.left its plan refl n told) ∙ same_thread h.heap.shape h.heap.start (free_plan e o c.args.monitor (top_place o k.holds)) n k ∙ late.mirrors.thread;
       thread = late.mirrors.thread;
       holds = late.mirrors.holds;
       shown = subst (IsUnnoted h.heap e o c.args.mirror.now) (sym (knows_gone late.left its plan refl n told))

@@ -67,7 +67,8 @@ begun c =
     let free : free_place p.known.holds ≡ c.pass.inside.mirror.holds.used = ap free_place holds ∙ c.if-not-is_packed.ensures.free refl in
     let place : (free_place p.known.holds == most_holds) ≡ false =
     ne_eqb _ _ (λ full. let few = c.if-not-is_packed.ensures.few refl in omega (arith, free, full, few)) in
-    late_as (late_first knew c.requires.may.call.rests.is_of (whole_due h p (Enter a.object a.now) c.requires.may.call _ refl) c.pass.invariant.1)
+    late_as (late_first knew c.requires.may.call.rests.is_of (whole_due h p (Enter a.object a.now) c.requires.may.call _ refl)
+    (ap (λ (x : PassSeen). x.home) c.pass.view_is) c.pass.invariant.1)
     (going h.heap.shape (start_now h p) a.object a.now place c.requires.free.asks)
 
 -- the code's words for the heap, and for the first plan
@@ -91,7 +92,7 @@ marking c =
     let a = c.args in
     let z = c.before.before.before in
     let late = begun z in
-    made_step late (its_heap z) (first_plan z) refl refl c.step_at-mark.ensures.stepped c.step_at-mark.ensures.seat.1
+    made_step late (its_heap z) (first_plan z) refl refl refl c.step_at-mark.ensures.stepped c.step_at-mark.ensures.seat.1
     (follow_quiet a.self.now.heap.shape a.self.now.heap.start (entering a.object a.now) Settled (Mark a.object) Load c.step_at-mark.result _ _ refl
     refl (λ l. refl) (λ l. refl) (λ l. refl) late.mirrors)
 
@@ -182,7 +183,7 @@ returns-clause-entered c =
     let table = c.enter_marked.ensures.seat.0 ∙ c.step_at-mark.ensures.seat.0 ∙ ap (λ (x : PassSeen). x.table) view in
     enter_answered c.args.self.now c.args.pass.now _ c.args.object c.args.now (only c.step_at-mark.new.seat.me.0) (only c.enter_marked.new.seat.me.0)
     c.enter_marked.new.mirror c.enter_marked.result (only_knows c.args.pass.now _ table (frame.limit ∙ ap (λ (x : PassSeen). x.limit) view)
-    (frame.room ∙ ap (λ (x : PassSeen). x.room) view) (frame.classes ∙ ap (λ (x : PassSeen). x.classes) view) (frame.first ∙ ap (λ (x : PassSeen). x.first) view)
+    (frame.room ∙ ap (λ (x : PassSeen). x.room) view) (frame.home ∙ ap (λ (x : PassSeen). x.home) view) (frame.classes ∙ ap (λ (x : PassSeen). x.classes) view) (frame.first ∙ ap (λ (x : PassSeen). x.first) view)
     (frame.threads ∙ ap (λ (x : PassSeen). x.threads) view) (frame.objects ∙ ap (λ (x : PassSeen). x.objects) view)
     (frame.cut ∙ ap (λ (x : PassSeen). x.cut) view) (frame.cells ∙ ap (λ (x : PassSeen). x.cells) view))
     (keeps (marked_of z)) c.enter_marked.ensures.start (ended z)

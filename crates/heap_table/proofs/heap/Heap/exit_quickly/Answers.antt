@@ -24,7 +24,7 @@ use Rattle.core_world.specs.Words.Forms.{is_biased}
 use Rattle.heap_table.specs.Cells.{cells_shown}
 use Rattle.heap_table.specs.Kept.{Mirrors, limit_by}
 use Rattle.heap_table.specs.Quick.{leaving}
-use Rattle.heap_table.specs.Resting.{start_now}
+use Rattle.heap_table.specs.Resting.{MayOperate, start_now}
 use Rattle.heap_table.specs.Ruled.{heap_in, only}
 use Rattle.heap_table.specs.Seen.{HeapSeen, PassSeen}
 use Rattle.heap_table.specs.declared.mirror.Mirror.{Mirror}
@@ -78,6 +78,12 @@ depth_is : (c : After-leaving-call) → c.in-Some.depth ≡ hold_count c.args.ob
 depth_is c =
     c.in-Some.ensures.newest.0 ∙ ap (hold_count c.args.object) (sym c.pass.invariant.1.holds ∙ ap (λ (k : ThreadView). k.holds) (knew c))
 
+held : (c : After-leaving-call) → 1 ≤ hold_count c.args.object c.args.pass.now.known.holds
+held c = let some : 0 < c.in-Some.depth = c.in-Some.ensures.newest.2 in let is = depth_is c in omega (arith, some, is)
+
+may : (c : After-leaving-call) → MayOperate c.args.self.now c.args.pass.now (Exit c.args.object)
+may c = c.requires.may (held c)
+
 begun : (c : After-leaving-call) → let a = c.args in let h = a.self.now in let p = a.pass.now in let k = start_now h p in
     Late h (Exit a.object) p (exit_steps k a.object) (only c.pass.inside.seat.me.0) (to_raise k a.object (c.in-Some.depth == 1)) c.pass.inside.mirror
 unfolding steps_of
@@ -86,9 +92,10 @@ begun c =
     let h = a.self.now in
     let p = a.pass.now in
     let k = start_now h p in
-    let some : 0 < c.in-Some.depth = c.in-Some.ensures.newest.2 in
-    let none : hold_count a.object p.known.holds ≡ 0 → ⊥ = λ zero. let is : c.in-Some.depth ≡ 0 = depth_is c ∙ zero in omega (arith, some, is) in
-    late_as (late_first (knew c) c.requires.may.call.rests.is_of (whole_due h p (Exit a.object) c.requires.may.call _ refl) c.pass.invariant.1)
+    let some = held c in
+    let none : hold_count a.object p.known.holds ≡ 0 → ⊥ = λ zero. omega (arith, some, zero) in
+    late_as (late_first (knew c) c.requires.rests.is_of (whole_due h p (Exit a.object) (may c).call _ refl)
+    (ap (λ (x : PassSeen). x.home) c.pass.view_is) c.pass.invariant.1)
     (going k a.object (ne_eqb _ _ none) ∙ ap (λ (n : ℕ). to_raise k a.object (n == 1)) (sym (depth_is c)))
 
 its_last : (c : After-leaving-call) → last_stamp c.args.pass.now.known.log ≡ c.pass.inside.mirror.last
@@ -96,7 +103,7 @@ its_last c = ap (λ (k : ThreadView). last_stamp k.log) (sym (knew c)) ∙ c.pas
 
 pub overflow_add-next : goal.overflow_add-next
 overflow_add-next c =
-    let few = low c.args.self.now c.args.pass.now c.requires.may.call.rests.is_of in
+    let few = low c.args.self.now c.args.pass.now c.requires.rests.is_of in
     let last = its_last (goal.at.overflow_add-next c).After-leaving-call in
     omega (arith, few, last)
 
@@ -161,7 +168,7 @@ by_mark biased c is =
     let h = a.self.now.heap in
     let z = c.before.before.before in
     let late = (before_mark (after_raise z)).2 in
-    late_as (made_step late (its_heap (after_call (after_raise z))) (first_plan z) refl refl c.step_at-mark.ensures.stepped
+    late_as (made_step late (its_heap (after_call (after_raise z))) (first_plan z) refl refl refl c.step_at-mark.ensures.stepped
     c.step_at-mark.ensures.seat.1 (follow_quiet h.shape h.start (leaving a.object) Settled (Mark a.object) Load c.step_at-mark.result _ _ refl refl
     (λ l. refl) (λ l. refl) (λ l. refl) late.mirrors)) (ap (marked (start_now a.self.now a.pass.now) a.object) is)
 
@@ -208,7 +215,7 @@ knew_all c = subst (Mirrors c.pass.inside.mirror) (knew (call_of c)) c.pass.inva
 
 may_leave : (c : After-step_at-mark) → MayLeave c.leaving-call.result c.pass.inside.mirror c.args.object c.in-Some.place (not c.args.search)
 may_leave c =
-    let few : length c.args.pass.now.known.log + 1 ≤ c.args.pass.now.limit = c.requires.may.room in
+    let few : length c.args.pass.now.known.log + 1 ≤ c.args.pass.now.limit = (may (call_of c)).room in
     let here : length c.args.pass.now.known.log < c.args.pass.now.limit = omega (arith, few) in
     record {
       clears = record {
@@ -231,6 +238,7 @@ pass_by t k m = record {
   known = k;
   limit = limit_by m.keeps m.given m.room;
   room = m.room;
+  home = m.home;
   classes = m.classes;
   first = m.first;
   threads = m.shots.threads;
@@ -246,7 +254,7 @@ seen c t k m table same =
     only_knows c.args.pass.now (pass_by t k m)
     (table ∙ c.step_at-mark.ensures.seat.0 ∙ c.raise_at.ensures.seat.0 ∙ ap (λ (x : PassSeen). x.table) view)
     (same.limit ∙ ap (λ (x : PassSeen). x.limit) view) (same.room ∙ ap (λ (x : PassSeen). x.room) view)
-    (same.classes ∙ ap (λ (x : PassSeen). x.classes) view) (same.first ∙ ap (λ (x : PassSeen). x.first) view)
+    (same.home ∙ ap (λ (x : PassSeen). x.home) view) (same.classes ∙ ap (λ (x : PassSeen). x.classes) view) (same.first ∙ ap (λ (x : PassSeen). x.first) view)
     (same.threads ∙ ap (λ (x : PassSeen). x.threads) view) (same.objects ∙ ap (λ (x : PassSeen). x.objects) view)
     (same.cut ∙ ap (λ (x : PassSeen). x.cut) view) (same.cells ∙ ap (λ (x : PassSeen). x.cells) view)
 
@@ -269,7 +277,7 @@ leave_marked-requires-clause-may c = may_leave (goal.at.leave_marked-requires-cl
 
 pub leave_marked-requires-clause-next : goal.leave_marked-requires-clause-next
 leave_marked-requires-clause-next c =
-    let few = low c.args.self.now c.args.pass.now c.requires.may.call.rests.is_of in
+    let few = low c.args.self.now c.args.pass.now c.requires.rests.is_of in
     let last = its_last (call_of (goal.at.leave_marked-requires-clause-next c).After-step_at-mark) in
     omega (arith, few, last)
 
@@ -292,6 +300,9 @@ rest c =
 
 pub invariant_of-pass : goal.invariant_of-pass
 invariant_of-pass c = (c.leave_marked.ensures.seat.1, (rest (goal.at.invariant_of-pass c).After-leave_marked).mirrors)
+
+pub returns-clause-held : goal.returns-clause-held
+returns-clause-held c = λ other. held (call_of (mark_of_rest (goal.at.returns-clause-held c).After-leave_marked))
 
 pub returns-clause-left : goal.returns-clause-left
 returns-clause-left c =

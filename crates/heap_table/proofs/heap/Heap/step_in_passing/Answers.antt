@@ -1,10 +1,12 @@
 use Rattle.std.proofs.Common.{◌≡◌, ◌+◌, ◌%◌, ◌^◌, ◌<◌, ℕ, List, ap, sym, ◌∙◌, subst}
 use Rattle.atomic_table.specs.Table.{Me}
 use Rattle.core_world.specs.Threads.ThreadView.{ThreadView}
+use Rattle.core_world.specs.declared.word_id.WordId.TheVariants.{Hold}
 use Rattle.core_world.specs.Steps.{known_after}
 use Rattle.core_law.specs.Logic.{Heap}
 use Rattle.heap_table.specs.Cells.{cells_shown}
 use Rattle.heap_table.specs.Drafts.{IsLeft}
+use Rattle.heap_table.specs.Layout.{place_of}
 use Rattle.heap_table.specs.Ruled.{only, Stepped}
 use Rattle.heap_table.specs.inner.Ruled.{MayStep}
 use Rattle.heap_table.specs.Seen.{HeapSeen, PassSeen}
@@ -40,6 +42,7 @@ returns c =
         table = c.step_in_table-found.ensures.seat.0 ∙ ap (λ (p : PassSeen). p.table) view ∙ c.requires.can.heap.table;
         room = fixed.0 ∙ ap (λ (p : PassSeen). p.room) view ∙ c.requires.can.heap.room;
         within = subst (λ (n : ℕ). n < h.shape.threads) (sym t) c.requires.can.heap.within;
+        home = c.follow_in_passing.ensures.home ∙ ap (λ (p : PassSeen). p.home) view ∙ c.requires.can.heap.home ∙ ap (λ (n : ℕ). place_of h.shape (Hold n 0)) (sym t);
         classes = fixed.2 ∙ ap (λ (p : PassSeen). p.classes) view ∙ c.requires.can.heap.classes;
         first = fixed.3 ∙ ap (λ (p : PassSeen). p.first) view ∙ c.requires.can.heap.first ∙ ap (λ (n : ℕ). (h.start + n) % 2 ^ 32) (sym t);
         threads = fixed.4 ∙ ap (λ (p : PassSeen). p.threads) view ∙ c.requires.can.heap.threads;
