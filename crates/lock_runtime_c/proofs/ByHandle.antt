@@ -1,15 +1,12 @@
 -- What is told of a handle that was emptied for the time of a call, and filled again.
-use Rattle.std.proofs.Common.{◌≡◌, Some, refl, sym, ◌∙◌, subst}
+use Rattle.std.proofs.Common.{◌≡◌, Some, sym, ◌∙◌, subst}
 use Rattle.std.proofs.lemmas.Option.{same_Some}
 use Rattle.core_world.specs.declared.heap_call.HeapCall.{HeapCall}
 use Rattle.lock_runtime_c.specs.ByHandle.{Answers, ByHandle, ByHandleOf, Within}
-use Rattle.lock_runtime_c.specs.Numbers.{answered}
 use Rattle.lock_runtime_c.specs.declared.answers.Answer.{Answer}
 use Rattle.lock_runtime_c.specs.declared.handle.Slot.{Slot}
 use Rattle.lock_runtime_c.specs.declared.inner.Inner.{Inner}
-use Rattle.lock_runtime_c.specs.declared.outcome.Misuse.TheVariants.{Empty}
 use Rattle.lock_runtime_c.specs.declared.outcome.Outcome.{Outcome}
-use Rattle.lock_runtime_c.specs.declared.outcome.Outcome.TheVariants.{Misused}
 use Rattle.lock_runtime_c.specs.inner.QuickCalls.{AnswersWithin, Ends}
 
 -- it had this, has that, and this became of the one
@@ -21,7 +18,7 @@ put_back Became none before after x y r was live held became = record {
   empty = λ no. absurd (no was.0);
 }
 
--- so of C's answer, where the handle had something,
+-- so of C's answer
 pub answers_back : (before after : Slot) (x y : Inner) (t : HeapCall) (a : Answer) → (before.live ≡ 1) × (before.handle.held ≡ Some x)
     → after.live ≡ 1 → after.handle.held ≡ Some y → AnswersWithin x y t a → Answers before after t a
 answers_back before after x y t a was live held w = record {
@@ -29,12 +26,6 @@ answers_back before after x y t a was live held w = record {
   is = w.is;
   by_handle = put_back (λ u v o. Within u v t o) _ before after x y w.outcome was live held w.within;
 }
-
--- and where it was empty
-pub answers_empty : (before after : Slot) (t : HeapCall) (a : Answer) → (before.live ≡ 1 → ⊥) → after ≡ before → a ≡ answered (Misused Empty)
-    → Answers before after t a
-answers_empty before after t a none same is =
-    record { outcome = Misused Empty; is = is; by_handle = record { had = λ x live held. absurd (none live); empty = λ no. (refl, same) } }
 
 -- by what ended the call
 pub ends_back : (From : Inner → Type 0) (before after : Slot) (x : Inner) (t : HeapCall) (a : Answer) → (before.live ≡ 1) × (before.handle.held ≡ Some x)

@@ -5,6 +5,7 @@ mod Keeps
 mod LogRoom
 mod MayBegin
 mod QuickCalls
+mod Rarely
 mod Threads
 mod Closed
 mod Seated

@@ -33,7 +33,7 @@ made_not out (Ok (Pending why)) is full = let a : kind out ≡ 1 = ap kind is in
 made_not out (Err e) is full = let a : kind out ≡ 2 = ap kind is in absurd (omega (arith, a, full))
 
 -- a log with that room isn't full
-roomy : (n : ℕ) (p : PassSeen) → Fits p n → 1 ≤ n → (nat_le (length p.known.log + 1) p.limit && nat_le (length p.known.log + 1) log_limit) ≡ true
+pub roomy : (n : ℕ) (p : PassSeen) → Fits p n → 1 ≤ n → (nat_le (length p.known.log + 1) p.limit && nat_le (length p.known.log + 1) log_limit) ≡ true
 roomy n p kept some =
     let page = kept.page in
     let stamps = kept.stamps in

@@ -1,5 +1,5 @@
 -- Enters and exits by the shortest way: that they may begin, and what C gets of them.
-use Rattle.std.proofs.Common.{◌≡◌, ℕ, ◌+◌, ◌≤◌, ◌==◌, ◌&&◌, ◌||◌, arith, not, nat_le, nat_lt, Bool, true, false, Option, None, Some, Result, Ok, Err, length, refl, sym, ap, ◌∙◌, subst}
+use Rattle.std.proofs.Common.{◌≡◌, ◌≢◌, zero, suc, List, [], ◌∷◌, nat_lt, ℕ, ◌+◌, ◌≤◌, ◌==◌, ◌&&◌, ◌||◌, arith, ne_eqb, not, nat_le, Bool, true, false, Option, None, Some, Result, Ok, Err, length, refl, sym, ap, ◌∙◌, subst}
 use Rattle.std.specs.Prelude.{is_some, if◌then◌else◌, option_map}
 use Rattle.std.proofs.lemmas.Bool.Decides.{nat_tests}
 use Rattle.mark_word.specs.Wait.{read_wait}
@@ -8,11 +8,12 @@ use Rattle.plain_monitor.specs.ValueWords.{read_value}
 use Rattle.plain_monitor.specs.declared.entry.Path.{Path}
 use Rattle.plain_monitor.specs.declared.entry.Value.{Value}
 use Rattle.core_world.specs.Clauses.Lengths.{log_limit}
-use Rattle.core_world.specs.Words.Forms.{says_ended}
+use Rattle.core_world.specs.Words.Forms.{names, says_ended}
 use Rattle.core_world.specs.Due.{Runs}
 use Rattle.core_world.specs.Steps.{known_after}
 use Rattle.core_world.specs.Threads.ThreadView.{ThreadView}
-use Rattle.core_world.specs.Locks.{hold_count}
+use Rattle.core_world.specs.Locks.{count_where, hold_count}
+use Rattle.core_world.specs.Threads.Stages.{one_if}
 use Rattle.core_world.specs.Trees.Plans.{done_with, load, lone_context, pending_for}
 use Rattle.core_world.specs.Trees.StepTree.{ask, done, ◌>>=◌}
 use Rattle.core_world.specs.declared.answer.Unguarded.{Unguarded}
@@ -40,10 +41,12 @@ use Rattle.heap_table.specs.declared.quick.QuickExit.{QuickExit}
 use Rattle.heap_table.specs.declared.quick.QuickExit.TheVariants as exits
 use Rattle.core_world.specs.Trees.Operations.{answer, enter_steps, exit_steps, get_plan, get_steps, put_plan, put_steps, value_found}
 use Rattle.heap_table.proofs.Counting.{number_few}
+use Rattle.core_world.proofs.Readings.{names_none}
 use Rattle.own_logs.proofs.Settled.{settled}
 use Rattle.lock_runtime.specs.Begun.{IsEntered, IsExited}
 use Rattle.lock_runtime.specs.Others.{PendsForAnother}
 use Rattle.lock_runtime.specs.Standing.{IsRunning}
+use Rattle.lock_runtime_c.specs.Rest.{IsKept}
 use Rattle.lock_runtime_c.specs.LogRoom.{KeepsRoom, is_full}
 use Rattle.lock_runtime_c.specs.Numbers.{answered}
 use Rattle.lock_runtime_c.specs.Outcomes.{nothing, of_progress}
@@ -59,6 +62,7 @@ use Rattle.lock_runtime_c.specs.inner.QuickCalls.{EntersQuickly, ExitsQuickly, H
 use Rattle.lock_runtime.proofs.Quickly.{enter_rests, exit_rests, is_entered, is_exited}
 use Rattle.lock_runtime_c.proofs.Keeps.{begun_keeps}
 use Rattle.lock_runtime_c.proofs.MayBegin.{may_make}
+use Rattle.lock_runtime_c.proofs.NeverFull.{roomy as roomy_by}
 
 -- a thread has no more holds than places for them
 pub few_holds : (h : HeapSeen) (p : PassSeen) → Rests h p → all_holds p.known.holds ≤ most_holds
@@ -132,18 +136,49 @@ module _ (h : HeapSeen) (p : PassSeen) (o n : ℕ) (open_to : IsOpenTo h p o n) 
     pub enters_quickly : (now : ℕ) (q : PassSeen) (how : QuickEnter) → all_holds p.known.holds + 3 ≤ n → HasEntered h p q o now how → EntersFree q.known how
         → EntersQuickly h p q o now how
     enters_quickly now q enters.Not few came free = (came, subst (λ (x : PassSeen). Rests h x) (sym came) rests)
-    enters_quickly now q (enters.Done path) few came free = record { may = enter_open now few; begun = record { may = may_enter now few; came = came }; free = free }
-    enters_quickly now q (enters.Raced mark found) few came free = record { may = enter_open now few; begun = record { may = may_enter now few; came = came }; free = free }
-    enters_quickly now q (enters.Unbiased mark) few came free = record { may = enter_open now few; begun = record { may = may_enter now few; came = came }; free = free }
-    enters_quickly now q (enters.Biased mark prototype) few came free = record { may = enter_open now few; begun = record { may = may_enter now few; came = came }; free = free }
-    enters_quickly now q (enters.Taken m found) few came free = record { may = enter_open now few; begun = record { may = may_enter now few; came = came }; free = free }
+    enters_quickly now q _ few came free = record { may = enter_open now few; begun = record { may = may_enter now few; came = came }; free = free }
 
     pub exits_quickly : (q : PassSeen) (how : QuickExit) → 1 ≤ n → HasLeft h p q o how → LeavesFree q.known how → ExitsQuickly h p q o how
     exits_quickly q exits.Not few came free = (came, subst (λ (x : PassSeen). Rests h x) (sym came) rests)
-    exits_quickly q exits.Left few came free = record { may = exit_open few; begun = record { may = may_exit few; came = came }; free = free }
-    exits_quickly q exits.Inflating few came free = record { may = exit_open few; begun = record { may = may_exit few; came = came }; free = free }
-    exits_quickly q (exits.Raced mark found) few came free = record { may = exit_open few; begun = record { may = may_exit few; came = came }; free = free }
-    exits_quickly q (exits.Owned m owner place) few came free = record { may = exit_open few; begun = record { may = may_exit few; came = came }; free = free }
+    exits_quickly q _ few came free = record { may = exit_open few; begun = record { may = may_exit few; came = came }; free = free }
+
+-- THE EXIT of an object that the thread holds: the room for it was kept. A word that names an object isn't empty.
+named_few : (o i : ℕ) (hs : List ℕ) → count_where (λ p h. names o h) i hs ≤ count_where (λ p h. not (h == 0)) i hs
+named_few o i [] = omega arith
+named_few o i (zero ∷ hs) =
+    let few = named_few o (i + 1) hs in
+    let none = ap one_if (names_none o) in
+    omega (arith, few, none)
+named_few o i (suc n ∷ hs) =
+    let few = named_few o (i + 1) hs in
+    let one = at_most_one (names o (suc n)) in
+    let full = ap (λ b. one_if (not b)) (ne_eqb (suc n) 0 (λ e. omega (arith, e))) in
+    omega (arith, few, one, full)
+  where
+    at_most_one : (b : Bool) → one_if b ≤ 1
+    at_most_one true = omega arith
+    at_most_one false = omega arith
+
+module _ (h : HeapSeen) (p : PassSeen) (o : ℕ) (kept : IsKept h p) (free : IsFree p.known) (declared : nat_lt o h.heap.shape.declared ≡ true) where
+  held_open : 1 ≤ hold_count o p.known.holds → IsOpenTo h p o 1
+  held_open held =
+      let few = named_few o 0 p.known.holds in
+      record { free = free; declared = declared; room = roomy_by (all_holds p.known.holds) p kept.room.exits (omega (arith, few, held)) }
+
+  pub may_leave : 1 ≤ hold_count o p.known.holds → MayOperate h p (task.Exit o)
+  may_leave held = may_exit h p o 1 (held_open held) kept.rests (omega arith)
+
+  pub leaves_quickly : (q : PassSeen) (how : QuickExit) → (how ≢ exits.Not → 1 ≤ hold_count o p.known.holds) → HasLeft h p q o how → LeavesFree q.known how
+      → ExitsQuickly h p q o how
+  leaves_quickly q exits.Not held came left = (came, subst (λ (x : PassSeen). Rests h x) (sym came) kept.rests)
+  leaves_quickly q exits.Left held came left =
+      exits_quickly h p o 1 (held_open (held (λ is. absurd (cc is)))) kept.rests q exits.Left (omega arith) came left
+  leaves_quickly q exits.Inflating held came left =
+      exits_quickly h p o 1 (held_open (held (λ is. absurd (cc is)))) kept.rests q exits.Inflating (omega arith) came left
+  leaves_quickly q (exits.Raced mark found) held came left =
+      exits_quickly h p o 1 (held_open (held (λ is. absurd (cc is)))) kept.rests q (exits.Raced mark found) (omega arith) came left
+  leaves_quickly q (exits.Owned m owner place) held came left =
+      exits_quickly h p o 1 (held_open (held (λ is. absurd (cc is)))) kept.rests q (exits.Owned m owner place) (omega arith) came left
 
 -- a poll needs only that the thread runs
 poll_reason : (h : HeapSeen) (p : PassSeen) → p.known.running ≡ true → first_reason h.heap.shape p.known task.Poll ≡ None

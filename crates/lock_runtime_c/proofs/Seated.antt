@@ -114,6 +114,34 @@ pub nothing_on : (Came : HeapSeen → PassSeen → PassSeen → Type 0) (Nothing
 nothing_on Came Nothing x y differs (inl (s, z, was, is, come)) = absurd (differs z is)
 nothing_on Came Nothing x y differs (inr (none, same, rests, other)) = (same, subst RestsWithin (sym same) rests)
 
+-- A call that didn't begin: the handle rests as before, and what becomes of it became of what it had.
+pub not_begun : (Came : HeapSeen → PassSeen → PassSeen → Type 0) (Nothing : Type 0) (x y : Inner) (t : HeapCall)
+    → ((h : HeapSeen) (p q : PassSeen) → Came h p q → q ≡ p) → CameWithin Came Nothing x y
+    → RestsWithin y × ((z : Inner) (out : Outcome) → Within y z t out → Within x z t out)
+not_begun Came Nothing x y t still (inr (none, same, rests, other)) =
+    (subst RestsWithin (sym same) rests, λ z out became. subst (λ (i : Inner). Within i z t out) same became)
+not_begun Came Nothing x y t still (inl (s, w, was, is, come)) =
+    let same = still s.room.value.heap s.lent.thing w.lent.thing come.came in
+    let heap = ap (λ r. r.value.heap) come.room in
+    let seated = subst (λ (p : PassSeen). IsSeated s.room.value.heap s.lent.place p) (sym same) come.rested.seated in
+    let at_rest : IsAtRest w = record {
+      seated = seated_alike w s.room.value.heap s.lent.place come.place heap seated;
+      free = λ on. subst (λ (p : PassSeen). IsFree p.known) (sym same) (come.rested.free (sym come.flag ∙ on));
+    } in (
+      subst RestsWithin (sym is) at_rest,
+      λ z out became.
+          let now = subst (λ (i : Inner). Within i z t out) is became in
+          let told = subst (λ (g : HeapSeen). Told g t w.lent.thing now.0.lent.thing out) heap now.5 in
+          subst (λ (i : Inner). Within i z t out) (sym was) (
+            now.0,
+            now.1,
+            now.2 ∙ come.room,
+            now.3 ∙ come.page,
+            subst KeepsRoom same now.4,
+            subst (λ (p : PassSeen). Told s.room.value.heap t p now.0.lent.thing out) same told,
+          ),
+    )
+
 -- A call that is over, by a handle that had s, and has z now: it rests, and this became of it.
 pub told_whole : (x y : Inner) (s z : Seat) (t : HeapCall) (out : Outcome) → x ≡ inner.Seat s → y ≡ inner.Seat z → IsAtRest s
     → z.room ≡ s.room → z.lent.place ≡ s.lent.place → z.page.items ≡ s.page.items → z.free ≡ s.free

@@ -7,8 +7,9 @@ ghost use Rattle.heap_table.specs.declared.quick.QuickEnter.TheVariants as enter
 ghost use Rattle.lock_runtime_c.specs.ByHandle.{Answers};
 ghost use Rattle.lock_runtime_c.specs.Rest.{RestsWithin};
 ghost use Rattle.lock_runtime_c.specs.declared.inner.Inner.{Inner};
-ghost use Rattle.lock_runtime_c.specs.inner.QuickCalls.{AnswersEnter, AnswersWithin, Ends, EntersQuickly, EntersWithin, IsAnswered, IsOpenEnter};
+ghost use Rattle.lock_runtime_c.specs.inner.QuickCalls.{AnswersEnter, AnswersWithin, EndsEnter, EntersQuickly, EntersWithin, IsAmidEnter, IsAnswered, IsOpenEnter};
 
+use crate::access::make_by;
 use crate::answers::{Answer, answered};
 use crate::calls::{EnterCall, make};
 use crate::handle::Slot;
@@ -137,7 +138,7 @@ fn enter_on(heap: &Heap, pass: &mut Pass, object: u32, now: u64, how: QuickEnter
 // The same by what the handle has.
 #[inline(always)]
 fn enter_on_within(held: &mut Inner, object: u32, now: u64, how: QuickEnter) -> Answer
-    requires { (x : Inner) × EntersWithin x held.old object now how }
+    requires { IsAmidEnter held.old object now how }
     ensures rests { RestsWithin held.new }
     ensures answer { (x : Inner) → EntersWithin x held.old object now how → AnswersWithin x held.new (task.Enter object now) result }
 {
@@ -152,7 +153,8 @@ fn enter_on_within(held: &mut Inner, object: u32, now: u64, how: QuickEnter) -> 
 }
 
 // Ends an enter that came so far, by what the handle had, and gives it back to it.
-#[inline(always)]
+#[cold]
+#[inline(never)]
 fn end_enter(
     alloc: Global,
     at: &mut Slot,
@@ -162,36 +164,49 @@ fn end_enter(
     how: QuickEnter,
 ) -> Answer
     requires empty { at.old.live ≡ 0 }
-    requires amid { (x : Inner) × EntersWithin x held.value object now how }
-    ensures { Ends (λ x. EntersWithin x held.value object now how) (task.Enter object now) at.new result }
+    requires amid { IsAmidEnter held.value object now how }
+    ensures { EndsEnter held.value object now how at.new result }
 {
     let answer = enter_on_within(&mut *held, object, now, how);
     at.put(alloc, held);
     answer
 }
 
+// The functions below that stand out of line have the object and the moment after the place that they answer into, as the export has them after its
+// handle: so they stay in their registers.
+
+// An enter that the quick way didn't begin.
+#[cold]
 #[inline(never)]
-fn enter_slowly(alloc: Global, at: &mut Slot, held: Box<Inner>, object: u32, now: u64) -> Answer
-    requires empty { at.old.live ≡ 0 }
-    requires amid { (x : Inner) × EntersWithin x held.value object now enters.Not }
-    ensures { Ends (λ x. EntersWithin x held.value object now enters.Not) (task.Enter object now) at.new result }
+fn enter_anew(alloc: Global, object: u32, now: u64, at: &mut Slot) -> Answer
+    ensures { Answers at.old at.new (task.Enter object now) result }
 {
-    end_enter(alloc, at, held, object, now, QuickEnter::Not)
+    answered(make_by(alloc, at, EnterCall { object, now }))
 }
 
+// The place of its answer: see `quickly`.
+#[inline(always)]
+fn enter_slowly(alloc: Global, at: &mut Slot, object: u32, now: u64) -> Answer
+    ensures { Answers at.old at.new (task.Enter object now) result }
+{
+    let answer = enter_anew(alloc, object, now, at);
+    answer
+}
+
+#[cold]
 #[inline(never)]
 fn enter_raced(
     alloc: Global,
-    at: &mut Slot,
-    held: Box<Inner>,
     object: u32,
     now: u64,
+    at: &mut Slot,
+    held: Box<Inner>,
     expected: u64,
     found: u64,
 ) -> Answer
     requires empty { at.old.live ≡ 0 }
-    requires amid { (x : Inner) × EntersWithin x held.value object now (enters.Raced expected found) }
-    ensures { Ends (λ x. EntersWithin x held.value object now (enters.Raced expected found)) (task.Enter object now) at.new result }
+    requires amid { IsAmidEnter held.value object now (enters.Raced expected found) }
+    ensures { EndsEnter held.value object now (enters.Raced expected found) at.new result }
 {
     end_enter(
         alloc,
@@ -203,35 +218,37 @@ fn enter_raced(
     )
 }
 
+#[cold]
 #[inline(never)]
 fn enter_marked(
     alloc: Global,
-    at: &mut Slot,
-    held: Box<Inner>,
     object: u32,
     now: u64,
+    at: &mut Slot,
+    held: Box<Inner>,
     mark: u64,
 ) -> Answer
     requires empty { at.old.live ≡ 0 }
-    requires amid { (x : Inner) × EntersWithin x held.value object now (enters.Unbiased mark) }
-    ensures { Ends (λ x. EntersWithin x held.value object now (enters.Unbiased mark)) (task.Enter object now) at.new result }
+    requires amid { IsAmidEnter held.value object now (enters.Unbiased mark) }
+    ensures { EndsEnter held.value object now (enters.Unbiased mark) at.new result }
 {
     end_enter(alloc, at, held, object, now, QuickEnter::Unbiased { mark })
 }
 
+#[cold]
 #[inline(never)]
 fn enter_biased(
     alloc: Global,
-    at: &mut Slot,
-    held: Box<Inner>,
     object: u32,
     now: u64,
+    at: &mut Slot,
+    held: Box<Inner>,
     mark: u64,
     prototype: u64,
 ) -> Answer
     requires empty { at.old.live ≡ 0 }
-    requires amid { (x : Inner) × EntersWithin x held.value object now (enters.Biased mark prototype) }
-    ensures { Ends (λ x. EntersWithin x held.value object now (enters.Biased mark prototype)) (task.Enter object now) at.new result }
+    requires amid { IsAmidEnter held.value object now (enters.Biased mark prototype) }
+    ensures { EndsEnter held.value object now (enters.Biased mark prototype) at.new result }
 {
     end_enter(
         alloc,
@@ -243,19 +260,20 @@ fn enter_biased(
     )
 }
 
+#[cold]
 #[inline(never)]
 fn enter_taken(
     alloc: Global,
-    at: &mut Slot,
-    held: Box<Inner>,
     object: u32,
     now: u64,
+    at: &mut Slot,
+    held: Box<Inner>,
     monitor: u32,
     found: u64,
 ) -> Answer
     requires empty { at.old.live ≡ 0 }
-    requires amid { (x : Inner) × EntersWithin x held.value object now (enters.Taken monitor found) }
-    ensures { Ends (λ x. EntersWithin x held.value object now (enters.Taken monitor found)) (task.Enter object now) at.new result }
+    requires amid { IsAmidEnter held.value object now (enters.Taken monitor found) }
+    ensures { EndsEnter held.value object now (enters.Taken monitor found) at.new result }
 {
     end_enter(
         alloc,
@@ -267,38 +285,62 @@ fn enter_taken(
     )
 }
 
+// What is left of an enter that the quick way didn't make. The place of the answer: see `quickly`.
+#[inline(always)]
+fn enter_rarely(
+    alloc: Global,
+    at: &mut Slot,
+    held: Box<Inner>,
+    object: u32,
+    now: u64,
+    how: QuickEnter,
+) -> Answer
+    requires empty { at.old.live ≡ 0 }
+    requires amid { IsAmidEnter held.value object now how }
+    ensures { EndsEnter held.value object now how at.new result }
+{
+    let answer = match how {
+        QuickEnter::Raced { expected, found } => {
+            enter_raced(alloc, object, now, at, held, expected, found)
+        }
+        QuickEnter::Unbiased { mark } => enter_marked(alloc, object, now, at, held, mark),
+        QuickEnter::Biased { mark, prototype } => {
+            enter_biased(alloc, object, now, at, held, mark, prototype)
+        }
+        QuickEnter::Taken { monitor, found } => {
+            enter_taken(alloc, object, now, at, held, monitor, found)
+        }
+        // Neither comes here: the caller has answered both.
+        QuickEnter::Not | QuickEnter::Done { .. } => end_enter(alloc, at, held, object, now, how),
+    };
+    answer
+}
+
 /// Enters the object by the pass that the handle has, and tells C of it. What is done by the quick way answers at once.
 #[inline(always)]
 pub fn enter_by(alloc: Global, at: &mut Slot, object: u32, now: u64) -> Answer
     ensures { Answers at.old at.new (task.Enter object now) result }
 {
-    let Some(mut held) = at.take(alloc) else {
-        return Answer {
-            kind: 3,
-            detail: 1,
-            word: 0,
-        };
-    };
-    let answer = match enter_within(&mut *held, object, now) {
+    if at.live != 1 {
+        return enter_slowly(alloc, at, object, now);
+    }
+    let mut held = at.handle.lend(alloc);
+    match enter_within(&mut *held, object, now) {
         QuickEnter::Done { path } => {
-            at.put(alloc, held);
+            at.handle.fill(held);
             return Answer {
                 kind: 0,
                 detail: path_number(path),
                 word: 0,
             };
         }
-        QuickEnter::Not => enter_slowly(alloc, at, held, object, now),
-        QuickEnter::Raced { expected, found } => {
-            enter_raced(alloc, at, held, object, now, expected, found)
+        QuickEnter::Not => {
+            at.handle.fill(held);
+            enter_slowly(alloc, at, object, now)
         }
-        QuickEnter::Unbiased { mark } => enter_marked(alloc, at, held, object, now, mark),
-        QuickEnter::Biased { mark, prototype } => {
-            enter_biased(alloc, at, held, object, now, mark, prototype)
+        how => {
+            at.live = 0;
+            enter_rarely(alloc, at, held, object, now, how)
         }
-        QuickEnter::Taken { monitor, found } => {
-            enter_taken(alloc, at, held, object, now, monitor, found)
-        }
-    };
-    answer
+    }
 }

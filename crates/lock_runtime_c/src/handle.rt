@@ -1,4 +1,4 @@
-//! What C holds: the pointer of a box, or nothing.
+//! What C holds: the pointer of a box that is its own, or nothing.
 ghost use Rattle.std.specs.Prelude.{◌≡◌, ◌==◌, not, None, Some, IsSome, IfSome};
 ghost use Rattle.std.specs.Prelude.{Option};
 ghost use Rattle.lock_runtime_c.specs.declared.inner.Inner.{Inner};
@@ -8,12 +8,13 @@ ghost use Rattle.lock_runtime_c.specs.inner.Held.{held_coded, held_owns};
 mod parts;
 
 use crate::inner::Inner;
+use core::mem::replace_with;
 use parts::Parts;
 use std::alloc::Global;
 use std::marker::Model;
 use std::mem;
 
-/// The pointer of a box of `Inner`, or none. C keeps it, and never reads it.
+/// The pointer of a box of `Inner`, which it owns, or any pointer, which nobody reads. C keeps it, and never reads it.
 #[repr(C)]
 pub struct Handle {
     pub(crate) ptr: *mut u8,
@@ -35,6 +36,17 @@ impl Handle {
     {
         Handle {
             ptr: std::ptr::null_mut(),
+            alloc,
+        }
+    }
+
+    // An empty one with a pointer, which nobody reads.
+    #[inline(always)]
+    fn idle(ptr: *mut Inner, alloc: Global) -> Handle
+        ensures { result.held ≡ None }
+    {
+        Handle {
+            ptr: ptr as *mut u8,
             alloc,
         }
     }
@@ -67,6 +79,38 @@ impl Handle {
             ptr: ptr as *mut Inner,
             alloc,
         }
+    }
+
+    // An empty handle, and what it had. The pointer stays as it was, so that nothing has to be written.
+    #[inline(always)]
+    fn emptied(self, alloc: Global) -> (Handle, Box<Inner>)
+        requires { IsSome self.held }
+        ensures { (result.0.held ≡ None) × (self.held ≡ Some result.1.value) × RestsWithin result.1.value }
+    {
+        let mut held = self.into_parts().into_box();
+        let ptr = std::ptr::from_mut(&mut *held);
+        (Handle::idle(ptr, alloc), held)
+    }
+
+    /// What it has, for the time of a call. It is empty then, though its pointer is as it was: a quick call gives it back, and writes it once.
+    #[inline(always)]
+    pub(crate) fn lend(&mut self, alloc: Global) -> Box<Inner>
+        requires { IsSome self.old.held }
+        ensures rests { RestsWithin result.value }
+        ensures held { self.old.held ≡ Some result.value }
+        ensures gone { self.new.held ≡ None }
+    {
+        replace_with(self, alloc, Handle::emptied)
+    }
+
+    /// Gives it something. What it had before is forgotten, so who calls has emptied it.
+    #[inline(always)]
+    pub(crate) fn fill(&mut self, held: Box<Inner>)
+        requires { RestsWithin held.value }
+        ensures { self.new.held ≡ Some held.value }
+    {
+        let empty = mem::replace(self, Handle::of_parts(Parts::of(held)));
+        empty.forget();
     }
 }
 
@@ -102,7 +146,7 @@ impl Slot {
         Some(handle.into_parts().into_box())
     }
 
-    /// Gives it something. It is empty.
+    /// Gives it something. What it had before is forgotten, so who calls has emptied it.
     #[inline(always)]
     pub fn put(&mut self, alloc: Global, held: Box<Inner>)
         requires empty { self.old.live ≡ 0 }
@@ -110,8 +154,7 @@ impl Slot {
         ensures live { self.new.live ≡ 1 }
         ensures held { self.new.handle.held ≡ Some held.value }
     {
-        let empty = mem::replace(&mut self.handle, Handle::of_parts(Parts::of(held)));
-        empty.forget();
+        self.handle.fill(held);
         self.live = 1;
     }
 }

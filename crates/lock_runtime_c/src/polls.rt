@@ -34,6 +34,7 @@ fn poll_within(held: &mut Inner) -> Option<Progress<()>>
 }
 
 // A poll is pending, since the safepoint word has a requester.
+#[cold]
 #[inline(never)]
 fn requested(word: u64) -> Answer
     ensures { result ≡ answered (Pending (why.Requested word)) }
@@ -41,22 +42,42 @@ fn requested(word: u64) -> Answer
     answered(Outcome::Pending(PendingCause::Requested { word }))
 }
 
-// A poll is pending, for this cause.
+// A poll is pending for any other cause.
+#[cold]
+#[inline(never)]
+fn pended_otherwise(cause: PendingCause) -> Answer
+    ensures { result ≡ answered (Pending cause) }
+{
+    answered(Outcome::Pending(cause))
+}
+
+// A poll is pending, for this cause. The place of the answer: see `quickly`.
 #[inline(always)]
 fn pended(cause: PendingCause) -> Answer
     ensures { result ≡ answered (Pending cause) }
 {
-    match cause {
+    let answer = match cause {
         PendingCause::Requested { word } => requested(word),
-        other => answered(Outcome::Pending(other)),
-    }
+        other => pended_otherwise(other),
+    };
+    answer
 }
 
+#[cold]
 #[inline(never)]
-fn poll_slowly(alloc: Global, at: &mut Slot) -> Answer
+fn poll_anew(alloc: Global, at: &mut Slot) -> Answer
     ensures { Answers at.old at.new task.Poll result }
 {
     answered(make_by(alloc, at, PollCall))
+}
+
+// The place of its answer: see `quickly`.
+#[inline(always)]
+fn poll_slowly(alloc: Global, at: &mut Slot) -> Answer
+    ensures { Answers at.old at.new task.Poll result }
+{
+    let answer = poll_anew(alloc, at);
+    answer
 }
 
 /// Looks by the pass that the handle has whether another thread asks for a safepoint, and tells C of it.
@@ -64,30 +85,21 @@ fn poll_slowly(alloc: Global, at: &mut Slot) -> Answer
 pub fn poll_by(alloc: Global, at: &mut Slot) -> Answer
     ensures { Answers at.old at.new task.Poll result }
 {
-    let Some(mut held) = at.take(alloc) else {
-        return Answer {
-            kind: 3,
-            detail: 1,
-            word: 0,
-        };
-    };
-    let answer = match poll_within(&mut *held) {
+    if at.live != 1 {
+        return poll_slowly(alloc, at);
+    }
+    let mut held = at.handle.lend(alloc);
+    let told = poll_within(&mut *held);
+    at.handle.fill(held);
+    match told {
         Some(Progress::Done(())) => {
-            at.put(alloc, held);
             return Answer {
                 kind: 0,
                 detail: 0,
                 word: 0,
             };
         }
-        Some(Progress::Pending(cause)) => {
-            at.put(alloc, held);
-            pended(cause)
-        }
-        None => {
-            at.put(alloc, held);
-            poll_slowly(alloc, at)
-        }
-    };
-    answer
+        Some(Progress::Pending(cause)) => pended(cause),
+        None => poll_slowly(alloc, at),
+    }
 }

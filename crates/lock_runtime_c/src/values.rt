@@ -49,13 +49,23 @@ fn get_within(held: &mut Inner, object: u32, slot: u32) -> Option<Outcome>
     Some(get(heap, &mut seat.lent.thing, object, slot))
 }
 
+#[cold]
 #[inline(never)]
-fn get_slowly(alloc: Global, at: &mut Slot, object: u32, slot: u32, out: &mut Cell) -> Answer
+fn get_anew(alloc: Global, at: &mut Slot, object: u32, slot: u32, out: &mut Cell) -> Answer
     ensures { Gives at.old at.new (Get object slot) out.old out.new result }
 {
     let outcome = make_by(alloc, at, GetCall { object, slot });
     *out = read_of(outcome, *out);
     answered(outcome)
+}
+
+// The place of its answer: see `quickly`.
+#[inline(always)]
+fn get_slowly(alloc: Global, at: &mut Slot, object: u32, slot: u32, out: &mut Cell) -> Answer
+    ensures { Gives at.old at.new (Get object slot) out.old out.new result }
+{
+    let answer = get_anew(alloc, at, object, slot, out);
+    answer
 }
 
 /// `out` is as it was where nothing was read.
@@ -69,19 +79,18 @@ pub extern "C" fn biasrun_get(
 ) -> Answer
     ensures { Gives at.old at.new (Get object slot) out.old out.new result }
 {
-    let Some(mut held) = at.take(alloc) else {
-        return answered(Outcome::Misused(Misuse::Empty));
-    };
-    match get_within(&mut *held, object, slot) {
+    if at.live != 1 {
+        return get_slowly(alloc, at, object, slot, out);
+    }
+    let mut held = at.handle.lend(alloc);
+    let told = get_within(&mut *held, object, slot);
+    at.handle.fill(held);
+    match told {
         Some(outcome) => {
-            at.put(alloc, held);
             *out = read_of(outcome, *out);
             answered(outcome)
         }
-        None => {
-            at.put(alloc, held);
-            get_slowly(alloc, at, object, slot, out)
-        }
+        None => get_slowly(alloc, at, object, slot, out),
     }
 }
 
@@ -104,8 +113,9 @@ fn put_within(held: &mut Inner, object: u32, slot: u32, value: Value) -> Option<
     Some(put(heap, &mut seat.lent.thing, object, slot, value))
 }
 
+#[cold]
 #[inline(never)]
-fn put_slowly(alloc: Global, at: &mut Slot, object: u32, slot: u32, value: Value) -> Answer
+fn put_anew(alloc: Global, at: &mut Slot, object: u32, slot: u32, value: Value) -> Answer
     ensures { Answers at.old at.new (Put object slot value) result }
 {
     let call = PutCall {
@@ -116,22 +126,28 @@ fn put_slowly(alloc: Global, at: &mut Slot, object: u32, slot: u32, value: Value
     answered(make_by(alloc, at, call))
 }
 
+// The place of its answer: see `quickly`.
+#[inline(always)]
+fn put_slowly(alloc: Global, at: &mut Slot, object: u32, slot: u32, value: Value) -> Answer
+    ensures { Answers at.old at.new (Put object slot value) result }
+{
+    let answer = put_anew(alloc, at, object, slot, value);
+    answer
+}
+
 #[inline(always)]
 fn put_by(alloc: Global, at: &mut Slot, object: u32, slot: u32, value: Value) -> Answer
     ensures { Answers at.old at.new (Put object slot value) result }
 {
-    let Some(mut held) = at.take(alloc) else {
-        return answered(Outcome::Misused(Misuse::Empty));
-    };
-    match put_within(&mut *held, object, slot, value) {
-        Some(outcome) => {
-            at.put(alloc, held);
-            answered(outcome)
-        }
-        None => {
-            at.put(alloc, held);
-            put_slowly(alloc, at, object, slot, value)
-        }
+    if at.live != 1 {
+        return put_slowly(alloc, at, object, slot, value);
+    }
+    let mut held = at.handle.lend(alloc);
+    let told = put_within(&mut *held, object, slot, value);
+    at.handle.fill(held);
+    match told {
+        Some(outcome) => answered(outcome),
+        None => put_slowly(alloc, at, object, slot, value),
     }
 }
 

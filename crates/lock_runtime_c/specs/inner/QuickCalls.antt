@@ -98,6 +98,13 @@ EntersWithin x y o now how = CameWithin (λ h p q. EntersQuickly h p q o now how
 abbrev pub ExitsWithin : Inner → Inner → ℕ → QuickExit → Type 0
 ExitsWithin x y o how = CameWithin (λ h p q. ExitsQuickly h p q o how) (how ≡ exits.Not) x y
 
+-- the handle has y, amid one that came so far
+abbrev pub IsAmidEnter : Inner → ℕ → ℕ → QuickEnter → Type 0
+IsAmidEnter y o now how = (x : Inner) × EntersWithin x y o now how
+
+abbrev pub IsAmidExit : Inner → ℕ → QuickExit → Type 0
+IsAmidExit y o how = (x : Inner) × ExitsWithin x y o how
+
 -- A call of this task is over, with this outcome; or it hasn't begun: what becomes of y by it, that became of x.
 abbrev pub CallsWithin : Inner → Inner → HeapCall → Option Outcome → Type 0
 CallsWithin x y t None = RestsWithin y × ((z : Inner) (out : Outcome) → Within y z t out → Within x z t out)
@@ -114,3 +121,9 @@ pub record Ends (From : Inner → Type 0) (t : HeapCall) (after : Slot) (a : Ans
   pub live : after.live ≡ 1
   pub holds : after.handle.held ≡ Some left
   pub answer : (x : Inner) → From x → AnswersWithin x left t a
+
+abbrev pub EndsEnter : Inner → ℕ → ℕ → QuickEnter → Slot → Answer → Type 0
+EndsEnter y o now how after a = Ends (λ x. EntersWithin x y o now how) (task.Enter o now) after a
+
+abbrev pub EndsExit : Inner → ℕ → QuickExit → Slot → Answer → Type 0
+EndsExit y o how after a = Ends (λ x. ExitsWithin x y o how) (task.Exit o) after a
