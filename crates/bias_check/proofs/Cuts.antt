@@ -21,16 +21,8 @@ last_byte c (x ∷ y ∷ ys) b = ap (λ o. option_map (λ bs. x ∷ bs) o) (last
 pub unended_last : (line front : List ℕ) (b : ℕ) → line ≡ front ++ b ∷ [] → unended line ≡ (if b == 10 then Some front else None)
 unended_last line front b e = rw e (last_byte 10 front b)
 
-pub unended_empty : (line : List ℕ) → length line ≡ 0 → unended line ≡ None
-unended_empty [] h = refl
-unended_empty (b ∷ bs) h = absurd (omega arith)
-
 pub unbracketed_last : (line front : List ℕ) (b : ℕ) → line ≡ front ++ b ∷ [] → unbracketed line ≡ (if b == 93 then Some front else None)
 unbracketed_last line front b e = rw e (last_byte 93 front b)
-
-pub unbracketed_empty : (line : List ℕ) → length line ≡ 0 → unbracketed line ≡ None
-unbracketed_empty [] h = refl
-unbracketed_empty (b ∷ bs) h = absurd (omega arith)
 
 -- the first line of a text
 cut_line_at : (b : ℕ) (bs : List ℕ) (t : Bool) → (b == 10) ≡ t → position_or_len (λ b. b == 10) (b ∷ bs) < length (b ∷ bs)

@@ -12,10 +12,9 @@ use Rattle.std.proofs.lemmas.List.Splits.{slice_split_at, slice_split_none}
 use Rattle.plain_monitor.specs.declared.entry.Value.{Value}
 use Rattle.plain_monitor.specs.declared.entry.Value.TheVariants.{Nil, Int, Ref}
 use Rattle.plain_monitor.specs.declared.entry.Path.{Path}
-use Rattle.plain_monitor.specs.declared.entry.Path.TheVariants.{BiasOwn, BiasTaken, StackFirst, StackAgain, MonitorFirst, MonitorAgain}
+use Rattle.plain_monitor.specs.declared.entry.Path.TheVariants.{BiasOwn}
 use Rattle.plain_monitor.specs.declared.entry.Fault.{Fault}
-use Rattle.plain_monitor.specs.declared.entry.Fault.TheVariants.{IllegalMonitorState, Unguarded, NotRef, NotInt}
-use Rattle.plain_monitor.specs.declared.entry.Fault.TheVariants.{Range, Overflow, TooDeep, TooManyDumps, TooMany}
+use Rattle.plain_monitor.specs.declared.entry.Fault.TheVariants.{IllegalMonitorState}
 use Rattle.plain_monitor.specs.declared.entry.Entry.{Entry}
 use Rattle.plain_monitor.specs.declared.entry.Entry.TheVariants.{Enter, Exit, Get, Put, Wait, Resume, Notify, NotifyAll}
 use Rattle.plain_monitor.specs.declared.entry.Entry.TheVariants.{Hash, New, Print, Dump, Trap, Spent, Done}
@@ -93,9 +92,6 @@ spaced_twice a b c =
 
 entry_is : (p : ProgramText) (e : Entry) → entry_text p e ≡ join_with_byte 32 (verb_text (verb_in e) ∷ args_of p e)
 entry_is p (Enter o path) = spaced (codes "enter " ++ object_text p o) (path_text path)
-entry_is p (Exit o) = refl
-entry_is p (Wait o) = refl
-entry_is p (Resume o) = refl
 entry_is p (Get o k v) = spaced_twice (codes "get " ++ object_text p o) (decimal k) (value_text p v)
 entry_is p (Put o k v) = spaced_twice (codes "put " ++ object_text p o) (decimal k) (value_text p v)
 entry_is p (Notify o woken) = spaced (codes "notify " ++ object_text p o) (woken_text p woken)
@@ -106,11 +102,8 @@ entry_is p (Hash o v (Some n)) =
     ap (λ x. x ++ draw_text (Some n)) (spaced (codes "hash " ++ object_text p o) (decimal v))
     ∙ append_assoc (codes "hash " ++ object_text p o) (32 ∷ decimal v) (draw_text (Some n))
 entry_is p (New o c) = spaced (codes "new " ++ object_text p o) (class_name (slice_get p.classes c))
-entry_is p (Print v) = refl
-entry_is p (Dump n) = refl
 entry_is p (Trap fault index) = append_assoc (codes "fault " ++ fault_text fault) (codes " at ") (decimal index)
-entry_is p Spent = refl
-entry_is p Done = refl
+entry_is p _ = refl
 
 -- a line of the journal is its words
 pub line_is : (p : ProgramText) (x : ℕ × Logged) → journal_line p x ≡ join_with_byte 32 (line_words p x) ++ 10 ∷ []
@@ -159,8 +152,7 @@ declared_spaceless p o h lt =
     let s = r.3 in
     let number : 0 + r.0 ≡ r.0 = omega arith in
     let text : object_text p o ≡ element_text r.1 (Some r.2) = text_of_declared p o lt ∙ rw (s.place, number, s.at) refl in
-    let few = h.objects_few in
-    rw text (element_spaceless r.2 r.1 r.2.array refl (object_is_name p r.0 r.2 h s.at) (omega (arith, s.object, few, lt)))
+    rw text (element_spaceless r.2 r.1 r.2.array refl (object_is_name p r.0 r.2 h s.at) (omega (arith, s.object, h.objects_few, lt)))
 
 thread_spaceless : (p : ProgramText) (t : ℕ) → IsProgram p → t < length p.threads → spaceless (thread_text p t) ≡ true
 thread_spaceless p t h lt =
@@ -192,39 +184,15 @@ value_spaceless p (Ref o) h valid = object_spaceless p o h valid.0
 
 path_spaceless : (path : Path) → spaceless (path_text path) ≡ true
 path_spaceless BiasOwn = refl
-path_spaceless BiasTaken = refl
-path_spaceless StackFirst = refl
-path_spaceless StackAgain = refl
-path_spaceless MonitorFirst = refl
-path_spaceless MonitorAgain = refl
+path_spaceless _ = refl
 
 fault_spaceless : (f : Fault) → spaceless (fault_text f) ≡ true
 fault_spaceless IllegalMonitorState = refl
-fault_spaceless Unguarded = refl
-fault_spaceless NotRef = refl
-fault_spaceless NotInt = refl
-fault_spaceless Range = refl
-fault_spaceless Overflow = refl
-fault_spaceless TooDeep = refl
-fault_spaceless TooManyDumps = refl
-fault_spaceless TooMany = refl
+fault_spaceless _ = refl
 
 verb_spaceless : (v : Verb) → spaceless (verb_text v) ≡ true
 verb_spaceless verb.Enter = refl
-verb_spaceless verb.Exit = refl
-verb_spaceless verb.Wait = refl
-verb_spaceless verb.Resume = refl
-verb_spaceless verb.Get = refl
-verb_spaceless verb.Put = refl
-verb_spaceless verb.Notify = refl
-verb_spaceless verb.NotifyAll = refl
-verb_spaceless verb.Hash = refl
-verb_spaceless verb.New = refl
-verb_spaceless verb.Print = refl
-verb_spaceless verb.Dump = refl
-verb_spaceless verb.Fault = refl
-verb_spaceless verb.Spent = refl
-verb_spaceless verb.Done = refl
+verb_spaceless _ = refl
 
 abbrev pub AreSpaceless : List (List ℕ) → Type 0
 AreSpaceless ws = AllByRecursion (λ w. spaceless w ≡ true) ws

@@ -111,8 +111,7 @@ declared_dotless p o h lt =
     let s = r.3 in
     let number : 0 + r.0 ≡ r.0 = omega arith in
     let text : object_text p o ≡ element_text r.1 (Some r.2) = declared_is p o lt ∙ rw (s.place, number, s.at) refl in
-    let few = h.objects_few in
-    rw text (element_dotless r.2 r.1 r.2.array refl (object_is_name p r.0 r.2 h s.at) (omega (arith, s.object, few, lt)))
+    rw text (element_dotless r.2 r.1 r.2.array refl (object_is_name p r.0 r.2 h s.at) (omega (arith, s.object, h.objects_few, lt)))
 
 by_no_dot : (p : ProgramText) (w : List ℕ) → dotless w ≡ true → object_in (names_of p) w ≡ undotted_in (names_of p) w
 by_no_dot p w h = rw (no_dot w h) refl
@@ -125,10 +124,8 @@ by_dot p name digits h =
 
 number_read : (p : ProgramText) (o t k : ℕ) → IsProgram p → IsMade p o t k → made_in (names_of p) (thread_text p t) (decimal k) ≡ Some o
 number_read p o t k h made =
-    let objects = h.objects_few in
-    let threads = h.threads_few in
     let small : nat_lt (declared_total p + (most_made * t + k)) (2 ^ 32) ≡ true = let few : declared_total p + (most_made * t + k) < 2 ^ 32 =
-    omega (arith, objects, threads, made.thread, made.place) in grind (arith, nat_tests) in
+    omega (arith, h.objects_few, h.threads_few, made.thread, made.place) in grind (arith, nat_tests) in
     rw (thread_read p t h made.thread, below_read most_made k (omega (arith, made.place)) made.place, small) (ap Some made.number)
 
 -- the word of an object is read as it

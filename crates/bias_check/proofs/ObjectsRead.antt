@@ -272,5 +272,4 @@ undotted_read p o h lt =
     let s = r.3 in
     let number : 0 + r.0 ≡ r.0 = omega arith in
     let text : object_text p o ≡ element_text r.1 (Some r.2) = text_of_declared p o lt ∙ rw (s.place, number, s.at) refl in
-    let few = h.objects_few in
-    rw text (read_by p r.0 r.1 r.2 r.2.array h s.at s.within refl (omega (arith, s.object, few, lt)) ∙ ap Some s.object)
+    rw text (read_by p r.0 r.1 r.2 r.2.array h s.at s.within refl (omega (arith, s.object, h.objects_few, lt)) ∙ ap Some s.object)

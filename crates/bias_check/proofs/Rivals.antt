@@ -24,10 +24,8 @@ use Rattle.bias_check.proofs.TellsRead.{IsRival}
 
 -- a slot has not both values
 not_both : (slot : Option Value) (n : ℕ) → has_value slot (Ref n) ≡ true → has_value slot Nil ≡ false
-not_both None n h = refl
 not_both (Some Nil) n h = absurd (cc h)
-not_both (Some (Int z)) n h = refl
-not_both (Some (Ref o)) n h = refl
+not_both _ n h = refl
 
 -- where the objects refuse an entry, so does the machine
 refused_by_objects : (m : PlainMachine) (t : ℕ) (e : Entry) (s : Option ThreadState) → take_entry m.objects t e ≡ None
@@ -108,13 +106,11 @@ print_misfits c n h = absurd (cc h)
 
 ending_no_put : (e : Ending) (o k : ℕ) (v : Value) → fits (Ends e) (Put o k v) ≡ false
 ending_no_put (ending.Trap f i) o k v = refl
-ending_no_put ending.Spent o k v = refl
-ending_no_put ending.Done o k v = refl
+ending_no_put _ o k v = refl
 
 ending_no_print : (e : Ending) (v : Value) → fits (Ends e) (Print v) ≡ false
 ending_no_print (ending.Trap f i) v = refl
-ending_no_print ending.Spent v = refl
-ending_no_print ending.Done v = refl
+ending_no_print _ v = refl
 
 put_unasked : (a : NextEntry) (o k n : ℕ) → fits a (Put o k (Ref n)) ≡ true → fits a (Put o k Nil) ≡ false
 put_unasked (Calls c) o k n h = put_misfits c o k n h

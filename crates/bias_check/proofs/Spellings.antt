@@ -4,10 +4,9 @@ use Rattle.std.specs.List.{AllByRecursion}
 use Rattle.std.proofs.lemmas.Option.{same_Some}
 use Rattle.std.proofs.lemmas.Slice.Eq.{bytes_eq-Decides}
 use Rattle.plain_monitor.specs.declared.entry.Path.{Path}
-use Rattle.plain_monitor.specs.declared.entry.Path.TheVariants.{BiasOwn, BiasTaken, StackFirst, StackAgain, MonitorFirst, MonitorAgain}
+use Rattle.plain_monitor.specs.declared.entry.Path.TheVariants.{BiasOwn}
 use Rattle.plain_monitor.specs.declared.entry.Fault.{Fault}
-use Rattle.plain_monitor.specs.declared.entry.Fault.TheVariants.{IllegalMonitorState, Unguarded, NotRef, NotInt}
-use Rattle.plain_monitor.specs.declared.entry.Fault.TheVariants.{Range, Overflow, TooDeep, TooManyDumps, TooMany}
+use Rattle.plain_monitor.specs.declared.entry.Fault.TheVariants.{IllegalMonitorState}
 use Rattle.lock_journal.specs.Words.{path_text, fault_text}
 use Rattle.bias_check.specs.declared.spelled.Verb.{Verb}
 use Rattle.bias_check.specs.declared.spelled.Verb.TheVariants as verb
@@ -48,20 +47,7 @@ fault_is w v h =
 
 pub verb_read : (v : Verb) → spelled_among verbs (verb_text v) ≡ Some v
 verb_read verb.Enter = refl
-verb_read verb.Exit = refl
-verb_read verb.Wait = refl
-verb_read verb.Resume = refl
-verb_read verb.Get = refl
-verb_read verb.Put = refl
-verb_read verb.Notify = refl
-verb_read verb.NotifyAll = refl
-verb_read verb.Hash = refl
-verb_read verb.New = refl
-verb_read verb.Print = refl
-verb_read verb.Dump = refl
-verb_read verb.Fault = refl
-verb_read verb.Spent = refl
-verb_read verb.Done = refl
+verb_read _ = refl
 
 -- a word that is the text of a verb is found as that verb
 pub verb_spelled : (v : Verb) (w : List ℕ) → bytes_eq (verb_text v) w ≡ true → spelled_among verbs w ≡ Some v
@@ -69,19 +55,8 @@ verb_spelled v w h = subst (λ (w : List ℕ). spelled_among verbs w ≡ Some v)
 
 pub path_read : (v : Path) → spelled_among paths (path_text v) ≡ Some v
 path_read BiasOwn = refl
-path_read BiasTaken = refl
-path_read StackFirst = refl
-path_read StackAgain = refl
-path_read MonitorFirst = refl
-path_read MonitorAgain = refl
+path_read _ = refl
 
 pub fault_read : (v : Fault) → spelled_among faults (fault_text v) ≡ Some v
 fault_read IllegalMonitorState = refl
-fault_read Unguarded = refl
-fault_read NotRef = refl
-fault_read NotInt = refl
-fault_read Range = refl
-fault_read Overflow = refl
-fault_read TooDeep = refl
-fault_read TooManyDumps = refl
-fault_read TooMany = refl
+fault_read _ = refl

@@ -9,7 +9,7 @@ use Rattle.cli_args.specs.declared.options.Command.{Command}
 use Rattle.sync_source.specs.Compiled.{compiled}
 use Rattle.bias_cli.specs.declared.finish.Finish.{Finish}
 use Rattle.bias_cli.specs.Seen.{SourceSeen, SinkSeen}
-use Rattle.bias_cli.specs.Finish.{Due, Tells, Runs, RunsBlocks, Checks, Finds, LeavesRun, Meets, IsGivenUp, IsFinish, due_of}
+use Rattle.bias_cli.specs.Finish.{Due, Runs, RunsBlocks, LeavesRun, Meets, IsGivenUp, IsFinish, due_of}
 
 -- what holds of a record that can be replayed
 record IsReplayed (r : RunRecord) : Type 0 where
@@ -28,11 +28,9 @@ run_replayed before after f r o p met h =
 
 -- what was due was done, and left a record
 due_replayed : (before after : SinkSeen) (f : Finish) (r : RunRecord) (due : Due) → Meets before after f due → f.run ≡ Some r → IsReplayed r
-due_replayed before after f r (Tells status text) met h = absurd (cc (h, met.0.0))
-due_replayed before after f r (Checks p fuel start lines) met h = absurd (cc (h, met.0.0))
-due_replayed before after f r (Finds p states witness) met h = absurd (cc (h, met.0.0))
 due_replayed before after f r (Runs o p) met h = run_replayed before after f r o p met h
 due_replayed before after f r (RunsBlocks o s) met h = run_replayed before after f r o (compiled decimal s) met.0 h
+due_replayed before after f r _ met h = absurd (cc (h, met.0.0))
 
 replayed : (c : Option Command) (source_before source_after : SourceSeen) (sink_before sink_after : SinkSeen) (f : Finish) (r : RunRecord)
     → IsGivenUp sink_before sink_after f ⊎ IsFinish c source_before source_after sink_before sink_after f → f.run ≡ Some r → IsReplayed r

@@ -3,10 +3,10 @@ use Rattle.std.proofs.Common.{◌≡◌, ◌⊎◌, inl, inr, ℕ, ◌≤◌, Bo
 use Rattle.std.specs.List.{list_any}
 use Rattle.std.proofs.lemmas.Bool.{true≢false}
 use Rattle.plain_monitor.specs.Limits.{most_fuel}
-use Rattle.plain_monitor.specs.declared.entry.Ending.TheVariants.{Trap, Spent, Done}
+use Rattle.plain_monitor.specs.declared.entry.Ending.TheVariants.{Trap, Spent}
 use Rattle.object_program.specs.Program.{ProgramText}
 use Rattle.plain_machine.specs.declared.monitor_call.Mode.{Mode}
-use Rattle.plain_machine.specs.declared.monitor_call.Mode.TheVariants.{Calling, Waiting, Unwinding, Ended}
+use Rattle.plain_machine.specs.declared.monitor_call.Mode.TheVariants.{Ended}
 use Rattle.plain_machine.specs.Thread.{ThreadState}
 use Rattle.plain_machine.specs.Machine.{PlainMachine, ending_in, is_stuck}
 use Rattle.heap_table.specs.Seen.{ClosedSeen}
@@ -50,12 +50,9 @@ run_not_stuck o p most counts r c m every all none few run =
 
 -- a thread that neither faulted nor was spent wasn't cut short
 not_cut : (mode : Mode) → is_spent mode ≡ false → has_trapped mode ≡ false → is_cut_short (ending_in mode) ≡ false
-not_cut (Calling k) alive whole = refl
-not_cut (Waiting o) alive whole = refl
-not_cut (Unwinding e) alive whole = refl
-not_cut (Ended Done) alive whole = refl
 not_cut (Ended Spent) alive whole = absurd (true≢false alive)
 not_cut (Ended (Trap fault index)) alive whole = absurd (true≢false whole)
+not_cut _ alive whole = refl
 
 neither : (a b : Bool) → (a || b) ≡ false → (a ≡ false) × (b ≡ false)
 neither true b h = absurd (true≢false h)

@@ -6,7 +6,7 @@ use Rattle.plain_monitor.specs.declared.entry.Entry.{Entry}
 use Rattle.plain_monitor.specs.declared.entry.Entry.TheVariants.{Enter, Exit, Get, Put, Wait, Resume, Notify, NotifyAll}
 use Rattle.plain_monitor.specs.declared.entry.Entry.TheVariants.{Hash, New, Print, Dump, Trap, Spent, Done}
 use Rattle.plain_monitor.specs.declared.entry.Path.{Path}
-use Rattle.plain_monitor.specs.declared.entry.Path.TheVariants.{BiasOwn, BiasTaken, StackFirst, StackAgain, MonitorFirst, MonitorAgain}
+use Rattle.plain_monitor.specs.declared.entry.Path.TheVariants.{BiasOwn, StackFirst}
 use Rattle.plain_monitor.specs.declared.entry.Logged.{Logged}
 use Rattle.plain_monitor.specs.Order.{order}
 use Rattle.object_program.specs.Program.{ProgramText}
@@ -35,11 +35,7 @@ before a b rest few =
 
 path_short : (path : Path) → length (path_text path) ≤ length (path_text StackFirst) + 13
 path_short BiasOwn = omega arith
-path_short BiasTaken = omega arith
-path_short StackFirst = omega arith
-path_short StackAgain = omega arith
-path_short MonitorFirst = omega arith
-path_short MonitorAgain = omega arith
+path_short _ = omega arith
 
 module _ (p : ProgramText) where
   same : (e : Entry) → length (entry_text p e) ≤ length (entry_text p e) + 13

@@ -13,7 +13,7 @@ use Rattle.sync_source.specs.Source.{SyncText}
 use Rattle.sync_syntax.specs.declared.error.SyncError.{SyncError}
 use Rattle.sync_syntax.specs.Refusal.{sync_program_of}
 use Rattle.bias_check.specs.declared.answer.Checked.{Checked}
-use Rattle.bias_check.specs.declared.answer.Checked.TheVariants.{Legal, NoStep, BadHash}
+use Rattle.bias_check.specs.declared.answer.Checked.TheVariants.{Legal}
 use Rattle.bias_check.specs.declared.answer.CheckFault.{CheckFault}
 use Rattle.bias_check.specs.declared.answer.CheckFault.TheVariants.{Unreadable, NoMemory}
 use Rattle.bias_check.specs.Parts.{has_journal, program_part, journal_part}
@@ -91,10 +91,9 @@ machine_another false false is = absurd (omega (arith, is))
 
 verdict_another : (answer : Result Checked CheckFault) → answer ≢ Err NoMemory → verdict_status answer ≢ 7
 verdict_another (Ok (Legal count state)) given is = absurd (omega (arith, is))
-verdict_another (Ok (NoStep number)) given is = absurd (omega (arith, is))
-verdict_another (Ok (BadHash object)) given is = absurd (omega (arith, is))
 verdict_another (Err (Unreadable number)) given is = absurd (omega (arith, is))
 verdict_another (Err NoMemory) given is = given refl
+verdict_another (Ok _) given is = absurd (omega (arith, is))
 
 outcome_another : (stuck cut left : Bool) → ◌≢◌ {A = ℕ} (if stuck then 4 else if cut then 1 else if left then 8 else 0) 7
 outcome_another true cut left is = absurd (omega (arith, is))

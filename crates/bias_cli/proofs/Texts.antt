@@ -15,9 +15,6 @@ pub record WroteSoFar (held_before held_now : Option (List ℕ)) (lines left : L
   pub all : lines ≡ done ++ left
   pub wrote : Wrote held_before held_now (text_of_lines done)
 
-pub wrote_none : (h : Option (List ℕ)) (lines left : List (List ℕ)) → left ≡ lines → WroteSoFar h h lines left
-wrote_none h lines left e = record { done = []; all = sym e; wrote = λ held is. is ∙ ap Some (sym (append-nil held)) }
-
 pub wrote_line : (h0 h1 h2 : Option (List ℕ)) (lines left rest : List (List ℕ)) (line : List ℕ)
     → left ≡ line ∷ rest → WroteSoFar h0 h1 lines left → Wrote h1 h2 line → WroteSoFar h0 h2 lines rest
 wrote_line h0 h1 h2 lines left rest line e w more =
@@ -30,10 +27,6 @@ wrote_line h0 h1 h2 lines left rest line e w more =
           ∙ ap (λ bs. held ++ (text_of_lines w.done ++ bs)) (sym (append-nil line))
           ∙ ap (λ bs. held ++ bs) (sym (texts_append w.done (line ∷ []))));
     }
-
-pub wrote_all : (h0 h1 : Option (List ℕ)) (lines left : List (List ℕ)) → left ≡ [] → WroteSoFar h0 h1 lines left → Wrote h0 h1 (text_of_lines lines)
-wrote_all h0 h1 lines left e w held is =
-    w.wrote held is ∙ ap (λ ls. Some (held ++ text_of_lines ls)) (sym (append-nil w.done) ∙ ap (λ ls. w.done ++ ls) (sym e) ∙ sym w.all)
 
 -- a line of which a front was written
 pub wrote_part : (h0 h1 h2 : Option (List ℕ)) (lines left rest : List (List ℕ)) (line : List ℕ)

@@ -4,7 +4,7 @@ use Rattle.std.specs.Prelude.{◌||◌, ◌&&◌, not, is_some, find, if◌then�
 use Rattle.std.specs.Str.{bytes_eq}
 use Rattle.std.proofs.lemmas.Slice.Eq.{bytes_eq-Decides}
 use Rattle.clap.specs.Walk.{Rule, arg_by_id, arg_by_long, has_long}
-use Rattle.clap.specs.Simple.{built, is_simple, names_of}
+use Rattle.clap.specs.Simple.{is_simple}
 use Rattle.cli_args.specs.declared.words.Kind.TheVariants.{Valued, Flag}
 use Rattle.cli_args.specs.Command.{Text, is_one_of, kind_of, valued_names, flag_names}
 use Rattle.cli_args.specs.inner.Clap.{run_app}
@@ -12,12 +12,6 @@ use Rattle.cli_args.proofs.Rows.{valued, flag}
 
 abbrev pub run_rules : List Rule
 run_rules = map valued valued_names ++ map flag flag_names
-
-pub built_rules : (built run_app).top.rules ≡ run_rules
-built_rules = refl
-
-pub built_names : names_of (built run_app) ≡ []
-built_names = refl
 
 pub run_is_simple : is_simple run_app ≡ true
 run_is_simple = refl

@@ -47,8 +47,7 @@ in_order : (t : ℕ) (ks : List ThreadView) (i : ℕ) (k : ThreadView) → InOrd
 in_order t [] i k order h = absurd (cc h)
 in_order t (x ∷ ks) zero k order h =
     let e = ap (λ (z : ThreadView). z.thread) (same_Some x k h) in
-    let here = order.0 in
-    omega (arith, e, here)
+    omega (arith, e, order.0)
 in_order t (x ∷ ks) (suc i) k order h = let e = in_order (t + 1) ks i k order.1 h in omega (arith, e)
 
 logs_listed : (f : ℕ → ThreadView) (t : ℕ) (ks : List ThreadView) → InOrder t ks
@@ -99,9 +98,8 @@ module _ (heap : Heap) (words : List ℕ) (ks : List ThreadView) (e : IsEnd heap
 
   there : (t : ℕ) → t < heap.shape.threads → slice_get ks t ≡ Some (w.known t)
   there t within =
-      let all = e.all in
       let same : 0 + t ≡ t = omega arith in
-      let g = get_within ks t (omega (arith, all, within)) in
+      let g = get_within ks t (omega (arith, e.all, within)) in
       g.1 ∙ ap Some (sym (e.last.knows t g.0 g.1) ∙ ap w.known (in_order 0 ks t g.0 e.order g.1 ∙ same))
 
   -- no thread of the heap is in the middle of anything, and no other has reached a safepoint
@@ -110,14 +108,12 @@ module _ (heap : Heap) (words : List ℕ) (ks : List ThreadView) (e : IsEnd heap
     | inl within ↦
         let rests = all_at (AtRest heap.shape) ks s.requester (w.known s.requester) e.rest (there s.requester within) in
         let none = ap revocation_in rests.calm in
-        let some = s.its_revocation in
-        absurd (cc (none, some))
+        absurd (cc (none, s.its_revocation))
     | inr far ↦
         let before = ap (λ (z : Shape). z.threads) s.shape in
         let absent = s.fits.absent s.requester (omega (arith, far, before, threads_are)) in
         let unreached = ap (λ (k : ThreadView). k.reached) absent in
-        let reached = s.reached in
-        absurd (cc (reached, unreached))
+        absurd (cc (s.reached, unreached))
   ]
 
   whole : Whole w e.last.sound.valid.objects
@@ -127,8 +123,7 @@ module _ (heap : Heap) (words : List ℕ) (ks : List ThreadView) (e : IsEnd heap
   known_listed t = elim (cases_lt t heap.shape.threads) [
     | inl within ↦ inl (there t within)
     | inr far ↦
-        let all = e.all in
-        inr (get_none ks t (omega (arith, all, far)), whole.fits.absent t (omega (arith, far, threads_are)))
+        inr (get_none ks t (omega (arith, e.all, far)), whole.fits.absent t (omega (arith, far, threads_are)))
   ]
 
   pub settled : Settled heap words ks

@@ -42,21 +42,12 @@ one_of false false false h = absurd (cc h)
 object_there : (s : Shape) (f : Option WaitForm) (o : ℕ) → IsWait s f
     → (waits_form f o ≡ true) ⊎ (notified_form f o ≡ true) ⊎ (enters_form f o ≡ true) → o < length s.objects
 object_there s None o is h = absurd is
-object_there s (Some wait.Ready) o is (inl h) = absurd (cc h)
-object_there s (Some wait.Ready) o is (inr (inl h)) = absurd (cc h)
-object_there s (Some wait.Ready) o is (inr (inr h)) = absurd (cc h)
-object_there s (Some (wait.Entering i)) o is (inl h) = absurd (cc h)
-object_there s (Some (wait.Entering i)) o is (inr (inl h)) = absurd (cc h)
 object_there s (Some (wait.Entering i)) o is (inr (inr h)) = subst (λ j. j < length s.objects) (eqb-true i o h) is
 object_there s (Some (wait.Waiting i stamp)) o is (inl h) = subst (λ j. j < length s.objects) (eqb-true i o h) is
-object_there s (Some (wait.Waiting i stamp)) o is (inr (inl h)) = absurd (cc h)
-object_there s (Some (wait.Waiting i stamp)) o is (inr (inr h)) = absurd (cc h)
-object_there s (Some (wait.Notified i)) o is (inl h) = absurd (cc h)
 object_there s (Some (wait.Notified i)) o is (inr (inl h)) = subst (λ j. j < length s.objects) (eqb-true i o h) is
-object_there s (Some (wait.Notified i)) o is (inr (inr h)) = absurd (cc h)
-object_there s (Some wait.Ended) o is (inl h) = absurd (cc h)
-object_there s (Some wait.Ended) o is (inr (inl h)) = absurd (cc h)
-object_there s (Some wait.Ended) o is (inr (inr h)) = absurd (cc h)
+object_there s _ o is (inr (inr h)) = absurd (cc h)
+object_there s _ o is (inr (inl h)) = absurd (cc h)
+object_there s _ o is (inl h) = absurd (cc h)
 
 -- nothing is in two places
 one_thread : (t u : ℕ) → With t ≡ With u → t ≡ u
@@ -161,8 +152,7 @@ module _ (heap : Heap) (words : List ℕ) (ks : List ThreadView) (e : IsEnd heap
       (λ t h. ap (λ m. claimed_or_kept m (w.known t).kept) (still t) ∙ sym (kept_is t)) in
       let none = with_monitor_none z.threads (λ t. given_back (w.known t).moving) (λ t. ap (λ m. given_back m) (still t)) in
       let marked = same_counts (length z.objects) (named_by z words) (inflated_to w) name_is in
-      let all = claims.counted in
-      omega (arith, hands, none, marked, all)
+      omega (arith, hands, none, marked, claims.counted)
 
   abbrev IsSomewhere : ℕ → Type 0
   IsSomewhere m = ((t : ℕ) × (kept_by ks t ≡ Some m)) ⊎ ((o : ℕ) × IsNamed z words o m)

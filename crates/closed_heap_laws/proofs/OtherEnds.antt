@@ -277,5 +277,4 @@ module _ (s : Shape) (words : List ℕ) (ks : List ThreadView) where
   waits_without t o within waits none apart =
       let word = word_at s words (Waiting t) in
       let named = apart.in_use t o within (ap (λ b. not b && not (says_notified word o) && not (enters_on word o)) waits) in
-      let is = named.1.1 in
-      absurd (cc (none, is))
+      absurd (cc (none, named.1.1))

@@ -63,10 +63,9 @@ module _ (heap : Heap) (words : List ℕ) (ks : List ThreadView) (e : IsEnd heap
   -- who is listed is a thread of the heap
   within : (t : ℕ) → slice_get ks t ≡ Some (s.world.known t) → t < s.world.shape.threads
   within t there =
-      let all = e.all in
       let same = ap (λ (h : Heap). h.shape.threads) s.is_of in
       let h = get_below ks t (s.world.known t) there in
-      omega (arith, h, all, same)
+      omega (arith, h, e.all, same)
 
   none_open : (t o : ℕ) → IsListed ks t (s.world.known t) → IsUnfinished (s.world.known t).unfinished op.Hash o → ⊥
   none_open t o (inr far) h = let none = ap (λ (k : ThreadView). k.unfinished) far.1 in absurd (cc (none, h))

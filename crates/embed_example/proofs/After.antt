@@ -62,13 +62,7 @@ unended_both (l ∷ a) b f g = cases (is_ending l.entry) f (λ e. unended_both a
 -- OPERATIONS
 same_self : (w : Operation) → same_op w w ≡ true
 same_self op.Enter = refl
-same_self op.Exit = refl
-same_self op.Wait = refl
-same_self op.Notify = refl
-same_self op.NotifyAll = refl
-same_self op.Hash = refl
-same_self op.Dump = refl
-same_self op.Create = refl
+same_self _ = refl
 
 goes_self : (w : Operation) (o : ℕ) → goes_on_with w o (unfinished_on w o) ≡ true
 goes_self w o = and_from (same_op w w) (o == o) (same_self w) (eq-eqb o o refl)
@@ -239,8 +233,7 @@ may_beside h w o p q b runs may =
 pub may_finish : (h : HeapSeen) (p : PassSeen) (ending : Ending) (count : ℕ) → IsFree h p → count ≡ all_holds p.known.holds → count ≡ 0
     → suc (length p.known.log) ≤ p.limit → MayOperate h p (Finish ending)
 may_finish h p ending count f all none room =
-    let few = f.live.limit in
-    let short : nat_lt (length p.known.log) log_limit ≡ true = lt-ltb _ _ (omega (arith, room, few)) in
+    let short : nat_lt (length p.known.log) log_limit ≡ true = lt-ltb _ _ (omega (arith, room, f.live.limit)) in
     let act : may_operate p.known false ≡ true =
     λ i. not (f.live.unchecked i) && (f.runs i || (p.known.requesting && false)) && (is_none (f.none i) || false) && not (f.live.unended i) && short i in
     let empty = all_empty 0 p.known.holds (sym all ∙ none) in
@@ -250,8 +243,7 @@ may_finish h p ending count f all none room =
 may_operate_now : (h : HeapSeen) (w : Operation) (o : ℕ) (p : PassSeen) → MayTry w o h p → length p.known.log + 1 ≤ p.limit
     → may_operate p.known (goes_on_with w o p.known.unfinished) ≡ true
 may_operate_now h w o p may room =
-    let few = may.live.limit in
-    let short : nat_lt (length p.known.log) log_limit ≡ true = lt-ltb _ _ (omega (arith, room, few)) in
+    let short : nat_lt (length p.known.log) log_limit ≡ true = lt-ltb _ _ (omega (arith, room, may.live.limit)) in
     λ i. not (may.live.unchecked i) && may.stands i && may.free i && not (may.live.unended i) && short i
 
 -- so may one that logs one entry, on an object to which the thread has a reference

@@ -35,21 +35,12 @@ holds_not m n t s u h program objects at at2 apart k = apart (holds_told m n t s
 -- a thread that enters one object asks for no other
 fits_one : (a : NextEntry) (o k : ℕ) (p q : Path) → fits a (Enter o p) ≡ true → fits a (Enter k q) ≡ true → o ≡ k
 fits_one (Calls (call.Enter c)) o k p q h g = sym (eqb-true c o h) ∙ eqb-true c k g
-fits_one (Calls (call.Exit c)) o k p q h g = absurd (false≢true h)
-fits_one (Calls (call.Wait c)) o k p q h g = absurd (false≢true h)
-fits_one (Calls (call.Notify c)) o k p q h g = absurd (false≢true h)
-fits_one (Calls (call.NotifyAll c)) o k p q h g = absurd (false≢true h)
-fits_one (Calls (call.Get x c i)) o k p q h g = absurd (false≢true h)
-fits_one (Calls (call.Put c i v)) o k p q h g = absurd (false≢true h)
-fits_one (Calls (call.Hash x c)) o k p q h g = absurd (false≢true h)
-fits_one (Calls (call.New x c)) o k p q h g = absurd (false≢true h)
-fits_one (Calls (call.Print v)) o k p q h g = absurd (false≢true h)
-fits_one (Calls (call.Dump n)) o k p q h g = absurd (false≢true h)
 fits_one (Resumes c) o k p q h g = absurd (false≢true h)
 fits_one (Leaves c) o k p q h g = absurd (false≢true h)
 fits_one (Ends (ending.Trap f i)) o k p q h g = absurd (false≢true h)
 fits_one (Ends ending.Spent) o k p q h g = absurd (false≢true h)
 fits_one (Ends ending.Done) o k p q h g = absurd (false≢true h)
+fits_one (Calls _) o k p q h g = absurd (false≢true h)
 
 pub other_object : (m a : PlainMachine) (t o k : ℕ) (p q : Path) → o ≢ k → take m t (Enter o p) ≡ Some a → take m t (Enter o p) ≡ take m t (Enter k q) → ⊥
 other_object m a t o k p q apart takes same =

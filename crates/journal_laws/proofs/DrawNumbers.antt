@@ -38,5 +38,4 @@ pub draw_is_short : (first : ℕ) (before : List Logged) (l : Logged) (later : L
     → HasShortDraw l.entry
 draw_is_short first before l later h few =
     let r = next_among first 0 before l later h in
-    let done = r.few in
-    short_next first r.done l.entry (omega (arith, done, few)) r.next
+    short_next first r.done l.entry (omega (arith, r.few, few)) r.next

@@ -27,7 +27,7 @@ use Rattle.plain_machine.specs.Values.{IsValueOf}
 use Rattle.plain_machine.specs.declared.monitor_call.MonitorCall.{MonitorCall}
 use Rattle.plain_machine.specs.declared.monitor_call.MonitorCall.TheVariants as call
 use Rattle.plain_machine.specs.declared.monitor_call.NextEntry.{NextEntry}
-use Rattle.plain_machine.specs.declared.monitor_call.NextEntry.TheVariants.{Calls, Resumes, Leaves, Ends}
+use Rattle.plain_machine.specs.declared.monitor_call.NextEntry.TheVariants.{Calls, Ends}
 use Rattle.plain_machine.specs.Asking.{fault_number, fits, is_call}
 use Rattle.plain_machine.specs.Legal.{after_all, machine_after, IsLegal}
 use Rattle.plain_machine.specs.Machine.{PlainMachine, new_machine, take}
@@ -71,28 +71,25 @@ module _ (p : ProgramText) (is : IsProgram p) (s : ThreadState) where
   got_slot : (a : NextEntry) (o k : ℕ) (v : Value) → IsAskedOf p s a → fits a (Get o k v) ≡ true → k < 2 ^ 32
   got_slot (Calls (call.Get x q j)) o k v asked fit = slot_few q k j asked.call.1 (and_parts (q == o) (j == k) fit).1
   got_slot (Calls c) o k v asked fit = absurd (false≢true fit)
-  got_slot (Resumes q) o k v asked fit = absurd (false≢true fit)
-  got_slot (Leaves q) o k v asked fit = absurd (false≢true fit)
   got_slot (Ends (ending.Trap f i)) o k v asked fit = absurd (false≢true fit)
   got_slot (Ends g) o k v asked fit = absurd (false≢true fit)
+  got_slot _ o k v asked fit = absurd (false≢true fit)
 
   put_slot : (a : NextEntry) (o k : ℕ) (v : Value) → IsAskedOf p s a → fits a (Put o k v) ≡ true → k < 2 ^ 32
   put_slot (Calls (call.Put q j w)) o k v asked fit =
       slot_few q k j asked.call.1 (and_parts (q == o) (j == k) (and_parts ((q == o) && (j == k)) (same_value w v) fit).0).1
   put_slot (Calls c) o k v asked fit = absurd (false≢true fit)
-  put_slot (Resumes q) o k v asked fit = absurd (false≢true fit)
-  put_slot (Leaves q) o k v asked fit = absurd (false≢true fit)
   put_slot (Ends (ending.Trap f i)) o k v asked fit = absurd (false≢true fit)
   put_slot (Ends g) o k v asked fit = absurd (false≢true fit)
+  put_slot _ o k v asked fit = absurd (false≢true fit)
 
   -- the class of a new object is one of the program's
   new_class : (a : NextEntry) (o c : ℕ) → IsAskedOf p s a → fits a (New o c) ≡ true → c < length p.classes
   new_class (Calls (call.New x k)) o c asked fit = subst (λ (i : ℕ). i < length p.classes) (eqb-true k c fit) asked.call.0
   new_class (Calls k) o c asked fit = absurd (false≢true fit)
-  new_class (Resumes q) o c asked fit = absurd (false≢true fit)
-  new_class (Leaves q) o c asked fit = absurd (false≢true fit)
   new_class (Ends (ending.Trap f i)) o c asked fit = absurd (false≢true fit)
   new_class (Ends g) o c asked fit = absurd (false≢true fit)
+  new_class _ o c asked fit = absurd (false≢true fit)
 
   -- the number of a trap is that of an instruction
   trap_number : (a : NextEntry) (f : Fault) (i : ℕ) → UnwindsWithin most_code s.mode → IsAskedOf p s a → fits a (Trap f i) ≡ true → i < 2 ^ 32
@@ -116,9 +113,7 @@ many_few m t o many after h takes =
         let same = eqb-true (length x.monitor.waits) many (and_parts (owns x.monitor t) (length x.monitor.waits == many) test).1 in
         let places = all_weaker (IsPlaceOf (length m.threads)) (λ p. p.0 < length m.threads) (λ p k. k.0) x.monitor.waits is.waits in
         let listed = listed_few (length m.threads) x.monitor.waits places (λ u. let once = is.once u in omega (arith, once)) in
-        let threads = h.thread_count in
-        let few = h.program.threads_few in
-        omega (arith, same, listed, threads, few)
+        omega (arith, same, listed, h.thread_count, h.program.threads_few)
 
 -- ENTRIES
 -- a value beside some objects is one beside more
@@ -206,12 +201,11 @@ module _ (p : ProgramText) (fuel start : ℕ) (logs : List (List Logged)) (is : 
   short_here : (x : ℕ × Logged) → length (order logs) ≤ most_threads * (2 * most_fuel + 1) → IsPlaced logs x → x.1.stamp ≤ length (order logs) → IsShort x
   short_here x many placed stamp =
       let next = next_of logs legal.rises exact x.0 placed.before x.1 placed.later placed.log_is in
-      let after = next.is in
       let own = log_within logs x.0 legal.rises in
       let log = ap (λ (l : List Logged). length l) placed.log_is in
       let split = length-append placed.before (x.1 ∷ placed.later) in
       record {
-        above_zero = omega (arith, after);
+        above_zero = omega (arith, next.is);
         below = omega (arith, stamp, many);
         draw =
             draw_is_short (first_draw start x.0) placed.before x.1 placed.later

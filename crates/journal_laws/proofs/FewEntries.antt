@@ -26,8 +26,7 @@ as_many m (x ∷ xs) last r e =
     let next = first_some (λ z. after_all z xs) (take m x.0 x.1.entry) last e in
     let step = progress m next.0 x.0 x.1.entry r next.1 in
     let others = as_many next.0 xs last step.reached next.2 in
-    let less = step.work in
-    omega (arith, others, less)
+    omega (arith, others, step.work)
 
 none_held : (n : ℕ) → sum (replicate n 0) ≡ 0
 none_held n = let nothing = sum_by-replicate (λ (x : ℕ). x) n 0 in omega (arith, nothing)
@@ -37,9 +36,7 @@ module _ (p : ProgramText) (fuel : ℕ) (is : IsProgram p) (few : fuel ≤ most_
   first_work d runs =
       let r = first_run p d fuel is runs in
       let holds : sum (first_state p d fuel).holds ≡ 0 = ap (λ (ns : List ℕ). sum ns) r.holds_stay ∙ none_held (objects_total p) in
-      let fuels = r.fuel_falls in
-      let one = r.one_entry in
-      omega (arith, holds, fuels, one, few)
+      omega (arith, holds, r.fuel_falls, r.one_entry, few)
 
   first_works : (ds : List ThreadDef) → AllByRecursion (RunsAll p) ds → work_in (map (λ d. first_state p d fuel) ds) ≤ length ds * (2 * most_fuel + 1)
   first_works [] runs = omega arith
@@ -53,5 +50,4 @@ module _ (p : ProgramText) (fuel : ℕ) (is : IsProgram p) (few : fuel ≤ most_
   entries_few logs m under =
       let all = as_many (new_machine p fuel) (order logs) m (first_is_reached p fuel is) under in
       let works = first_works p.threads (program_runs p is) in
-      let threads = is.threads_few in
-      omega (arith, all, works, threads)
+      omega (arith, all, works, is.threads_few)

@@ -142,8 +142,7 @@ module _ (logs : List (List Logged)) (rises : AllByRecursion (RisesAbove 0) logs
       let at = h.stamp_is in
       let more = one_more n h.thread (order logs) h.before h.entry h.later (thread_kept logs h.thread rises ∙ h.log_is) (omega (arith, at)) in
       let next = next_of h.thread h.before h.entry h.later h.log_is in
-      let is = next.is in
-      let same : next.below ≡ n = omega (arith, is, at) in
+      let same : next.below ≡ n = omega (arith, next.is, at) in
       let below = enough_below n (enough n) (subst (IsLoggedOrZero logs) same next.logged) in
       let one : suc n ≡ n + 1 = omega arith in
       subst (λ k. k ≤ up_to k (order logs)) (sym one) (omega (arith, more, below))

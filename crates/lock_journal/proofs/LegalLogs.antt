@@ -56,8 +56,7 @@ none_of_others m t (x ∷ xs) past some = by_taking (take m x.0 x.1.entry) refl 
   by_taking None at some rest = absurd (cc some)
   by_taking (Some n) at some rest =
       let own = own_thread m n x.0 x.1.entry at in
-      let within = own.thread in
-      let other : (x.0 == t) ≡ false = grind (arith, nat_tests, within, past) in
+      let other : (x.0 == t) ≡ false = grind (arith, nat_tests, own.thread, past) in
       rw other (rest n (omega (arith, own.threads, past)) some)
 
 -- so the logs after the sixteenth are empty

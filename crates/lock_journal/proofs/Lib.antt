@@ -2,7 +2,6 @@ pub mod Lists
 pub mod Merging
 pub mod Names
 pub mod PrintsLeft
-pub mod EndsLeft
 pub mod ThreadsLeft
 pub mod EntersOfLogs
 pub mod Counts

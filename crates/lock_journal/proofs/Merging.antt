@@ -115,9 +115,8 @@ none_left logs places none =
 kept_past_none : (logs : List (List Logged)) (places : List ℕ) (n : ℕ) (x : ℕ × ℕ)
     → IsLeastHead logs places n x → stamp_of logs places n ≡ None → IsLeastHead logs places (n + 1) x
 kept_past_none logs places n x a e =
-    let within = a.thread in
     record {
-      thread = omega (arith, within);
+      thread = omega (arith, a.thread);
       head = a.head;
       before = λ u m h d f. elim (cases_eq u n) [
         | inl same ↦ absurd (none-some m (sym e ∙ ap (stamp_of logs places) (sym same) ∙ f))
@@ -130,9 +129,8 @@ least_of_two : (logs : List (List Logged)) (places : List ℕ) (n : ℕ) (x : �
     → nat_le x.1 s ≡ b → IsLeastHead logs places n x → stamp_of logs places n ≡ Some s
     → IsLeastOf logs places (n + 1) (earlier (Some x) n (Some s))
 least_of_two logs places n x s true h a e =
-    let within = a.thread in
     rw h (record {
-      thread = omega (arith, within);
+      thread = omega (arith, a.thread);
       head = a.head;
       before = λ u m k d f. elim (cases_eq u n) [
         | inl same ↦ let is : s ≡ m = same_Some _ _ (sym e ∙ ap (stamp_of logs places) (sym same) ∙ f) in grind (arith, nat_tests)

@@ -1,6 +1,5 @@
 -- Steps of the lines that entries print.
-use Rattle.std.proofs.Common.{◌≡◌, ℕ, zero, suc, ◌+◌, ◌<◌, List, [], ◌∷◌, ◌++◌, drop, length, get_or, set, Option, Some, None, refl, ap, sym, ◌∙◌}
-use Rattle.std.proofs.lemmas.List.{at_drop_more}
+use Rattle.std.proofs.Common.{◌≡◌, ℕ, zero, suc, ◌+◌, List, [], ◌∷◌, ◌++◌, drop, get_or, set, Option, Some, None, refl, ap, sym, ◌∙◌}
 use Rattle.plain_monitor.specs.declared.entry.Entry.{Entry}
 use Rattle.plain_monitor.specs.declared.entry.Entry.TheVariants as entry
 use Rattle.plain_monitor.specs.declared.entry.Logged.{Logged}
@@ -53,8 +52,3 @@ skipped_kept [] places t p h = refl
 skipped_kept (log ∷ logs) [] t p h = refl
 skipped_kept (log ∷ logs) (q ∷ places) zero p h = ap (λ l. l ∷ kept_logs prints (left_of logs places)) h
 skipped_kept (log ∷ logs) (q ∷ places) (suc t) p h = ap (λ ls. kept_of prints (drop q log) ∷ ls) (skipped_kept logs places t p h)
-
--- one entry that doesn't print is passed over
-pub kept_of-none : (log : List Logged) (k : ℕ) (l : Logged) → k < length log → l ≡ get_or log k l
-    → printed_in l.entry ≡ None → kept_of prints (drop (k + 1) log) ≡ kept_of prints (drop k log)
-kept_of-none log k l h at e = rw (at_drop_more (λ xs. xs) log k l h) (rw (sym at, e) refl)

@@ -7,7 +7,7 @@ use Rattle.std.specs.List.{AllByRecursion}
 use Rattle.plain_monitor.specs.Limits.{most_threads}
 use Rattle.plain_monitor.specs.declared.entry.Logged.{Logged}
 use Rattle.plain_monitor.specs.Order.{order, ordered, with_threads}
-use Rattle.plain_monitor.specs.History.{RisesAbove, log_of}
+use Rattle.plain_monitor.specs.History.{log_of}
 use Rattle.lock_journal.specs.Merging.{left_of, AreOfSixteen}
 use Rattle.lock_journal.specs.inner.Heads.{HasStamps, stamp_in, or_greatest}
 
@@ -46,12 +46,6 @@ left_in_order logs places h =
 -- the order of all logs is that of the first sixteen
 pub all_in_order : (logs : List (List Logged)) → AreOfSixteen logs → order (take most_threads logs) ≡ order logs
 all_in_order logs h = ap ordered (first_have_all most_threads 0 logs h)
-
--- the stamps rise in each of the first n logs
-pub first_rise : (n : ℕ) (logs : List (List Logged)) → AllByRecursion (RisesAbove 0) logs → AllByRecursion (RisesAbove 0) (take n logs)
-first_rise zero logs r = tt
-first_rise (suc n) [] r = tt
-first_rise (suc n) (log ∷ logs) r = (r.0, first_rise n logs r.1)
 
 -- the stamps at hand of the first sixteen logs are those of all
 pub held_by_first : (logs first : List (List Logged)) (places stamps : List ℕ)

@@ -8,7 +8,7 @@ use Rattle.object_program.specs.declared.program.Code.{Code}
 use Rattle.object_program.specs.Program.{ProgramText}
 use Rattle.plain_machine.specs.declared.monitor_call.MonitorCall.TheVariants as call
 use Rattle.plain_machine.specs.declared.monitor_call.NextEntry.{NextEntry}
-use Rattle.plain_machine.specs.declared.monitor_call.NextEntry.TheVariants.{Calls, Resumes, Leaves, Ends}
+use Rattle.plain_machine.specs.declared.monitor_call.NextEntry.TheVariants.{Calls, Ends}
 use Rattle.plain_monitor.specs.declared.entry.Ending.TheVariants as ending
 use Rattle.plain_machine.specs.Thread.{ThreadState}
 use Rattle.plain_machine.specs.Asking.{ask, fits, after_entry, thread_after}
@@ -22,19 +22,17 @@ after_path : (p : ProgramText) (code : List Code) (s : ThreadState) (o : ℕ) (x
     → after_asked p code s (Enter o x) a ≡ after_asked p code s (Enter o y) a
 after_path p code s o x y (Calls (call.Enter k)) = refl
 after_path p code s o x y (Calls c) = refl
-after_path p code s o x y (Resumes k) = refl
-after_path p code s o x y (Leaves k) = refl
 after_path p code s o x y (Ends (ending.Trap f i)) = refl
 after_path p code s o x y (Ends g) = refl
+after_path p code s o x y _ = refl
 
 after_drawn : (p : ProgramText) (code : List Code) (s : ThreadState) (o v : ℕ) (x y : Option ℕ) (a : NextEntry)
     → after_asked p code s (Hash o v x) a ≡ after_asked p code s (Hash o v y) a
 after_drawn p code s o v x y (Calls (call.Hash z k)) = refl
 after_drawn p code s o v x y (Calls c) = refl
-after_drawn p code s o v x y (Resumes k) = refl
-after_drawn p code s o v x y (Leaves k) = refl
 after_drawn p code s o v x y (Ends (ending.Trap f i)) = refl
 after_drawn p code s o v x y (Ends g) = refl
+after_drawn p code s o v x y _ = refl
 
 -- entries that each thread and the objects make the same of are the same to the machine
 same_after : (p : ProgramText) (code : List Code) (s : ThreadState) (d e : Entry) (r : Option NextEntry)

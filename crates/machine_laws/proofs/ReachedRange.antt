@@ -21,7 +21,7 @@ use Rattle.plain_history.proofs.MadeSteps.{grown, creating}
 use Rattle.object_program.specs.Program.{objects_total, numbering_of}
 use Rattle.plain_machine.specs.declared.monitor_call.MonitorCall.TheVariants as call
 use Rattle.plain_machine.specs.declared.monitor_call.NextEntry.{NextEntry}
-use Rattle.plain_machine.specs.declared.monitor_call.NextEntry.TheVariants.{Calls, Resumes, Leaves, Ends}
+use Rattle.plain_machine.specs.declared.monitor_call.NextEntry.TheVariants.{Calls, Resumes, Ends}
 use Rattle.plain_machine.specs.declared.offer.Offer.{Offer}
 use Rattle.plain_machine.specs.declared.offer.Offer.TheVariants as offer
 use Rattle.plain_machine.specs.Thread.{ThreadState, local}
@@ -151,29 +151,26 @@ print_of : (m : PlainMachine) (s : ThreadState) (a : NextEntry) (v : Value)
     → IsAskedOf m.program s a → fits a (Print v) ≡ true → IsValueOf (objects_total m.program) v
 print_of m s (Calls (call.Print w)) v asked fit = subst (IsValueOf (objects_total m.program)) (same_is w v fit) asked.call
 print_of m s (Calls c) v asked fit = absurd (false≢true fit)
-print_of m s (Resumes o) v asked fit = absurd (false≢true fit)
-print_of m s (Leaves o) v asked fit = absurd (false≢true fit)
 print_of m s (Ends (ending.Trap f i)) v asked fit = absurd (false≢true fit)
 print_of m s (Ends g) v asked fit = absurd (false≢true fit)
+print_of m s _ v asked fit = absurd (false≢true fit)
 
 put_of : (m : PlainMachine) (s : ThreadState) (a : NextEntry) (o k : ℕ) (v : Value)
     → IsAskedOf m.program s a → fits a (Put o k v) ≡ true → IsValueOf (objects_total m.program) v
 put_of m s (Calls (call.Put p j w)) o k v asked fit =
     subst (IsValueOf (objects_total m.program)) (same_is w v (and_parts ((p == o) && (j == k)) (same_value w v) fit).1) asked.call.2
 put_of m s (Calls c) o k v asked fit = absurd (false≢true fit)
-put_of m s (Resumes p) o k v asked fit = absurd (false≢true fit)
-put_of m s (Leaves p) o k v asked fit = absurd (false≢true fit)
 put_of m s (Ends (ending.Trap f i)) o k v asked fit = absurd (false≢true fit)
 put_of m s (Ends g) o k v asked fit = absurd (false≢true fit)
+put_of m s _ o k v asked fit = absurd (false≢true fit)
 
 -- a dump has the next number
 dump_of : (m : PlainMachine) (s : ThreadState) (a : NextEntry) (n : ℕ) → IsAskedOf m.program s a → fits a (Dump n) ≡ true → (n ≡ s.dumps + 1) × (n ≤ 4)
 dump_of m s (Calls (call.Dump k)) n asked fit = subst (λ (i : ℕ). (i ≡ s.dumps + 1) × (i ≤ 4)) (eqb-true k n fit) asked.call
 dump_of m s (Calls c) n asked fit = absurd (false≢true fit)
-dump_of m s (Resumes o) n asked fit = absurd (false≢true fit)
-dump_of m s (Leaves o) n asked fit = absurd (false≢true fit)
 dump_of m s (Ends (ending.Trap f i)) n asked fit = absurd (false≢true fit)
 dump_of m s (Ends g) n asked fit = absurd (false≢true fit)
+dump_of m s _ n asked fit = absurd (false≢true fit)
 
 -- a new object has one of the program's numbers
 new_of : (m : PlainMachine) (t : ℕ) (s : ThreadState) (a : NextEntry) (o c : ℕ) (made : List (List ℕ))
@@ -184,10 +181,9 @@ new_of m t s (Calls (call.New x k)) o c made h asked fit makes =
     let below = new_below m.program m.made t (o, c) asked.call.2 h.row_count (creating (numbering_of m.program) m.made t (o, c) may.0) in
     omega (arith, below, h.object_count)
 new_of m t s (Calls k) o c made h asked fit makes = absurd (false≢true fit)
-new_of m t s (Resumes p) o c made h asked fit makes = absurd (false≢true fit)
-new_of m t s (Leaves p) o c made h asked fit makes = absurd (false≢true fit)
 new_of m t s (Ends (ending.Trap f i)) o c made h asked fit makes = absurd (false≢true fit)
 new_of m t s (Ends g) o c made h asked fit makes = absurd (false≢true fit)
+new_of m t s _ o c made h asked fit makes = absurd (false≢true fit)
 
 -- an entry that was asked for and that the objects took
 entry_of : (m : PlainMachine) (t : ℕ) (s : ThreadState) (a : NextEntry) (e : Entry) (after : List PlainObject) (made : List (List ℕ))

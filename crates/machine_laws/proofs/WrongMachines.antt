@@ -126,9 +126,8 @@ module _ (m : PlainMachine) where
 
 pub text_not : (p : ProgramText) (fuel : ℕ) → p.threads ≡ [] → IsReached (new_machine p fuel) → ⊥
 text_not p fuel none h =
-    let some = h.program.threads_some in
     let zero : length p.threads ≡ 0 = ap length none in
-    absurd (omega (arith, some, zero))
+    absurd (omega (arith, h.program.threads_some, zero))
 
 -- LOGS
 pub late_not : (n : Numbering) (o stamp : ℕ) → is_there n (nothing_made n) o ≡ false

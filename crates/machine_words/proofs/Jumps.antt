@@ -1,5 +1,5 @@
 -- A walk goes past items that its step leaves as they are.
-use Rattle.std.proofs.Common.{◌≡◌, inl, inr, ℕ, zero, suc, ◌+◌, ◌<◌, ◌≤◌, List, [], ◌∷◌, ◌++◌, length, take}
+use Rattle.std.proofs.Common.{◌≡◌, inl, inr, ℕ, zero, suc, ◌+◌, ◌-◌, ◌<◌, ◌≤◌, List, [], ◌∷◌, ◌++◌, length, take}
 use Rattle.std.proofs.Common.{drop, get_or, slice_get, Some, refl, sym, ap, ◌∙◌, subst, arith, append-nil}
 use Rattle.std.proofs.lemmas.Bool.{cases_lt}
 use Rattle.std.proofs.lemmas.Option.{slice_get-get_or}
@@ -14,14 +14,13 @@ pub walks_skip : {A : Type 0} (step : ℕ → A → List ℕ → A × List ℕ) 
     → Walks step first words (k + 1) items rest
 walks_skip step first words k items rest d lt same h =
     subst (λ (xs : List _). Walks step first words (k + 1) xs rest) (set-get_or items k d)
-    (walks_more step first words k items rest (get_or items k d) d rest lt (ap (λ (r : _ × List ℕ). r.0) (sym same))
-    (ap (λ (r : _ × List ℕ). r.1) (sym same)) h)
+    (walks_more (get_or items k d) d rest h lt (ap (λ (r : _ × List ℕ). r.0) (sym same)) (ap (λ (r : _ × List ℕ). r.1) (sym same)))
 
 -- after the last item
 pub walks_past : {A : Type 0} (step : ℕ → A → List ℕ → A × List ℕ) (first : List A) (words : List ℕ) (k j : ℕ) (items : List A) (rest : List ℕ)
     → length items ≤ k → length items ≤ j → Walks step first words k items rest → Walks step first words j items rest
 walks_past step first words k j items rest le past h =
-    let all = walks_all step first words k items rest le h in
+    let all = walks_all h le in
     let beyond : length first ≤ j = omega (arith, past, h.count) in
     let none : walk step j (drop j first) rest ≡ ([], rest) = ap (λ xs. walk step j xs rest) (drop_all j first beyond) in
     record {
@@ -34,7 +33,7 @@ walks_past step first words k j items rest le past h =
     }
 
 -- past so many items
-pub walks_jump : {A : Type 0} (step : ℕ → A → List ℕ → A × List ℕ) (first : List A) (words : List ℕ) (n k : ℕ) (items : List A) (rest : List ℕ)
+walks_jump : {A : Type 0} (step : ℕ → A → List ℕ → A × List ℕ) (first : List A) (words : List ℕ) (n k : ℕ) (items : List A) (rest : List ℕ)
     → ((j : ℕ) (x : A) → k ≤ j → j < k + n → slice_get items j ≡ Some x → step j x rest ≡ (x, rest)) → Walks step first words k items rest
     → Walks step first words (k + n) items rest
 walks_jump step first words zero k items rest same h =
@@ -49,6 +48,14 @@ walks_jump step first words (suc n) k items rest same h = elim (cases_lt k (leng
       (walks_jump step first words n (k + 1) items rest (λ j z le lt at. same j z (omega (arith, le)) (omega (arith, lt)) at) next)
   | inr past ↦ walks_past step first words k (k + suc n) items rest past (omega (arith, past)) h
 ]
+
+pub walks_on : {A : Type 0} {step : ℕ → A → List ℕ → A × List ℕ} {first items : List A} {words rest : List ℕ} {k : ℕ} (j : ℕ)
+    → Walks step first words k items rest → k ≤ j → ((i : ℕ) (x : A) → k ≤ i → i < j → slice_get items i ≡ Some x → step i x rest ≡ (x, rest))
+    → Walks step first words j items rest
+walks_on {step = step} {first = first} {items = items} {words = words} {rest = rest} {k = k} j h le same =
+    let whole : k + (j - k) ≡ j = omega (arith, le) in
+    subst (λ (i : ℕ). Walks step first words i items rest) whole
+    (walks_jump step first words (j - k) k items rest (λ i x from lt at. same i x from (omega (arith, lt, whole)) at) h)
 
 dropped_none : {A : Type 0} (k : ℕ) → drop {A = A} k [] ≡ []
 dropped_none zero = refl
@@ -65,6 +72,6 @@ get_dropped (x ∷ xs) (y ∷ ys) (suc k) zero same le = absurd (omega (arith, l
 get_dropped (x ∷ xs) (y ∷ ys) (suc k) (suc j) same le = get_dropped xs ys k j same (omega (arith, le))
 
 -- what is still to be walked over stands as at first
-pub left_at : {A : Type 0} (step : ℕ → A → List ℕ → A × List ℕ) (first : List A) (words : List ℕ) (k : ℕ) (items : List A) (rest : List ℕ)
+pub left_at : {A : Type 0} {step : ℕ → A → List ℕ → A × List ℕ} {first items : List A} {words rest : List ℕ} {k : ℕ}
     → Walks step first words k items rest → (j : ℕ) → k ≤ j → slice_get items j ≡ slice_get first j
-left_at step first words k items rest h j le = get_dropped items first k j h.left le
+left_at {first = first} {items = items} {k = k} h j le = get_dropped items first k j h.left le

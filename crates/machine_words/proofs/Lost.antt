@@ -2,8 +2,7 @@
 use Rattle.std.proofs.Common.{◌≡◌, ℕ, suc, ◌<◌, ◌^◌, List, [], ◌∷◌, subst}
 use Rattle.machine_words.specs.declared.unread.Unread.{Unread}
 use Rattle.machine_words.specs.declared.unread.Unread.TheVariants.{NoMemory, NoMachine}
-use Rattle.machine_words.specs.inner.Telling.{IsLost, GoesOn, HasWord, HasNumber, TellsNumbers, TellsPairs, TellsValue, TellsValues, TellsThread, TellsThreads}
-use Rattle.machine_words.specs.inner.Telling.{TellsRow, TellsRows}
+use Rattle.machine_words.specs.inner.Telling.{IsLost, GoesOn, HasWord, HasNumber, TellsThread, TellsThreads, TellsRow, TellsRows}
 use Rattle.machine_words.specs.MadeWords.{read_row}
 use Rattle.machine_words.specs.ThreadWords.{read_thread}
 
@@ -23,17 +22,7 @@ weaker P Q (w ∷ ws) f h = f w ws h
 pub has_word : (P : ℕ → List ℕ → Type 0) (xs : List ℕ) → GoesOn P xs → HasWord xs
 has_word P xs h = weaker P (λ w ws. Unit {0}) xs (λ w ws a. tt) h
 
--- one value more
-pub value_next : (n less : ℕ) (xs : List ℕ) → n ≡ suc less → TellsValues n xs → GoesOn (λ w rest. TellsValue w × TellsValues less rest) xs
-value_next n less xs e h = subst (λ (k : ℕ). TellsValues k xs) e h
-
-pub number_next : (n less : ℕ) (xs : List ℕ) → n ≡ suc less → TellsNumbers n xs → GoesOn (λ w rest. (w < 2 ^ 32) × TellsNumbers less rest) xs
-number_next n less xs e h = subst (λ (k : ℕ). TellsNumbers k xs) e h
-
-pub pair_next : (n less : ℕ) (xs : List ℕ) → n ≡ suc less → TellsPairs n xs
-    → GoesOn (λ a rest. (a < 2 ^ 32) × GoesOn (λ b after. (b < 2 ^ 32) × TellsPairs less after) rest) xs
-pair_next n less xs e h = subst (λ (k : ℕ). TellsPairs k xs) e h
-
+-- one row more
 pub row_next : (n less : ℕ) (xs : List ℕ) → n ≡ suc less → TellsRows n xs → TellsRow xs × TellsRows less (read_row xs).1
 row_next n less xs e h = subst (λ (k : ℕ). TellsRows k xs) e h
 

@@ -1,8 +1,7 @@
 -- A mode is read from its kind and what goes with it.
 use Rattle.std.proofs.Common.{◌≡◌, ◌+◌, ◌<◌, ◌≤◌, refl, arith}
 use Rattle.plain_monitor.specs.declared.entry.Fault.{Fault}
-use Rattle.plain_monitor.specs.declared.entry.Fault.TheVariants.{IllegalMonitorState, Unguarded, NotRef, NotInt}
-use Rattle.plain_monitor.specs.declared.entry.Fault.TheVariants.{Range, Overflow, TooDeep, TooManyDumps, TooMany}
+use Rattle.plain_monitor.specs.declared.entry.Fault.TheVariants.{IllegalMonitorState}
 use Rattle.plain_monitor.specs.declared.entry.Ending.{Ending}
 use Rattle.plain_monitor.specs.declared.entry.Ending.TheVariants.{Trap, Spent, Done}
 use Rattle.plain_machine.specs.declared.monitor_call.Mode.{Mode}
@@ -34,27 +33,13 @@ unwinding_back : (calling : Mode) (e : Ending) → mode_with calling (ending_kin
 unwinding_back calling Done = refl
 unwinding_back calling Spent = refl
 unwinding_back calling (Trap IllegalMonitorState i) = refl
-unwinding_back calling (Trap Unguarded i) = refl
-unwinding_back calling (Trap NotRef i) = refl
-unwinding_back calling (Trap NotInt i) = refl
-unwinding_back calling (Trap Range i) = refl
-unwinding_back calling (Trap Overflow i) = refl
-unwinding_back calling (Trap TooDeep i) = refl
-unwinding_back calling (Trap TooManyDumps i) = refl
-unwinding_back calling (Trap TooMany i) = refl
+unwinding_back calling (Trap _ i) = refl
 
 ended_back : (calling : Mode) (e : Ending) → mode_with calling (ending_kind e + 13) (ending_rest e) ≡ Ended e
 ended_back calling Done = refl
 ended_back calling Spent = refl
 ended_back calling (Trap IllegalMonitorState i) = refl
-ended_back calling (Trap Unguarded i) = refl
-ended_back calling (Trap NotRef i) = refl
-ended_back calling (Trap NotInt i) = refl
-ended_back calling (Trap Range i) = refl
-ended_back calling (Trap Overflow i) = refl
-ended_back calling (Trap TooDeep i) = refl
-ended_back calling (Trap TooManyDumps i) = refl
-ended_back calling (Trap TooMany i) = refl
+ended_back calling (Trap _ i) = refl
 
 pub mode_back : (calling mode : Mode) → IsCallingIn calling mode → mode_with calling (mode_kind mode) (mode_rest mode) ≡ mode
 mode_back calling (Calling c) h = h

@@ -1,6 +1,6 @@
 -- Objects that are as at first are passed over.
 use Rattle.std.proofs.Common.{◌≡◌, ℕ, ◌+◌, ◌-◌, ◌<◌, ◌≤◌, ◌==◌, if◌then◌else◌, Bool, true, false, List, [], ◌∷◌, length}
-use Rattle.std.proofs.Common.{map, drop, slice_get, option_map, is_some, Some, refl, sym, ap, ◌∙◌, subst, arith, eq-eqb}
+use Rattle.std.proofs.Common.{map, drop, slice_get, option_map, is_some, Some, refl, sym, ap, ◌∙◌, arith, eq-eqb}
 use Rattle.std.proofs.lemmas.Bool.Decides.{nat_tests}
 use Rattle.std.proofs.lemmas.Option.{same_Some, slice_get-map}
 use Rattle.plain_monitor.specs.Made.{Numbering, first_made, class_if_there, is_there}
@@ -9,7 +9,7 @@ use Rattle.machine_words.specs.ObjectWords.{is_new, objects_words, begins, after
 use Rattle.machine_words.specs.inner.Reading.{Walks, renewed, renew_step, object_step, after_row}
 use Rattle.machine_words.proofs.ReadObjects.{new_is}
 use Rattle.machine_words.proofs.There.{there_has_class, row_ends, not_declared, row_after}
-use Rattle.machine_words.proofs.Jumps.{walks_jump, left_at}
+use Rattle.machine_words.proofs.Jumps.{walks_on, left_at}
 use Rattle.machine_words.proofs.Writing.{objects_skip}
 
 -- each object that isn't there is as at first
@@ -25,13 +25,9 @@ pub renew_jump : (n : Numbering) (made : List (List ℕ)) (first : List PlainObj
 renew_jump n made first o objects new none h =
     let unthere = is_not_there n made o none in
     let ahead = row_after (first_made n) o (not_declared n made o unthere) in
-    let way : ℕ = after_row (first_made n) o - o in
-    let whole : o + way ≡ after_row (first_made n) o = omega (arith, ahead) in
-    subst (λ (j : ℕ). Walks renew_step first [] j objects []) whole
-    (walks_jump renew_step first [] way o objects [] (λ j x le lt at.
-    let before : slice_get first j ≡ Some x = sym (left_at renew_step first [] o objects [] h j le) ∙ at in
-    let as_at_first = new j x before (row_ends n made o j unthere le (omega (arith, lt, whole))) in
-    ap (λ (y : PlainObject). (y, [])) (sym (new_is (length x.slots) x refl as_at_first))) h)
+    walks_on (after_row (first_made n) o) h (omega (arith, ahead)) (λ j x le lt at.
+    let as_at_first = new j x (sym (left_at h j le) ∙ at) (row_ends n made o j unthere le lt) in
+    ap (λ (y : PlainObject). (y, [])) (sym (new_is (length x.slots) x refl as_at_first)))
 
 -- no words are written of them
 pub words_jump : (n : Numbering) (made : List (List ℕ)) (objects : List PlainObject) (o : ℕ) → AreNew n made objects → is_some (class_if_there n made o) ≡ false
@@ -50,17 +46,12 @@ renewed_at xs j x new at =
     (sym (ap (option_map renewed) at) ∙ sym (slice_get-map renewed xs j) ∙ ap (λ (ys : List PlainObject). slice_get ys j) (sym new) ∙ at)
 
 -- nor read, where the words go on with a later one, or end
-pub read_jump : (first objects : List PlainObject) (words rest : List ℕ) (k o : ℕ) → first ≡ map renewed first → k ≤ o
+pub read_jump : {first objects : List PlainObject} {words rest : List ℕ} {k : ℕ} (o : ℕ) → first ≡ map renewed first → k ≤ o
     → ((j : ℕ) → j < o → begins j rest ≡ false) → Walks object_step first words k objects rest → Walks object_step first words o objects rest
-read_jump first objects words rest k o new le later h =
-    let way : ℕ = o - k in
-    let whole : k + way ≡ o = omega (arith, le) in
-    subst (λ (j : ℕ). Walks object_step first words j objects rest) whole
-    (walks_jump object_step first words way k objects rest (λ j x from lt at.
-    let before : slice_get first j ≡ Some x = sym (left_at object_step first words k objects rest h j from) ∙ at in
-    let other : begins j rest ≡ false = later j (omega (arith, lt, whole)) in
-    ap (λ (b : Bool). if b then read_object (length x.slots) (after_one rest) else (renewed x, rest)) other
-    ∙ ap (λ (y : PlainObject). (y, rest)) (renewed_at first j x new before)) h)
+read_jump {first = first} {rest = rest} o new le later h =
+    walks_on o h le (λ j x from lt at.
+    ap (λ (b : Bool). if b then read_object (length x.slots) (after_one rest) else (renewed x, rest)) (later j lt)
+    ∙ ap (λ (y : PlainObject). (y, rest)) (renewed_at first j x new (sym (left_at h j from) ∙ at)))
 
 pub begins_here : (w : ℕ) (rest after : List ℕ) → rest ≡ w ∷ after → begins w rest ≡ true
 begins_here w rest after is = ap (begins w) is ∙ eq-eqb w w refl

@@ -63,8 +63,7 @@ was_not n made t c o lt none =
     let u = maker_of n o in
     let both = none_below (nat_lt o (first_made n)) (nat_lt (place_of n o) (length (made_by (grown made t c) u))) none in
     let more = row_grows made t c u lt in
-    let last = both.1 in
-    let place : nat_lt (place_of n o) (length (made_by made u)) ≡ false = grind (arith, nat_tests, last, more) in
+    let place : nat_lt (place_of n o) (length (made_by made u)) ≡ false = grind (arith, nat_tests, both.1, more) in
     ap (λ (b : Bool). b || nat_lt (place_of n o) (length (made_by made u))) both.0 ∙ place
 
 thread_there : (n : Numbering) (made : List (List ℕ)) (t : ℕ) (p : ℕ × ℕ) → may_create n made t p ≡ true → t < length made
@@ -72,8 +71,7 @@ thread_there n made t p h =
     let three = and_parts _ _ h in
     let two = and_parts _ _ three.0 in
     let one = and_parts (nat_lt t (length made)) _ two.0 in
-    let test = one.0 in
-    grind (arith, nat_tests, test)
+    grind (arith, nat_tests, one.0)
 
 module _ (n : Numbering) (objects after : List PlainObject) (made made_then : List (List ℕ)) (t : ℕ) (e : Entry)
     (untouched : (o : ℕ) (x : PlainObject) → slice_get objects o ≡ Some x → is_there n made o ≡ false → is_new x ≡ true) where

@@ -1,5 +1,5 @@
 -- How far a walk over items has come.
-use Rattle.std.proofs.Common.{◌≡◌, ℕ, suc, ◌+◌, ◌<◌, ◌≤◌, List, [], ◌∷◌, ◌++◌, length, take, drop}
+use Rattle.std.proofs.Common.{◌≡◌, ℕ, ◌+◌, ◌<◌, ◌≤◌, List, [], ◌∷◌, ◌++◌, length, take, drop}
 use Rattle.std.proofs.Common.{get_or, set, refl, sym, ap, ◌∙◌, arith, append_assoc, append-nil}
 use Rattle.std.proofs.lemmas.List.{drop_more, drop_all, take_all, take_more_set, length-set, drop-set-lt, drop-drop, get_or-drop}
 use Rattle.machine_words.specs.inner.Reading.{walk, Walks}
@@ -14,10 +14,10 @@ still items first k d same =
     sym (ap (λ n. get_or items n d) here) ∙ sym (get_or-drop k items 0 d) ∙ ap (λ xs. get_or xs 0 d) same ∙ get_or-drop k first 0 d
     ∙ ap (λ n. get_or first n d) here
 
-pub walks_more : {A : Type 0} (step : ℕ → A → List ℕ → A × List ℕ) (first : List A) (words : List ℕ) (k : ℕ) (items : List A) (rest : List ℕ)
-    (y d : A) (after : List ℕ) → k < length items → y ≡ (step k (get_or items k d) rest).0 → after ≡ (step k (get_or items k d) rest).1
-    → Walks step first words k items rest → Walks step first words (k + 1) (set items k y) after
-walks_more step first words k items rest y d after lt is beyond h =
+pub walks_more : {A : Type 0} {step : ℕ → A → List ℕ → A × List ℕ} {first items : List A} {words rest : List ℕ} {k : ℕ} (y d : A) (after : List ℕ)
+    → Walks step first words k items rest → k < length items → y ≡ (step k (get_or items k d) rest).0 → after ≡ (step k (get_or items k d) rest).1
+    → Walks step first words (k + 1) (set items k y) after
+walks_more {step = step} {first = first} {items = items} {rest = rest} {k = k} y d after h lt is beyond =
     let x = get_or items k d in
     let within : k < length first = omega (arith, lt, h.count) in
     let next = drop (k + 1) first in
@@ -40,16 +40,11 @@ walks_more step first words k items rest y d after lt is beyond h =
     dropped : {A : Type 0} (xs ys : List A) (k : ℕ) → drop k xs ≡ drop k ys → drop (k + 1) xs ≡ drop (k + 1) ys
     dropped xs ys k same = sym (drop-drop 1 k xs) ∙ ap (λ zs. drop 1 zs) same ∙ drop-drop 1 k ys
 
-pub walks_all : {A : Type 0} (step : ℕ → A → List ℕ → A × List ℕ) (first : List A) (words : List ℕ) (k : ℕ) (items : List A) (rest : List ℕ)
-    → length items ≤ k → Walks step first words k items rest → ((walk step 0 first words).0 ≡ items) × ((walk step 0 first words).1 ≡ rest)
-walks_all step first words k items rest le h =
+pub walks_all : {A : Type 0} {step : ℕ → A → List ℕ → A × List ℕ} {first items : List A} {words rest : List ℕ} {k : ℕ}
+    → Walks step first words k items rest → length items ≤ k → ((walk step 0 first words).0 ≡ items) × ((walk step 0 first words).1 ≡ rest)
+walks_all {step = step} {first = first} {items = items} {rest = rest} {k = k} h le =
     let past : length first ≤ k = omega (arith, le, h.count) in
     let none : walk step k (drop k first) rest ≡ ([], rest) = ap (λ xs. walk step k xs rest) (drop_all k first past) in (
       h.done ∙ ap (λ (r : List _ × List ℕ). take k items ++ r.0) none ∙ append-nil (take k items) ∙ take_all k items le,
       h.beyond ∙ ap (λ (r : List _ × List ℕ). r.1) none,
     )
-
--- a walk leaves as many items as there were
-pub walk_count : {A : Type 0} (step : ℕ → A → List ℕ → A × List ℕ) (k : ℕ) (xs : List A) (ws : List ℕ) → length (walk step k xs ws).0 ≡ length xs
-walk_count step k [] ws = refl
-walk_count step k (x ∷ xs) ws = ap (λ n. suc n) (walk_count step (k + 1) xs (step k x ws).1)

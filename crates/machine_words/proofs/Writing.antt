@@ -23,17 +23,6 @@ four_in_front o o1 o2 o3 o4 o5 a b c d r e1 e2 e3 e4 e5 =
     one_in_front o o1 o5 a (b ∷ c ∷ d ∷ r) e1
     (one_in_front o1 o2 o5 b (c ∷ d ∷ r) e2 (one_in_front o2 o3 o5 c (d ∷ r) e3 (one_in_front o3 o4 o5 d r e4 e5)))
 
--- the words of one object more
-pub objects_more : (objects : List PlainObject) (i : ℕ) (x : PlainObject) (before after total : List ℕ) → i < length objects → x ≡ get_or objects i x
-    → before ++ objects_words i (drop i objects) ≡ total → after ≡ before ++ (if is_new x then [] else i ∷ object_words x)
-    → after ++ objects_words (i + 1) (drop (i + 1) objects) ≡ total
-objects_more objects i x before after total lt at inv a =
-    let rest : List PlainObject = drop (i + 1) objects in
-    let ws : List ℕ = if is_new x then [] else i ∷ object_words x in
-    let here : drop i objects ≡ x ∷ rest = drop_more objects i x lt ∙ ap (λ y. y ∷ rest) (sym at) in
-    ap (λ z. z ++ objects_words (i + 1) rest) a ∙ append_assoc before ws (objects_words (i + 1) rest)
-    ∙ ap (λ (zs : List PlainObject). before ++ objects_words i zs) (sym here) ∙ inv
-
 none_dropped : {A : Type 0} (xs : List A) (k : ℕ) → length xs ≤ k → (F : ℕ → List A → List ℕ) → ((j : ℕ) → F j [] ≡ []) → F k (drop k xs) ≡ []
 none_dropped xs k le F none = ap (F k) (drop_all k xs le) ∙ none k
 

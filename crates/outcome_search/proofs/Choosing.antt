@@ -1,32 +1,17 @@
 -- What comes of a choice, and of all choices.
-use Rattle.std.proofs.Common.{◌≡◌, ℕ, zero, suc, ◌+◌, ◌<◌, ◌≤◌, Bool, true, false, if◌then◌else◌, List, [], ◌∷◌, length, drop, slice_get, slice_index_or}
-use Rattle.std.proofs.Common.{Option, Some, None, is_some, option_map, refl, sym, ap, ◌∙◌, subst, arith}
+use Rattle.std.proofs.Common.{◌≡◌, ℕ, zero, suc, ◌+◌, ◌<◌, Bool, true, false, if◌then◌else◌, List, [], ◌∷◌, length, drop, slice_index_or}
+use Rattle.std.proofs.Common.{Option, Some, None, is_some, option_map, refl, sym, ap, ◌∙◌, subst}
 use Rattle.std.specs.Prelude.{option_and_then, Result, Ok, Err, IfOk, OnOk}
 use Rattle.std.proofs.lemmas.Bool.{false≢true, true≢false}
 use Rattle.std.proofs.lemmas.List.{drop_more}
 use Rattle.plain_monitor.specs.Limits.{most_fuel}
 use Rattle.plain_monitor.specs.declared.entry.Logged.{Logged}
 use Rattle.object_program.specs.Program.{ProgramText}
-use Rattle.plain_machine.specs.Thread.{ThreadState}
-use Rattle.plain_machine.specs.Asking.{ask}
-use Rattle.plain_machine.specs.Machine.{PlainMachine, new_machine, take}
+use Rattle.plain_machine.specs.Machine.{PlainMachine, new_machine}
 use Rattle.plain_machine.specs.Legal.{after_all}
-use Rattle.plain_machine.specs.Offering.{asked_offer}
-use Rattle.outcome_search.specs.Settled.{entry_in, after_next, go_on, settled_by, gone, walked}
+use Rattle.outcome_search.specs.Settled.{after_next, go_on, settled_by, gone, walked}
 use Rattle.outcome_search.specs.Witness.{CountOn}
 use Rattle.outcome_search.specs.inner.Trails.{IsTrail}
-
--- a thread that isn't there has no entry
-past_threads : (ss : List ThreadState) (t : ℕ) → length ss ≤ t → slice_get ss t ≡ None
-past_threads [] t past = refl
-past_threads (s ∷ ss) zero past = absurd (omega (arith, past))
-past_threads (s ∷ ss) (suc t) past = past_threads ss t (omega (arith, past))
-
-pub none_past : (after : PlainMachine → PlainMachine) (steps : ℕ) (m : PlainMachine) (t : ℕ) → length m.threads ≤ t → None ≡ gone after steps m t
-none_past after steps m t past =
-    let none : after_next m t ≡ None =
-    ap (λ (s : Option ThreadState). option_and_then (λ e. take m t e) (entry_in (asked_offer m t (option_and_then ask s)))) (past_threads m.threads t past) in
-    sym (ap (option_map (λ n. settled_by after steps (after n))) none)
 
 -- where a machine has gone, if it has
 pub gone_where : (after : PlainMachine → PlainMachine) (steps : ℕ) (m k : PlainMachine) (t : ℕ) (made : Bool) → made ≡ is_some (after_next m t)

@@ -42,10 +42,7 @@ use Rattle.outcome_search.proofs.Good.{IsGood, IsGoodKey, key_read, good_first, 
 offered_entry : (made : Offer) (e : Entry) → is_hash e ≡ false → StandsFor made e → entry_in made ≡ Some (bare e)
 offered_entry (offer.Next g) e other h = ap Some h
 offered_entry (offer.NextHash o) (Hash k v d) other h = absurd (true≢false other)
-offered_entry (offer.NextHash o) e other h = absurd h
-offered_entry (offer.Blocked o u) e other h = absurd h
-offered_entry (offer.Waiting o) e other h = absurd h
-offered_entry offer.Ended e other h = absurd h
+offered_entry _ e other h = absurd h
 
 after_taken : (p : ProgramText) (fuel : ℕ) (m n : PlainMachine) (t : ℕ) (e : Entry) → IsGood p fuel m → take m t e ≡ Some n → after_next m t ≡ Some n
 after_taken p fuel m n t e h takes =

@@ -22,32 +22,20 @@ pub more : (end : End) (e : Option End) (es : List (Option End)) → ends_so end
 more end e es = sum_by-cons (λ (e : Option End). cond (is_end end e) 1 0) e es
 
 ended_one : (o : Outcomes) (k : ℕ) (e : Option End) → (with_end o k e).ended ≡ o.ended + cond (is_end Ended e) 1 0
-ended_one o k None = omega arith
-ended_one o k (Some Spent) = omega arith
-ended_one o k (Some Stuck) = omega arith
-ended_one o k (Some Faulted) = omega arith
 ended_one o k (Some Ended) = refl
+ended_one o k _ = omega arith
 
 faulted_one : (o : Outcomes) (k : ℕ) (e : Option End) → (with_end o k e).faulted ≡ o.faulted + cond (is_end Faulted e) 1 0
-faulted_one o k None = omega arith
-faulted_one o k (Some Spent) = omega arith
-faulted_one o k (Some Stuck) = omega arith
 faulted_one o k (Some Faulted) = refl
-faulted_one o k (Some Ended) = omega arith
+faulted_one o k _ = omega arith
 
 stuck_one : (o : Outcomes) (k : ℕ) (e : Option End) → (with_end o k e).stuck ≡ o.stuck + cond (is_end Stuck e) 1 0
-stuck_one o k None = omega arith
-stuck_one o k (Some Spent) = omega arith
 stuck_one o k (Some Stuck) = refl
-stuck_one o k (Some Faulted) = omega arith
-stuck_one o k (Some Ended) = omega arith
+stuck_one o k _ = omega arith
 
 spent_one : (o : Outcomes) (k : ℕ) (e : Option End) → (with_end o k e).spent ≡ o.spent + cond (is_end Spent e) 1 0
-spent_one o k None = omega arith
 spent_one o k (Some Spent) = refl
-spent_one o k (Some Stuck) = omega arith
-spent_one o k (Some Faulted) = omega arith
-spent_one o k (Some Ended) = omega arith
+spent_one o k _ = omega arith
 
 -- where each end adds one to a count of its own
 sums : (end : End) (count : Outcomes → ℕ) → ((o : Outcomes) (k : ℕ) (e : Option End) → count (with_end o k e) ≡ count o + cond (is_end end e) 1 0)
@@ -68,16 +56,12 @@ stays part each o k (e ∷ es) = stays part each (with_end o k e) (k + 1) es ∙
 states_one : (o : Outcomes) (k : ℕ) (e : Option End) → (with_end o k e).states ≡ o.states
 states_one o k None = refl
 states_one o k (Some Spent) = refl
-states_one o k (Some Stuck) = refl
-states_one o k (Some Faulted) = refl
-states_one o k (Some Ended) = refl
+states_one o k (Some _) = refl
 
 open_one : (o : Outcomes) (k : ℕ) (e : Option End) → (with_end o k e).«open» ≡ o.«open»
 open_one o k None = refl
 open_one o k (Some Spent) = refl
-open_one o k (Some Stuck) = refl
-open_one o k (Some Faulted) = refl
-open_one o k (Some Ended) = refl
+open_one o k (Some _) = refl
 
 -- THE FIRST OF EACH KIND
 abbrev or_first : Option ℕ → Option ℕ → Option ℕ
@@ -115,18 +99,12 @@ firsts end first each o k (e ∷ es) =
     ∙ or_first_twice (first o) (first_one end k e) (first_so end (k + 1) es) ∙ ap (or_first (first o)) (sym (first_more end k e es))
 
 first_stuck_one : (o : Outcomes) (k : ℕ) (e : Option End) → (with_end o k e).first_stuck ≡ or_first o.first_stuck (first_one Stuck k e)
-first_stuck_one o k None = or_none o.first_stuck
-first_stuck_one o k (Some Spent) = or_none o.first_stuck
 first_stuck_one o k (Some Stuck) = or_some o.first_stuck k
-first_stuck_one o k (Some Faulted) = or_none o.first_stuck
-first_stuck_one o k (Some Ended) = or_none o.first_stuck
+first_stuck_one o k _ = or_none o.first_stuck
 
 first_faulted_one : (o : Outcomes) (k : ℕ) (e : Option End) → (with_end o k e).first_faulted ≡ or_first o.first_faulted (first_one Faulted k e)
-first_faulted_one o k None = or_none o.first_faulted
-first_faulted_one o k (Some Spent) = or_none o.first_faulted
-first_faulted_one o k (Some Stuck) = or_none o.first_faulted
 first_faulted_one o k (Some Faulted) = or_some o.first_faulted k
-first_faulted_one o k (Some Ended) = or_none o.first_faulted
+first_faulted_one o k _ = or_none o.first_faulted
 
 -- ALL OF THEM
 pub is_counted : (p : ProgramText) (fuel steps most : ℕ) (f : Keys) (o : Outcomes)

@@ -208,18 +208,12 @@ first_at end j k (e ∷ es) h = go (is_end end e) refl (first_at end (j + 1) k e
         record { place = suc r.place; end_there = r.end_there; number = omega (arith, r.number); at = r.at; so = r.so }
 
 stuck_is : (e : Option End) → is_end Stuck e ≡ true → e ≡ Some Stuck
-stuck_is None h = absurd (false≢true h)
-stuck_is (Some Spent) h = absurd (false≢true h)
 stuck_is (Some Stuck) h = refl
-stuck_is (Some Faulted) h = absurd (false≢true h)
-stuck_is (Some Ended) h = absurd (false≢true h)
+stuck_is _ h = absurd (false≢true h)
 
 faulted_is : (e : Option End) → is_end Faulted e ≡ true → e ≡ Some Faulted
-faulted_is None h = absurd (false≢true h)
-faulted_is (Some Spent) h = absurd (false≢true h)
-faulted_is (Some Stuck) h = absurd (false≢true h)
 faulted_is (Some Faulted) h = refl
-faulted_is (Some Ended) h = absurd (false≢true h)
+faulted_is _ h = absurd (false≢true h)
 
 first_key_so : (p : ProgramText) (fuel k : ℕ) (keys : List (List ℕ)) (end : End) → ((e : Option End) → is_end end e ≡ true → e ≡ Some end)
     → first_so end 0 (ends_of p fuel keys) ≡ Some k → (key : List ℕ) × (slice_get keys k ≡ Some key) × (end_of (machine_of p fuel key) ≡ Some end)

@@ -93,10 +93,7 @@ alone_no_hash m t e own = refl
 same_offer : (made : Offer) (e f : Entry) → is_hash e ≡ false → StandsFor made e → StandsFor made f → bare e ≡ bare f
 same_offer (offer.Next g) e f other h k = sym h ∙ k
 same_offer (offer.NextHash o) (Hash i v d) f other h k = absurd (true≢false other)
-same_offer (offer.NextHash o) e f other h k = absurd h
-same_offer (offer.Blocked o u) e f other h k = absurd h
-same_offer (offer.Waiting o) e f other h k = absurd h
-same_offer offer.Ended e f other h k = absurd h
+same_offer _ e f other h k = absurd h
 
 only_one : (m a b : PlainMachine) (t : ℕ) (e f : Entry) → IsReached m → goes_alone m t e ≡ true → take m t e ≡ Some a → take m t f ≡ Some b → a ≡ b
 only_one m a b t e f r own takes takes2 =

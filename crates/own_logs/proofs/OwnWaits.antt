@@ -1,9 +1,9 @@
 -- A thread that rests waits on an object by its waiting word, as it last stored it, exactly where it does by its own log.
 use Rattle.std.proofs.Common.{◌≡◌, ◌⊎◌, ℕ, ◌^◌, ◌<◌, ◌==◌, ◌||◌, eq-eqb, eqb-true, Bool, true, false}
-use Rattle.std.proofs.Common.{List, Option, Some, None, refl, sym, ap, ◌∙◌, subst, inl, inr}
+use Rattle.std.proofs.Common.{List, Option, Some, refl, sym, ap, ◌∙◌, subst, inl, inr}
 use Rattle.std.proofs.Math.Bool.{or-true}
 use Rattle.mark_word.specs.declared.wait.WaitForm.{WaitForm}
-use Rattle.mark_word.specs.declared.wait.WaitForm.TheVariants.{Ready, Entering, Waiting, Notified, Ended}
+use Rattle.mark_word.specs.declared.wait.WaitForm.TheVariants.{Waiting, Notified}
 use Rattle.mark_word.specs.Wait.{wait_of, read_wait}
 use Rattle.mark_word.proofs.ReadingWaits.{read_wait-wait_of, read_wait-spells}
 use Rattle.plain_monitor.specs.Monitor.{is_listed}
@@ -30,12 +30,8 @@ same_tests false false f g = refl
 
 -- WORDS. A word that says Waiting says it with one object, whose number is in its range
 form_waits : (f : Option WaitForm) (o : ℕ) → waits_form f o ≡ true → (stamp : ℕ) × (f ≡ Some (Waiting o stamp))
-form_waits None o h = absurd (cc h)
-form_waits (Some Ready) o h = absurd (cc h)
-form_waits (Some (Entering i)) o h = absurd (cc h)
 form_waits (Some (Waiting i stamp)) o h = (stamp, ap (λ j. Some (Waiting j stamp)) (eqb-true i o h))
-form_waits (Some (Notified i)) o h = absurd (cc h)
-form_waits (Some Ended) o h = absurd (cc h)
+form_waits _ o h = absurd (cc h)
 
 in_range : (n o : ℕ) → waits_on n o ≡ true → o < 2 ^ 15
 in_range n o h = let f = form_waits (read_wait n) o h in (read_wait-spells n (Waiting o f.0) f.1).0.0

@@ -179,8 +179,7 @@ module _ {tick : ℕ} (heap : Heap) (c : ClosedSeen) (left : LeftBiases heap tic
         let single = single_is ∙ sum_none heap.shape.threads (λ t. (counts t k).single) (λ t. let z = nothing t k in omega (arith, z)) in
         let rebias = rebias_is ∙ sum_none heap.shape.threads (λ t. (counts t k).rebias) (λ t. let z = nothing t k in omega (arith, z)) in
         let revoke = revoke_is ∙ sum_none heap.shape.threads (λ t. (counts t k).revoke) (λ t. let z = nothing t k in omega (arith, z)) in
-        let few = fits.few in
-        (single, rebias, revoke, omega (arith, few, single, rebias, revoke))
+        (single, rebias, revoke, omega (arith, fits.few, single, rebias, revoke))
 
   -- what holds of the line of each class holds of all of them
   pub all_lines : (P : ClassLine → Type 0) → ((k : ℕ) → k < heap.shape.classes → P (line_of c k))
@@ -220,10 +219,9 @@ module _ {tick : ℕ} (heap : Heap) (c : ClosedSeen) (left : LeftBiases heap tic
   verdicts_within t = elim (cases_lt t heap.shape.threads) [
     | inl here ↦
         let counted = counted_by left.knowns t in
-        let all = left.end.all in
         let shown : slice_index_or c.counts t [] ≡ counts_shown 0 heap.shape.classes counted =
         ap (λ (x : List (List ClassCounts)). slice_index_or x t []) left.counts
-        ∙ shown_by heap.shape.classes left.knowns t (omega (arith, here, all)) in
+        ∙ shown_by heap.shape.classes left.knowns t (omega (arith, here, left.end.all)) in
         let same = ap verdicts_by shown in
         let few = shown_few heap.shape.classes counted in
         let most = left.biases.verdicts t here in

@@ -200,8 +200,7 @@ module _ (biased : Bool) (firsts : ℕ → Option (ℕ × ℕ)) where
           by_test true is true e = refl
           by_test true is false e =
               let p = place_of (firsts o) t l.stamp ((and_parts biased (is_at (firsts o) t l.stamp) is).1) in
-              let at = p.stamp_is in
-              let none : held o ≡ 0 = unheld o p.place p.is (omega (arith, rises, at)) in
+              let none : held o ≡ 0 = unheld o p.place p.is (omega (arith, rises, p.stamp_is)) in
               absurd (false≢true (sym e ∙ ap (λ n. n == 0) none))
           by_test false is true e = refl
           by_test false is false e = refl

@@ -1,34 +1,10 @@
--- The lines of classes, one after another, and the sums of one.
-use Rattle.std.proofs.Common.{◌≡◌, ℕ, zero, suc, ◌+◌, ◌<◌, List, [], ◌∷◌, ◌++◌, length, get_or, take, Some, refl, sym, ap, ◌∙◌, add-one, arith, inl, inr}
+-- The lines of classes, one after another.
+use Rattle.std.proofs.Common.{◌≡◌, ℕ, zero, suc, ◌+◌, ◌<◌, List, [], ◌∷◌, ◌++◌, length, Some, refl, sym, ap, ◌∙◌, add-one, arith, inl, inr}
 use Rattle.std.specs.Prelude.{◌⊎◌, slice_get}
-use Rattle.std.proofs.lemmas.List.Sums.{sum_by_more}
 use Rattle.std.proofs.lemmas.Option.{none-some, same_Some}
-use Rattle.heap_table.specs.declared.counts.ClassCounts.{ClassCounts}
 use Rattle.heap_table.specs.Seen.{ClosedSeen}
-use Rattle.heap_table.specs.Tallies.{capped}
 use Rattle.lock_journal.specs.declared.record.ClassLine.{ClassLine}
-use Rattle.program_run.specs.Lines.{counts_on, line_of, lines_below, sums_on, total_on}
-use Rattle.program_run.specs.inner.Lines.{raised}
-
-total_more : (number : ClassCounts → ℕ) (xs : List (List ClassCounts)) (i : ℕ) (x : List ClassCounts) (k : ℕ) → i < length xs → x ≡ get_or xs i x
-    → total_on number (take (i + 1) xs) k ≡ total_on number (take i xs) k + number (counts_on x k)
-total_more number xs i x k within at =
-    sum_by_more (λ own. number (counts_on own k)) xs i x within
-    ∙ ap (λ (own : List ClassCounts). total_on number (take i xs) k + number (counts_on own k)) (sym at)
-
-capped_more : (a b c : ℕ) → a ≡ b + c → capped (capped b + c) ≡ capped a
-capped_more a b c e = omega (arith, e)
-
--- the sums with one thread more
-pub sums_more : (xs : List (List ClassCounts)) (i : ℕ) (x : List ClassCounts) (k : ℕ) → i < length xs → x ≡ get_or xs i x
-    → raised (sums_on (take i xs) k) (counts_on x k) ≡ sums_on (take (i + 1) xs) k
-sums_more xs i x k within at =
-    λ j. record {
-      single = capped_more _ _ _ (total_more (λ n. n.single) xs i x k within at) j;
-      rebias = capped_more _ _ _ (total_more (λ n. n.rebias) xs i x k within at) j;
-      revoke = capped_more _ _ _ (total_more (λ n. n.revoke) xs i x k within at) j;
-      reset = capped_more _ _ _ (total_more (λ n. n.reset) xs i x k within at) j;
-    }
+use Rattle.program_run.specs.Lines.{line_of, lines_below}
 
 pub lines_many : (c : ClosedSeen) (n : ℕ) → length (lines_below c n) ≡ n
 lines_many c zero = refl

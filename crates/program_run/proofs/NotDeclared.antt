@@ -4,7 +4,6 @@ use Rattle.std.proofs.Common.{length, Option, Some, None, refl, sym, ap, ◌∙�
 use Rattle.std.proofs.lemmas.Option.{same_Some, slice_get_past}
 use Rattle.plain_monitor.specs.declared.entry.Entry.{Entry}
 use Rattle.plain_monitor.specs.declared.entry.Entry.TheVariants.{Enter, Exit, Get, Put, Wait, Resume, Notify, NotifyAll}
-use Rattle.plain_monitor.specs.declared.entry.Entry.TheVariants.{Hash, New, Print, Dump, Trap, Spent, Done}
 use Rattle.plain_monitor.specs.declared.entry.Logged.{Logged}
 use Rattle.plain_monitor.specs.Objects.{PlainObject, named, take_named, take_entry}
 use Rattle.plain_monitor.specs.History.{run_all}
@@ -26,13 +25,7 @@ bound_is_named (Wait i) o h = same_name i o h
 bound_is_named (Resume i) o h = same_name i o h
 bound_is_named (Notify i w) o h = same_name i o h
 bound_is_named (NotifyAll i w) o h = same_name i o h
-bound_is_named (Hash i v d) o h = absurd (cc h)
-bound_is_named (New i c) o h = absurd (cc h)
-bound_is_named (Print v) o h = absurd (cc h)
-bound_is_named (Dump k) o h = absurd (cc h)
-bound_is_named (Trap f k) o h = absurd (cc h)
-bound_is_named Spent o h = absurd (cc h)
-bound_is_named Done o h = absurd (cc h)
+bound_is_named _ o h = absurd (cc h)
 
 length_kept : (before after : List PlainObject) (t : ℕ) (e : Entry) (m : Option ℕ) → take_named before t e m ≡ Some after → length after ≡ length before
 length_kept before after t e None h = ap (λ (xs : List PlainObject). length xs) (sym (same_Some before after h))
@@ -43,9 +36,8 @@ unnamed : (before after : List PlainObject) (t : ℕ) (e : Entry) (o : ℕ)
     → length before ≤ o → take_named before t e (named e) ≡ Some after → named e ≡ Some o → ⊥
 unnamed before after t e o far h is =
     let a = taken_at before after t e o (ap (take_named before t e) (sym is) ∙ h) in
-    let was = a.was in
     let none = slice_get_past before o far in
-    absurd (cc (was, none))
+    absurd (cc (a.was, none))
 
 -- so it has none in a history that is taken
 pub none_on : (xs : List (ℕ × Logged)) (before after : List PlainObject) (o : ℕ)

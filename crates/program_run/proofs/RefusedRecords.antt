@@ -54,7 +54,6 @@ pub leaves_out : (p : ProgramText) (fuel : â„•) (r : RunRecord) (t k u v i j : â
 leaves_out p fuel r t k u v i j shot l m at at-l before at-m since tied earlier shots =
     let right = all_at (IsRightShot p fuel r.logs) (shots_of r.shots t) k shot (shots.right t) at in
     let many = has_log r.logs v j m at-m in
-    let as_many = right.threads in
-    let first = in_order_at shot.cut r.logs u v i j l m right.in_order at-l before at-m since (omega (arith, many, as_many)) tied in
+    let first = in_order_at shot.cut r.logs u v i j l m right.in_order at-l before at-m since (omega (arith, many, right.threads)) tied in
     let not_first = before_asym (v, m) (u, l) earlier in
     absurd (cc (first, not_first))

@@ -166,5 +166,4 @@ no_run_revoked_so_early s p r c line entries live classes one ran =
     let most = most_is r entries live in
     let none = revoked_late r c ran.biases (omega (arith, most)) in
     let here = subst (AllByRecursion (λ (l : ClassLine). l.revoke ≡ 0)) classes none in
-    let zero_there = here.0 in
-    omega (arith, one, zero_there)
+    omega (arith, one, here.0)

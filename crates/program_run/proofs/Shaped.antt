@@ -61,13 +61,10 @@ module _ (p : ProgramText) (is : IsProgram p) (threads : List ThreadDef) (slots 
     (t : threads ≡ p.threads) (s : slots ≡ slots_by p.classes) (c : classes ≡ classes_from p.objects) where
   pub in_limits : (length threads ≤ most_threads) × (length slots ≤ most_classes) × (length classes ≤ most_in_all)
   in_limits =
-      let threads_few = is.threads_few in
-      let classes_few = is.classes_few in
-      let objects_few = is.objects_few in
       let one = ap length t in
       let two : length slots ≡ length p.classes = ap length s ∙ length-map p.classes (λ (d : ClassDef). d.slots) in
       let three : length classes ≡ total_of p.objects = ap length c ∙ many_classes p.objects in
-      (omega (arith, one, threads_few), omega (arith, two, classes_few), omega (arith, three, objects_few))
+      (omega (arith, one, is.threads_few), omega (arith, two, is.classes_few), omega (arith, three, is.objects_few))
 
   pub slots_few : All (λ n. n ≤ most_slots) slots
   slots_few =

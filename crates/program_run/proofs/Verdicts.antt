@@ -92,13 +92,10 @@ lines_few counts i [] sums = omega arith
 lines_few counts i (line ∷ lines) sums =
     let first = sum_by-cons biases.verdicts_on line lines in
     let is : IsSum counts i line = subst (λ (k : ℕ). IsSum counts k line) (omega arith) (sums 0 line refl) in
-    let single = is.single in
-    let rebias = is.rebias in
-    let revoke = is.revoke in
     let split = all_split counts i in
     let rest = lines_few counts (suc i) lines
     (λ k l e. subst (λ (n : ℕ). IsSum counts n l) (omega arith) (sums (suc k) l e)) in
-    omega (arith, first, single, rebias, revoke, split, rest)
+    omega (arith, first, is.single, is.rebias, is.revoke, split, rest)
 
 -- THE ENTRIES
 -- each thread counted at most so many verdicts beyond its entries
@@ -149,8 +146,7 @@ none_revoked [] each low = tt
 none_revoked (line ∷ lines) each low =
     let verdicts = sum_by-cons biases.verdicts_on line lines in
     let here = each 0 line refl in
-    let few = here.few in
-    let below : nat_le revoke_threshold line.count ≡ false = grind (arith, nat_tests, few, verdicts, low) in
+    let below : nat_le revoke_threshold line.count ≡ false = grind (arith, nat_tests, here.few, verdicts, low) in
     (here.revoked ∙ ap one_if below, none_revoked lines (λ k l e. each (suc k) l e) (omega (arith, verdicts, low)))
 
 -- RECORDS

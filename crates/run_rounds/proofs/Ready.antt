@@ -30,9 +30,8 @@ runner_at h limit fuel u (suc n) zero r e =
     (omega arith, ap (λ v. runner_on fuel (first_pass h limit v)) same ∙ same_Some (runner_on fuel (first_pass h limit u)) r e)
 runner_at h limit fuel u (suc n) (suc t) r e =
     let others = runner_at h limit fuel (suc u) n t r e in
-    let less = others.0 in
     let same : u + suc t ≡ suc u + t = omega arith in
-    (omega (arith, less), ap (λ v. runner_on fuel (first_pass h limit v)) same ∙ others.1)
+    (omega (arith, others.0), ap (λ v. runner_on fuel (first_pass h limit v)) same ∙ others.1)
 
 passes_many : (h : HeapSeen) (limit fuel u n : ℕ) → length (map (runner_on fuel) (first_passes h limit u n)) ≡ n
 passes_many h limit fuel u zero = refl

@@ -16,7 +16,7 @@ use Rattle.plain_history.proofs.SoundHistories.{AllSound, sound_at}
 use Rattle.plain_history.proofs.Swaps.{taken_at}
 use Rattle.plain_machine.specs.declared.monitor_call.MonitorCall.TheVariants as call
 use Rattle.plain_machine.specs.declared.monitor_call.NextEntry.{NextEntry}
-use Rattle.plain_machine.specs.declared.monitor_call.NextEntry.TheVariants.{Calls, Resumes, Leaves, Ends}
+use Rattle.plain_machine.specs.declared.monitor_call.NextEntry.TheVariants.{Calls, Resumes}
 use Rattle.plain_machine.specs.Thread.{ThreadState}
 use Rattle.plain_machine.specs.Asking.{ask, fits, after_entry, thread_after}
 use Rattle.plain_machine.specs.Machine.{PlainMachine, code_of, made_after_entry, take, moved, monitor_at, object_at, other_owner}
@@ -115,9 +115,8 @@ resumed_free m n t None s c h = absurd (cc h)
 resumed_free m n t (Some k) s c h =
     let once = s.once t in
     let called = listed_once m.called t k c in
-    let is = called.1 in
     let free = (cond_some (is_none m.owner) _ n h).0 in
-    (unlisted m.waits t (omega (arith, once, is)), unowned m t (no_owner m.owner free))
+    (unlisted m.waits t (omega (arith, once, called.1)), unowned m t (no_owner m.owner free))
 
 -- OFFERS
 is_offered : (o : ℕ) (owner : Option ℕ) (e : Entry) → owner ≡ None → is_next (unless_owned o owner e) ≡ true
@@ -154,10 +153,8 @@ module _ (m n : PlainMachine) (t : ℕ) (sound : AllSound m.objects) where
   at_asked : (a : NextEntry) (e : Entry) → IsOf a e → take_entry m.objects t e ≡ Some n.objects → Offers a
   at_asked (Calls (call.Enter o)) e is h = at_enter o e is h
   at_asked (Calls (call.Hash x o)) e is h = hash_is_offered o (object_at m o).hash
-  at_asked (Calls c) e is h = refl
   at_asked (Resumes o) e is h = at_resume o e is h
-  at_asked (Leaves o) e is h = refl
-  at_asked (Ends g) e is h = refl
+  at_asked _ e is h = refl
 
   pub taken_is_offered : (e : Entry) → take m t e ≡ Some n → is_next (offered m t) ≡ true
   taken_is_offered e h =

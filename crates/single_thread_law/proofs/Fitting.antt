@@ -55,33 +55,23 @@ same_number a b h = sym (eqb-true a b h)
 
 of_call : (c : MonitorCall) (e : Entry) → is_call c e ≡ true → IsOfCall c e
 of_call (call.Enter o) (entry.Enter k path) h = (path, ap (λ i. entry.Enter i path) (same_number o k h))
-of_call (call.Enter o) e h = absurd (false≢true h)
 of_call (call.Exit o) (entry.Exit k) h = ap entry.Exit (same_number o k h)
-of_call (call.Exit o) e h = absurd (false≢true h)
 of_call (call.Wait o) (entry.Wait k) h = ap entry.Wait (same_number o k h)
-of_call (call.Wait o) e h = absurd (false≢true h)
 of_call (call.Notify o) (entry.Notify k woken) h = (woken, ap (λ i. entry.Notify i woken) (same_number o k h))
-of_call (call.Notify o) e h = absurd (false≢true h)
 of_call (call.NotifyAll o) (entry.NotifyAll k woken) h = (woken, ap (λ i. entry.NotifyAll i woken) (same_number o k h))
-of_call (call.NotifyAll o) e h = absurd (false≢true h)
 of_call (call.Get x o k) (entry.Get i j value) h =
     let both = and_parts (o == i) (k == j) h in
     (value, ap (λ a. entry.Get a j value) (same_number o i both.0) ∙ ap (λ b. entry.Get o b value) (same_number k j both.1))
-of_call (call.Get x o k) e h = absurd (false≢true h)
 of_call (call.Put o k v) (entry.Put i j w) h =
     let all = and_parts ((o == i) && (k == j)) (same_value v w) h in
     let both = and_parts (o == i) (k == j) all.0 in
     ap (λ a. entry.Put a j w) (same_number o i both.0) ∙ ap (λ b. entry.Put o b w) (same_number k j both.1)
     ∙ ap (λ u. entry.Put o k u) (sym (same_is v w all.1))
-of_call (call.Put o k v) e h = absurd (false≢true h)
 of_call (call.Hash x o) (entry.Hash k value drawn) h = (value, drawn, ap (λ i. entry.Hash i value drawn) (same_number o k h))
-of_call (call.Hash x o) e h = absurd (false≢true h)
 of_call (call.New x c) (entry.New object d) h = (object, ap (λ i. entry.New object i) (same_number c d h))
-of_call (call.New x c) e h = absurd (false≢true h)
 of_call (call.Print v) (entry.Print w) h = ap entry.Print (sym (same_is v w h))
-of_call (call.Print v) e h = absurd (false≢true h)
 of_call (call.Dump n) (entry.Dump k) h = ap entry.Dump (same_number n k h)
-of_call (call.Dump n) e h = absurd (false≢true h)
+of_call _ e h = absurd (false≢true h)
 
 -- a fault by its number
 abbrev fault_with : ℕ → Fault
@@ -89,14 +79,7 @@ fault_with n = slice_index_or (IllegalMonitorState ∷ Unguarded ∷ NotRef ∷ 
 
 its_fault : (f : Fault) → fault_with (fault_number f) ≡ f
 its_fault IllegalMonitorState = refl
-its_fault Unguarded = refl
-its_fault NotRef = refl
-its_fault NotInt = refl
-its_fault Range = refl
-its_fault Overflow = refl
-its_fault TooDeep = refl
-its_fault TooManyDumps = refl
-its_fault TooMany = refl
+its_fault _ = refl
 
 same_fault : (f g : Fault) → (fault_number f == fault_number g) ≡ true → g ≡ f
 same_fault f g h = sym (its_fault g) ∙ ap fault_with (same_number (fault_number f) (fault_number g) h) ∙ its_fault f
@@ -105,11 +88,9 @@ of_ending : (g : Ending) (e : Entry) → is_ending g e ≡ true → e ≡ ending
 of_ending (ending.Trap f i) (entry.Trap k j) h =
     let both = and_parts (fault_number f == fault_number k) (i == j) h in
     ap (λ x. entry.Trap x j) (same_fault f k both.0) ∙ ap (λ y. entry.Trap f y) (same_number i j both.1)
-of_ending (ending.Trap f i) e h = absurd (false≢true h)
 of_ending ending.Spent entry.Spent h = refl
-of_ending ending.Spent e h = absurd (false≢true h)
 of_ending ending.Done entry.Done h = refl
-of_ending ending.Done e h = absurd (false≢true h)
+of_ending _ e h = absurd (false≢true h)
 
 of_resume : (o : ℕ) (e : Entry) → is_resume o e ≡ true → e ≡ entry.Resume o
 of_resume o (entry.Resume k) h = ap entry.Resume (same_number o k h)
@@ -258,12 +239,7 @@ module _ (objects : List PlainObject) (seen : ℕ → Bool) (first n t : ℕ) wh
   at_call : (c : MonitorCall) (e f : Entry) → IsOfCall c e → IsOfCall c f → IsTaken objects t e → IsTaken objects t f
       → MakeTheSame e f → AreBefore objects seen first n e f → AreSame e f
   at_call (call.Enter o) e f a b h k made w = ap without_path a.1 ∙ sym (ap without_path b.1)
-  at_call (call.Exit o) e f a b h k made w = ap without_path (a ∙ sym b)
-  at_call (call.Wait o) e f a b h k made w = ap without_path (a ∙ sym b)
-  at_call (call.Put o i v) e f a b h k made w = ap without_path (a ∙ sym b)
   at_call (call.New x c) e f a b h k made w = ap without_path (a.1 ∙ ap (λ i. entry.New i c) (made a.0 b.0 c a.1 b.1) ∙ sym b.1)
-  at_call (call.Print v) e f a b h k made w = ap without_path (a ∙ sym b)
-  at_call (call.Dump i) e f a b h k made w = ap without_path (a ∙ sym b)
   at_call (call.Notify o) e f a b h k made w =
       let r = taken_at objects h.0 t (entry.Notify o a.0) o (subst (λ x. take_entry objects t x ≡ Some h.0) a.1 h.1) in
       let q = taken_at objects k.0 t (entry.Notify o b.0) o (subst (λ x. take_entry objects t x ≡ Some k.0) b.1 k.1) in
@@ -286,6 +262,7 @@ module _ (objects : List PlainObject) (seen : ℕ → Bool) (first n t : ℕ) wh
       subst (λ y. AreBefore objects seen first n (entry.Hash o a.0 a.1) y) b.2 (subst (λ y. AreBefore objects seen first n y f) a.2 w) in
       let same = same_hash objects seen first n t o a.0 b.0 a.1 b.1 (both_at objects t o _ _ h.0 k.0 r q) before in
       ap without_path (a.2 ∙ ap (λ v. entry.Hash o v a.1) same.value ∙ ap (λ d. entry.Hash o b.0 d) same.drawn ∙ sym b.2)
+  at_call _ e f a b h k made w = ap without_path (a ∙ sym b)
 
   -- two entries that fit what the thread asks, and that the objects take, are the same but for the path
   pub same_entry : (a : NextEntry) (e f : Entry) → fits a e ≡ true → fits a f ≡ true → IsTaken objects t e → IsTaken objects t f

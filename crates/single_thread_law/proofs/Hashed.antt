@@ -49,12 +49,7 @@ keeps x y t (entry.NotifyAll o w) s h = by_monitor x y (notify_all x.monitor t w
 keeps x y t (entry.Get o i v) s h = by_test x x y (owns x.monitor t && has_value (slice_get x.slots i) v) s h
 keeps x y t (entry.Put o i v) s h = by_test x (record x { slots = slice_set x.slots i v }) y _ s h
 keeps x y t (entry.Hash o v d) s h = by_hash x y x.hash v h
-keeps x y t (entry.New o c) s h = subst HasHash (same_Some x y h) s
-keeps x y t (entry.Print v) s h = subst HasHash (same_Some x y h) s
-keeps x y t (entry.Dump n) s h = subst HasHash (same_Some x y h) s
-keeps x y t (entry.Trap f i) s h = subst HasHash (same_Some x y h) s
-keeps x y t entry.Spent s h = subst HasHash (same_Some x y h) s
-keeps x y t entry.Done s h = subst HasHash (same_Some x y h) s
+keeps x y t _ s h = subst HasHash (same_Some x y h) s
 
 -- and a hash gives it one
 given : (x y : PlainObject) (t o : ℕ) (e : Entry) → is_hash o e ≡ true → take_at x t e ≡ Some y → HasHash y

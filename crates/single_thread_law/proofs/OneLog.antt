@@ -93,8 +93,7 @@ taking log o before l later r split s =
       | inl z ↦ omega (arith, z)
       | inr g ↦ let_go_at log o s.let_go before l later r split s.is_last.below g.0 g.1
     ] in
-    let next = s.next in
-    omega (arith, no_later, next)
+    omega (arith, no_later, s.next)
 
 next_stamp : (log : List Logged) (before : List Logged) (l : Logged) (later : List Logged) → RisesAbove 0 log
     → log ≡ before ++ l ∷ later → (e : Entry) → IsExactStamp (log ∷ []) (last_stamp before) e l.stamp → l.stamp ≡ last_stamp before + 1

@@ -15,28 +15,12 @@ use Rattle.core_world.specs.Words.Shape.{ring_bits}
 use Rattle.step_history.specs.Examples.{lone, world_of, enters}
 use Rattle.solo_progress.specs.LeftAlone.{MayCall, MayCallAlone}
 use Rattle.solo_progress.specs.Witnesses.{slotted, held, reaches}
-use Rattle.solo_progress.proofs.LoneWorlds.{AllStep, Idle, Calmly, RunsOrAsks, Leaves, May, called, ready}
+use Rattle.solo_progress.proofs.LoneWorlds.{Stands, May, called, ready}
 
 -- WHERE IT HAS ENTERED
-enters_step : AllStep (enters 0)
+enters_stand : Stands (enters 0) held
 unfolding steps_due is_idle steps_of read_safe read_mark read_hold read_wait read_owner ring_bits
-enters_step = refl
-
-enters_idle : Idle (enters 0)
-unfolding steps_due is_idle steps_of read_safe read_mark read_hold read_wait read_owner ring_bits
-enters_idle = refl
-
-enters_calm : Calmly (enters 0)
-unfolding steps_due is_idle steps_of read_safe read_mark read_hold read_wait read_owner ring_bits
-enters_calm = refl
-
-enters_runs : RunsOrAsks (enters 0)
-unfolding steps_due is_idle steps_of read_safe read_mark read_hold read_wait read_owner ring_bits
-enters_runs = refl
-
-enters_leave : Leaves (enters 0) held
-unfolding steps_due is_idle steps_of read_safe read_mark read_hold read_wait read_owner ring_bits
-enters_leave = refl
+enters_stand = record { steps = refl; idle = refl; calm = refl; runs = refl; leave = refl }
 
 enters_may_get : May (enters 0) (task.Get 0 0)
 unfolding steps_due is_idle steps_of read_safe read_mark read_hold read_wait read_owner ring_bits
@@ -47,34 +31,15 @@ unfolding steps_due is_idle steps_of read_safe read_mark read_hold read_wait rea
 enters_may_put = refl
 
 pub get_ready : MayCallAlone lone (world_of lone (enters 0)) (held ∷ []) 0 (task.Get 0 0)
-get_ready =
-    ready (enters 0) (task.Get 0 0) held (called (enters 0) (task.Get 0 0) enters_step enters_idle enters_may_get) refl enters_calm enters_runs enters_leave
+get_ready = ready (enters 0) (task.Get 0 0) enters_stand enters_may_get refl
 
 pub put_ready : MayCallAlone lone (world_of lone (enters 0)) (held ∷ []) 0 (task.Put 0 0 Nil)
-put_ready =
-    ready (enters 0) (task.Put 0 0 Nil) held (called (enters 0) (task.Put 0 0 Nil) enters_step enters_idle enters_may_put) refl
-    enters_calm enters_runs enters_leave
+put_ready = ready (enters 0) (task.Put 0 0 Nil) enters_stand enters_may_put refl
 
 -- WHERE IT ASKED FOR A SAFEPOINT
-reaches_step : AllStep (reaches 0)
+reaches_stand : Stands (reaches 0) slotted
 unfolding steps_due is_idle steps_of read_safe read_mark read_hold read_wait read_owner ring_bits
-reaches_step = refl
-
-reaches_idle : Idle (reaches 0)
-unfolding steps_due is_idle steps_of read_safe read_mark read_hold read_wait read_owner ring_bits
-reaches_idle = refl
-
-reaches_calm : Calmly (reaches 0)
-unfolding steps_due is_idle steps_of read_safe read_mark read_hold read_wait read_owner ring_bits
-reaches_calm = refl
-
-reaches_runs : RunsOrAsks (reaches 0)
-unfolding steps_due is_idle steps_of read_safe read_mark read_hold read_wait read_owner ring_bits
-reaches_runs = refl
-
-reaches_leave : Leaves (reaches 0) slotted
-unfolding steps_due is_idle steps_of read_safe read_mark read_hold read_wait read_owner ring_bits
-reaches_leave = refl
+reaches_stand = record { steps = refl; idle = refl; calm = refl; runs = refl; leave = refl }
 
 reaches_may_look : May (reaches 0) task.Reached
 unfolding steps_due is_idle steps_of read_safe read_mark read_hold read_wait read_owner ring_bits
@@ -85,9 +50,7 @@ unfolding steps_due is_idle steps_of read_safe read_mark read_hold read_wait rea
 reaches_may_release = refl
 
 pub reached_ready : MayCallAlone lone (world_of lone (reaches 0)) (slotted ∷ []) 0 task.Reached
-reached_ready =
-    ready (reaches 0) task.Reached slotted (called (reaches 0) task.Reached reaches_step reaches_idle reaches_may_look) refl
-    reaches_calm reaches_runs reaches_leave
+reached_ready = ready (reaches 0) task.Reached reaches_stand reaches_may_look refl
 
 pub release_may : MayCall lone (world_of lone (reaches 0)) 0 task.Release
-release_may = called (reaches 0) task.Release reaches_step reaches_idle reaches_may_release
+release_may = called (reaches 0) task.Release reaches_stand reaches_may_release

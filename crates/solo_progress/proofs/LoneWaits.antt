@@ -14,19 +14,7 @@ use Rattle.core_world.specs.Words.Shape.{ring_bits}
 use Rattle.step_history.specs.Examples.{lone, world_of, waits}
 use Rattle.solo_progress.specs.LeftAlone.{MayCallAlone}
 use Rattle.solo_progress.specs.Witnesses.{waiting}
-use Rattle.solo_progress.proofs.LoneWorlds.{knows, AllStep, Idle, Calmly, RunsOrAsks, Leaves, May, called, ready}
-
-waits_step : AllStep (waits 0)
-unfolding steps_due is_idle steps_of read_safe read_mark read_hold read_wait read_owner ring_bits
-waits_step = refl
-
-waits_idle : Idle (waits 0)
-unfolding steps_due is_idle steps_of read_safe read_mark read_hold read_wait read_owner ring_bits
-waits_idle = refl
-
-waits_calm : Calmly (waits 0)
-unfolding steps_due is_idle steps_of read_safe read_mark read_hold read_wait read_owner ring_bits
-waits_calm = refl
+use Rattle.solo_progress.proofs.LoneWorlds.{knows, RunsOrAsks, Stands, May, ready}
 
 runs_still : (knows (waits 0)).running ≡ true
 unfolding steps_due is_idle steps_of read_safe read_mark read_hold read_wait read_owner ring_bits
@@ -40,9 +28,9 @@ asks_nothing = refl
 waits_runs : RunsOrAsks (waits 0)
 waits_runs = runs_still ∙ ap not (sym asks_nothing)
 
-waits_leave : Leaves (waits 0) waiting
+waits_stand : Stands (waits 0) waiting
 unfolding steps_due is_idle steps_of read_safe read_mark read_hold read_wait read_owner ring_bits
-waits_leave = refl
+waits_stand = record { steps = refl; idle = refl; calm = refl; runs = waits_runs; leave = refl }
 
 waits_may : (now : ℕ) → May (waits 0) (task.Wait 0 now)
 unfolding steps_due is_idle steps_of read_safe read_mark read_hold read_wait read_owner ring_bits
@@ -53,6 +41,4 @@ unfolding steps_due is_idle steps_of read_safe read_mark read_hold read_wait rea
 still_waits = refl
 
 pub wait_ready : (now : ℕ) → MayCallAlone lone (world_of lone (waits 0)) (waiting ∷ []) 0 (task.Wait 0 now)
-wait_ready now =
-    ready (waits 0) (task.Wait 0 now) waiting (called (waits 0) (task.Wait 0 now) waits_step waits_idle (waits_may now)) refl
-    waits_calm waits_runs waits_leave
+wait_ready now = ready (waits 0) (task.Wait 0 now) waits_stand (waits_may now) refl

@@ -77,25 +77,35 @@ Leaves turns object = objects_after (world_of lone turns).shape.objects (logs (w
 abbrev pub May : List (ℕ × HeapCall) → HeapCall → Type 0
 May turns job = may_begin (world_of lone turns).shape (world_of lone turns).biasing (knows turns) job ≡ true
 
-pub called : (turns : List (ℕ × HeapCall)) (job : HeapCall) → AllStep turns → Idle turns → May turns job → MayCall lone (world_of lone turns) 0 job
-called turns job all idle may = record {
+pub record Stands (turns : List (ℕ × HeapCall)) (object : PlainObject) : Type 0 where
+  pub steps : AllStep turns
+  pub idle : Idle turns
+  pub calm : Calmly turns
+  pub runs : RunsOrAsks turns
+  pub leave : Leaves turns object
+
+pub called : (turns : List (ℕ × HeapCall)) (job : HeapCall) {object : PlainObject} → Stands turns object → May turns job
+    → MayCall lone (world_of lone turns) 0 job
+called turns job stands may = record {
   limits = limits;
-  reached = by_turns lone turns all;
+  reached = by_turns lone turns stands.steps;
   within = subst (λ (s : Shape). 0 < s.threads) (sym (same_shape turns first)) (omega arith);
-  idle = idle;
+  idle = stands.idle;
   may = may;
 }
 
-pub ready : (turns : List (ℕ × HeapCall)) (job : HeapCall) (object : PlainObject) → MayCall lone (world_of lone turns) 0 job → of_thread 0 turns ≡ true
-    → Calmly turns → RunsOrAsks turns → Leaves turns object → MayCallAlone lone (world_of lone turns) (object ∷ []) 0 job
-ready turns job object call mine calm runs history = record {
-  call = call;
-  history = history;
-  alone = record {
-    within = call.within;
-    calm = calm;
-    runs = runs;
-    stopped = λ u d. ap (λ (k : ThreadView). k.running) (others_still 0 u turns first mine d);
-    unasked = λ u d. ap (λ (k : ThreadView). k.requesting) (others_still 0 u turns first mine d);
-  };
-}
+pub ready : (turns : List (ℕ × HeapCall)) (job : HeapCall) {object : PlainObject} → Stands turns object → May turns job → of_thread 0 turns ≡ true
+    → MayCallAlone lone (world_of lone turns) (object ∷ []) 0 job
+ready turns job stands may mine =
+    let call = called turns job stands may in
+    record {
+      call = call;
+      history = stands.leave;
+      alone = record {
+        within = call.within;
+        calm = stands.calm;
+        runs = stands.runs;
+        stopped = λ u d. ap (λ (k : ThreadView). k.running) (others_still 0 u turns first mine d);
+        unasked = λ u d. ap (λ (k : ThreadView). k.requesting) (others_still 0 u turns first mine d);
+      };
+    }

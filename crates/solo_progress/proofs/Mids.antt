@@ -50,7 +50,7 @@ silent_note (LogHash o) n log e = cases (hash_in n == 0) _ _ e
     cases true entry x e = refl
     cases false entry x e = absurd (cc e)
 
-silent_log : (s : Shape) (start : ℕ) (ms : List StepMade) (k : ThreadView) → entries_of ms ≡ [] → (known_along s start ms k).log ≡ k.log
+pub silent_log : (s : Shape) (start : ℕ) (ms : List StepMade) (k : ThreadView) → entries_of ms ≡ [] → (known_along s start ms k).log ≡ k.log
 silent_log s start [] k e = refl
 silent_log s start (m ∷ ms) k e =
     let parts = both_none (entries_of ms) (cond (hits m.plan.act m.found) (noted m.plan.note m.found) []) e in

@@ -39,63 +39,55 @@ comes = by_turns rivals told refl
 limits : IsInLimits rivals.shape
 limits = record { threads = omega arith; classes = omega arith; declared = omega arith; objects = omega arith; each = ((omega arith, omega arith), tt) }
 
-threads : w.shape.threads ≡ 2
-unfolding steps_due is_idle steps_of read_safe read_mark read_hold read_wait read_owner ring_bits
-threads = refl
+-- what is found by computing
+record Found : Type 0 where
+  threads : w.shape.threads ≡ 2
+  runs : (w.known 0).running ≡ true
+  asks_nothing : (w.known 0).requesting ≡ false
+  calm : (w.known 0).stage ≡ Settled
+  other_stopped : (w.known 1).running ≡ false
+  other_asks_nothing : (w.known 1).requesting ≡ false
+  idle : is_idle w.shape (w.known 0) ≡ true
+  history : objects_after w.shape.objects (logs w) ≡ Some (notified ∷ [])
 
-runs : (w.known 0).running ≡ true
+found : Found
 unfolding steps_due is_idle steps_of read_safe read_mark read_hold read_wait read_owner ring_bits
-runs = refl
-
-asks_nothing : (w.known 0).requesting ≡ false
-unfolding steps_due is_idle steps_of read_safe read_mark read_hold read_wait read_owner ring_bits
-asks_nothing = refl
-
-calm : (w.known 0).stage ≡ Settled
-unfolding steps_due is_idle steps_of read_safe read_mark read_hold read_wait read_owner ring_bits
-calm = refl
-
-other_stopped : (w.known 1).running ≡ false
-unfolding steps_due is_idle steps_of read_safe read_mark read_hold read_wait read_owner ring_bits
-other_stopped = refl
-
-other_asks_nothing : (w.known 1).requesting ≡ false
-unfolding steps_due is_idle steps_of read_safe read_mark read_hold read_wait read_owner ring_bits
-other_asks_nothing = refl
-
-idle : is_idle w.shape (w.known 0) ≡ true
-unfolding steps_due is_idle steps_of read_safe read_mark read_hold read_wait read_owner ring_bits
-idle = refl
+found = record {
+  threads = refl;
+  runs = refl;
+  asks_nothing = refl;
+  calm = refl;
+  other_stopped = refl;
+  other_asks_nothing = refl;
+  idle = refl;
+  history = refl;
+}
 
 may_wait : (now : ℕ) → may_begin w.shape w.biasing (w.known 0) (task.Wait 0 now) ≡ true
 unfolding steps_due is_idle steps_of read_safe read_mark read_hold read_wait read_owner ring_bits
 may_wait now = refl
 
-history : objects_after w.shape.objects (logs w) ≡ Some (notified ∷ [])
-unfolding steps_due is_idle steps_of read_safe read_mark read_hold read_wait read_owner ring_bits
-history = refl
-
 none_else : (u : ℕ) → u ≢ 0 → u ≢ 1 → w.known u ≡ first_known u
 none_else u d e =
     let v = reached_worlds_valid rivals w limits comes in
-    let fits = fits_running w v.objects 0 runs (forgotten LawsHold w v.objects v.is) in
-    fits.absent u (omega (arith, d, e, threads))
+    let fits = fits_running w v.objects 0 found.runs (forgotten LawsHold w v.objects v.is) in
+    fits.absent u (omega (arith, d, e, found.threads))
 
 left_alone : IsLeftAlone w 0
 left_alone = record {
-  within = omega (arith, threads);
-  calm = calm;
-  runs = runs ∙ ap not (sym asks_nothing);
-  stopped = λ u d. by_equal u 1 (λ e. ap (λ i. (w.known i).running) e ∙ other_stopped)
+  within = omega (arith, found.threads);
+  calm = found.calm;
+  runs = found.runs ∙ ap not (sym found.asks_nothing);
+  stopped = λ u d. by_equal u 1 (λ e. ap (λ i. (w.known i).running) e ∙ found.other_stopped)
       (λ n. ap (λ (k : ThreadView). k.running) (none_else u d n));
-  unasked = λ u d. by_equal u 1 (λ e. ap (λ i. (w.known i).requesting) e ∙ other_asks_nothing)
+  unasked = λ u d. by_equal u 1 (λ e. ap (λ i. (w.known i).requesting) e ∙ found.other_asks_nothing)
       (λ n. ap (λ (k : ThreadView). k.requesting) (none_else u d n));
 }
 
 ready : (now : ℕ) → MayCallAlone rivals w (notified ∷ []) 0 (task.Wait 0 now)
 ready now = record {
-  call = record { limits = limits; reached = comes; within = omega (arith, threads); idle = idle; may = may_wait now };
-  history = history;
+  call = record { limits = limits; reached = comes; within = omega (arith, found.threads); idle = found.idle; may = may_wait now };
+  history = found.history;
   alone = left_alone;
 }
 

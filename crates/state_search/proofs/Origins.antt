@@ -59,14 +59,6 @@ pub record IsDown (next : List ℕ → ℕ → Option (List ℕ)) (many : ℕ) (
   pub none : slice_get keys number ≡ None → choices ≡ []
   pub still : slice_get keys number ≡ None → at ≡ number
 
-pub down_none : (next : List ℕ → ℕ → Option (List ℕ)) (many : ℕ) (keys : List (List ℕ)) (number : ℕ) → IsDown next many keys number number [] 0
-down_none next many keys number = record {
-  few = omega arith;
-  leads = λ x key a b. same_Some x key (sym a ∙ b);
-  none = λ h. refl;
-  still = λ h. refl;
-}
-
 module _ (next : List ℕ → ℕ → Option (List ℕ)) (many : ℕ) (first : List ℕ) (most : ℕ) (f : Keys) (u : IsUnderWay next many first most f) (number at : ℕ)
     (choices : List ℕ) (steps : ℕ) (d : IsDown next many f.keys number at choices steps) where
   pub down_step : (origin : Origin) → 1 ≤ at → slice_get f.origins at ≡ Some origin

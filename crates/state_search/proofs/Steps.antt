@@ -6,10 +6,9 @@ use Rattle.std.proofs.lemmas.Bool.Decides.{nat_tests}
 use Rattle.std.proofs.lemmas.Option.{none-some, same_Some, slice_get_within}
 use Rattle.indexmap.specs.IndexSet.{insert_key}
 use Rattle.state_search.specs.Found.{Keys}
-use Rattle.state_search.specs.declared.found.Origin.{Origin}
 use Rattle.state_search.specs.inner.Added.{with_key}
 use Rattle.state_search.specs.inner.Among.{same_words, is_among}
-use Rattle.state_search.specs.Search.{Has, AreKeys, LeadsInto, IsClosedBelow, IsLedTo, LeadsFrom, IsUnderWay}
+use Rattle.state_search.specs.Search.{Has, AreKeys, LeadsInto, IsClosedBelow, IsLedTo}
 use Rattle.state_search.specs.inner.Steps.{Keeps, GoesOn}
 use Rattle.state_search.proofs.Inserts.{IsInserted, inserted, length_kept, length_more}
 use Rattle.state_search.proofs.Origins.{origins_added}
@@ -103,33 +102,6 @@ module _ (next : List ℕ → ℕ → Option (List ℕ)) (many : ℕ) where
               let is : key ≡ x = same_Some key x (sym here ∙ subst (λ (j : ℕ). slice_get f.keys j ≡ Some x) (eqb-true k f.gone same) at) in
               subst (LeadsInto next many f.keys) is leads
           go false differ = u.closed k x (omega (arith, lt, eqb-false k f.gone differ)) at
-
--- the first key alone
-pub under_way_first : (next : List ℕ → ℕ → Option (List ℕ)) (many most : ℕ) (first : List ℕ) → 1 ≤ most
-    → IsUnderWay next many first most (record { keys = first ∷ []; origins = record { key = 0; choice = 0 } ∷ []; gone = 0 })
-under_way_first next many most first some = record {
-  first_key = refl;
-  once = once;
-  led = led;
-  origins = record { each = refl; lead = lead };
-  closed = λ k key lt at. absurd (omega (arith, lt));
-  within = omega arith;
-  few = some;
-}
-  where
-    once : (j k : ℕ) (key : List ℕ) → slice_get (first ∷ []) j ≡ Some key → slice_get (first ∷ []) k ≡ Some key → j ≡ k
-    once zero zero key a b = refl
-    once zero (suc k) key a b = absurd (none-some key b)
-    once (suc j) k key a b = absurd (none-some key a)
-
-    led : (k : ℕ) (key : List ℕ) → slice_get (first ∷ []) k ≡ Some key → IsLedTo next many first key
-    led zero key at = record { choices = []; leads = same_Some first key at }
-    led (suc k) key at = absurd (none-some key at)
-
-    lead : (k : ℕ) (origin : Origin) (key : List ℕ) → 1 ≤ k → slice_get (record { key = 0; choice = 0 } ∷ []) k ≡ Some origin
-        → slice_get (first ∷ []) k ≡ Some key → LeadsFrom next many (first ∷ []) k origin key
-    lead zero origin key some its at = absurd (omega (arith, some))
-    lead (suc k) origin key some its at = absurd (none-some key at)
 
 pub keys_inserted : (is_key : List ℕ → Type 0) (keys : List (List ℕ)) (v : List ℕ) → AreKeys is_key keys → is_key v
     → AreKeys is_key (insert_key same_words keys v)

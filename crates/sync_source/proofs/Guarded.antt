@@ -1,5 +1,5 @@
 -- Why the example of two threads is a program with blocks, and what its logs lead to.
-use Rattle.std.proofs.Common.{◌≡◌, ℕ, List, decimal, slice_get, Option, Some, None, IsSome, refl, arith, lit<}
+use Rattle.std.proofs.Common.{◌≡◌, ℕ, List, decimal, slice_get, Some, refl, arith, lit<}
 use Rattle.object_program.specs.declared.program.Code.TheVariants.{Exit}
 use Rattle.plain_machine.specs.Legal.{IsLegal, machine_after}
 use Rattle.plain_machine.specs.Machine.{PlainMachine, code_of}
@@ -47,11 +47,6 @@ is_text = record {
   threads_some = omega arith;
   threads_few = omega arith;
 }
-
--- what is there
-found : {A : Type 0} (o : Option A) → IsSome o → (a : A) × (o ≡ Some a)
-found None h = absurd (cc h)
-found (Some a) h = (a, refl)
 
 pub is_legal : IsLegal (compiled decimal guarded) 8 guarded_logs
 unfolding run_on

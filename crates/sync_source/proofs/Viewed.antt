@@ -1,5 +1,6 @@
 -- The equations of a statement as the code has it.
-use Rattle.std.proofs.Common.{◌≡◌, ℕ, ◌+◌, List, [], ◌∷◌, ◌++◌, refl, sym, ap, ◌∙◌, arith, append_assoc, append-nil, length, length-append}
+use Rattle.std.proofs.Common.{◌≡◌, ℕ, ◌+◌, ◌<◌, drop, get_or, List, [], ◌∷◌, ◌++◌, refl, sym, ap, ◌∙◌, arith, append_assoc, append-nil, length, length-append}
+use Rattle.std.proofs.lemmas.List.{drop_more}
 use mathlib.Core.Former.{Count}
 use Rattle.object_program.specs.declared.program.Code.{Code}
 use Rattle.object_program.specs.declared.program.Code.TheVariants as instr
@@ -53,9 +54,15 @@ before-If test b c rest =
 -- a statement stands before the others, and so does its code
 pub size-before : (s : Statement) (rest : Statements) → size (before s rest) ≡ size (before s Nothing) + size rest
 size-before (statement.Plain c) rest = omega arith
-size-before (statement.Sync' local shape row) rest = omega arith
-size-before (statement.If' test shape row other_shape other) rest = omega arith
-size-before (statement.While' test shape row) rest = omega arith
+size-before _ rest = omega arith
+
+pub size-of : {s t : Statement} {r : Statements} → s ≡ t → before t Nothing ≡ r → size (before s Nothing) ≡ size r
+size-of same is = ap (λ s. size (before s Nothing)) same ∙ ap size is
+
+pub size-next : (xs : List Statement) (i : ℕ) (x : Statement) → i < length xs → x ≡ get_or xs i x
+    → size (all_of (drop i xs)) ≡ size (before x Nothing) + size (all_of (drop (i + 1) xs))
+size-next xs i x lt at =
+    ap (λ ys. size (all_of ys)) (drop_more xs i x lt ∙ ap (λ y. y ∷ drop (i + 1) xs) (sym at)) ∙ size-before x (all_of (drop (i + 1) xs))
 
 pub code-before : (at : ℕ) (s : Statement) (rest : Statements)
     → code_at at (before s rest) ≡ code_at at (before s Nothing) ++ code_at (at + size (before s Nothing)) rest

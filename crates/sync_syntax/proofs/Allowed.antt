@@ -13,7 +13,7 @@ use Rattle.program_syntax.specs.Refusal.{lines_of, keyword_cause}
 use Rattle.program_syntax.specs.declared.keyword.Keyword.{Keyword}
 use Rattle.program_syntax.specs.declared.error.RefusalCause.{RefusalCause}
 use Rattle.program_syntax.proofs.AllowedCause.{no_cause}
-use Rattle.program_syntax.proofs.AllowedParts.{ahead_of, ahead_with, IsSection}
+use Rattle.program_syntax.proofs.AllowedParts.{ahead_of, ahead_with}
 use Rattle.sync_source.specs.Source.{SyncThreadText}
 use Rattle.sync_source.specs.Valid.{IsSyncText}
 use Rattle.sync_syntax.specs.declared.error.SyncRefusalCause.{SyncRefusalCause}
@@ -23,7 +23,6 @@ use Rattle.sync_syntax.specs.declared.word.Word.TheVariants as word
 use Rattle.sync_syntax.specs.Word.{word_of, first_word}
 use Rattle.sync_syntax.specs.Reading.{SyncBefore, nothing_read, after_word, after_words, after_line, text_read}
 use Rattle.sync_syntax.specs.Refusal.{plain_cause, statement_cause, cause_or, word_cause, words_cause, line_cause, read_on, read_from}
-use Rattle.sync_syntax.specs.inner.Steps.{ClosesSection}
 use Rattle.sync_syntax.proofs.BlockLines.{no_block_cause, IsPlainWord, IsBlockWord, word_cases}
 use Rattle.sync_syntax.proofs.Kept.{IsKept, keyword_kept, block_kept}
 
@@ -71,13 +70,6 @@ cond_clean false o w h = absurd (cc h)
 pub line_kept : (b : SyncBefore) (later : List (List ℕ)) (line : List ℕ) → IsKept b (ahead_of (line ∷ later)) → line_cause b later line ≡ None
     → IsKept (after_line b later line) (ahead_of later)
 line_kept b later line h clean = words_kept b later (words_of line) h (cond_clean _ _ _ clean)
-
--- the lines ahead close the section that is open
-pub closes_of : (b : SyncBefore) (lines : List (List ℕ)) → IsKept b (ahead_of lines) → ClosesSection b.plain.section lines
-closes_of b lines h = by_section b.plain.section h.plain.section where
-  by_section : (s : Option ThreadDef) → IsSection b.plain.text (ahead_of lines) s → ClosesSection s lines
-  by_section None o = tt
-  by_section (Some t) o = o.closed
 
 -- a line before others that are read on has no cause
 read_on_ok : (cause : Option SyncRefusalCause) (n : ℕ) (rest : Result SyncBefore SyncError) (b : SyncBefore)

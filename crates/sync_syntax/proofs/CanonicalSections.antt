@@ -134,9 +134,8 @@ module _ (final : SyncBefore) (p : ProgramText) (t : SyncThreadText) (ts : List 
   body_read : (later : List (List ℕ)) → ReadsAs final (between (with_closed p t) (ts ++ t ∷ [])) later
       → ReadsAs final (inside p (heading t) ts no_blocks) (map line_of (statement_lines p.classes p.objects (heading t) t.body) ++ later)
   body_read later h =
-      let few = is.code_few in
       let all : size t.body ≡ size (joined front (Plain instr.End Nothing)) = ap size body_ended.whole in
-      let room : size front + 1 ≤ most_code = omega (arith, few, all, size-joined front (Plain instr.End Nothing)) in
+      let room : size front + 1 ≤ most_code = omega (arith, is.code_few, all, size-joined front (Plain instr.End Nothing)) in
       let thread : Statements → SyncThreadText = λ s. record { name = t.name; locals = t.locals; body = s } in
       let whole = subst (λ s. ReadsAs final (between (with_closed p t) (ts ++ thread s ∷ [])) later) body_ended.whole h in
       subst (λ ls. ReadsAs final (inside p (heading t) ts no_blocks) ls) (sym (body_lines later))

@@ -18,9 +18,7 @@ use Rattle.sync_syntax.specs.inner.Views.{opener_of, block_of, opened_of}
 -- a statement stands before the others
 pub before-joined : (s : Statement) (rest last : Statements) → before s (joined rest last) ≡ joined (before s rest) last
 before-joined (statement.Plain c) rest last = refl
-before-joined (statement.Sync' local shape row) rest last = refl
-before-joined (statement.If' test shape row other_shape other) rest last = refl
-before-joined (statement.While' test shape row) rest last = refl
+before-joined _ rest last = refl
 
 -- one more statement
 pub all_of-push : (ss : List Statement) (s : Statement) → all_of (ss ++ s ∷ []) ≡ joined (all_of ss) (before s Nothing)

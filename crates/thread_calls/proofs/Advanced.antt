@@ -61,13 +61,11 @@ fits_end ending.Done = refl
 
 end_value : (n : ℕ) (g : Ending) → HasValue n (ending_entry g)
 end_value n (ending.Trap f i) = tt
-end_value n ending.Spent = tt
-end_value n ending.Done = tt
+end_value n _ = tt
 
 end_keeps : (g : Ending) → keeps (ending_entry g) ≡ true
 end_keeps (ending.Trap f i) = refl
-end_keeps ending.Spent = refl
-end_keeps ending.Done = refl
+end_keeps _ = refl
 
 -- what a pending call leaves, whatever it logged
 pub record IsLeftWith (h : HeapSeen) (k q : PassSeen) (u : Option Unfinished) (why : PendingCause) : Type 0 where
@@ -215,9 +213,8 @@ module _ (h : HeapSeen) (p : ProgramText) (fuel : ℕ) (k : PassSeen) (f : Frame
         let is = at_log (k.known.log ++ l ∷ []) holds f m.log next in
         let held_then = holds_after_entry p fuel t k.known.log counts f of.program framed (Unwinding g) (Left o) l mode asks (eq-eqb o o refl) tt in
         let held = (asked_of p s (Left o) (thread_is h p fuel k f of may) asks).held in
-        let one = held.1 in
         let same = ap (λ (hs : List ℕ). slice_index hs o) (holds_are (Unwinding g) mode) in
-        let falls = sum_left o holds counts held_then (omega (arith, held.0, next.count)) (omega (arith, one, same)) in
+        let falls = sum_left o holds counts held_then (omega (arith, held.0, next.count)) (omega (arith, held.1, same)) in
         progress_over f false holds is m.is_after m.unfinished m.runs m.call (omega arith) refl (omega (arith, falls))
 
     pub end_done : (g : Ending) → f.mode ≡ Some (Unwinding g) → held_from 0 counts ≡ None → HasLogged h k q (ending_entry g)

@@ -24,7 +24,7 @@ use Rattle.heap_table.specs.Resting.{Rests}
 use Rattle.heap_table.specs.Seen.{HeapSeen, PassSeen}
 use Rattle.lock_runtime.specs.LookParts.{HasDumped}
 use Rattle.lock_runtime.specs.Standing.{IsRunning, StandsAfterTurn}
-use Rattle.thread_calls.specs.Advances.{DoneIn, PendedIn, HasStepped, MadeCall}
+use Rattle.thread_calls.specs.Advances.{RanFrom, DoneIn, PendedIn, HasStepped, MadeCall}
 use Rattle.thread_calls.specs.inner.Made.{IsAfter, HasLogged, HasLeft}
 
 -- a run leaves its thread's number
@@ -92,12 +92,10 @@ missed_some ms h = after_some _ ms h.among
 
 pub cause_some : (t o : ℕ) (w : PendingCause) (ms : List StepMade) → Cause t o w ms → 1 ≤ length ms
 cause_some t o (why.Owned word) ms h = among_some _ ms h.2
-cause_some t o (why.NotNotified word) ms h = among_some _ ms h.1
 cause_some t o (why.Raced expected found) ms h = missed_some ms h
 cause_some t o why.Inflating ms h = among_some _ ms h
-cause_some t o (why.Stopping word) ms h = among_some _ ms h.1
-cause_some t o (why.Requested word) ms h = among_some _ ms h.1
 cause_some t o why.Halted ms h = among_some _ ms h.2
+cause_some t o _ ms h = among_some _ ms h.1
 
 overtaken_some : (Had : WordId → ℕ → List StepMade → Type 0) (w : PendingCause) (ms : List StepMade) → Overtaken Had w ms → 1 ≤ length ms
 overtaken_some Had (why.Raced expected found) ms h = missed_some ms h
@@ -140,18 +138,25 @@ module _ (h : HeapSeen) (k q : PassSeen) (c : Came h k q) where
       let d = did [] u false k.known q.known t in
       record { is_after = after_did d; log = did_none u false k.known q.known d; unfinished = d.unfinished; stands = stands; call = call }
 
-  module _ {A : Type 0} (Says : List StepMade → Progress A → Type 0) (progress : Progress A) (tells : Tells k.known q.known (λ ms. Says ms progress))
-      (stands : StandsAfterTurn q.known progress) where
-    -- by its progress, done or pending
-    pub progress_done : (a : A) (e : Entry) → progress ≡ Done a → ((ms : List StepMade) → Says ms (Done a) → Leaves (e ∷ []) None false ms)
-        → (task : HeapCall) → DoneIn h k q task → HasLogged h k q e
-    progress_done a e is so =
-        logged e (tells_so (subst (λ (x : Progress A). Tells k.known q.known (λ ms. Says ms x)) is tells) so) (subst (StandsAfterTurn q.known) is stands)
+  -- by its progress, done or pending, from which its answer is made
+  module _ {A B : Type 0} {d : StepTree B} (Says : List StepMade → B → Type 0) (progress : Progress A) (answer : Progress A → B)
+      (tells : Tells k.known q.known (λ ms. Says ms (answer progress))) (stands : StandsAfterTurn q.known progress)
+      (ran : RanFrom h d k q (answer progress)) where
+    pub progress_done : (a : A) (e : Entry) → progress ≡ Done a → ((ms : List StepMade) → Says ms (answer (Done a)) → Leaves (e ∷ []) None false ms)
+        → (task : HeapCall) → (RanFrom h d k q (answer (Done a)) → DoneIn h k q task) → HasLogged h k q e
+    progress_done a e is so task was =
+        logged e (tells_so (subst (λ (x : Progress A). Tells k.known q.known (λ ms. Says ms (answer x))) is tells) so)
+        (subst (StandsAfterTurn q.known) is stands) task (was (subst (λ (x : Progress A). RanFrom h d k q (answer x)) is ran))
 
     pub progress_left : (u : Option Unfinished) (why : PendingCause) → progress ≡ Pending why
-        → ((ms : List StepMade) → Says ms (Pending why) → Leaves [] u false ms)
-        → ((ms : List StepMade) → Says ms (Pending why) → 1 ≤ length ms) → (task : HeapCall) → PendedIn h why k q task → HasLeft h k q u why
-    progress_left u why is so some task pended =
-        let told = subst (λ (x : Progress A). Tells k.known q.known (λ ms. Says ms x)) is tells in
+        → ((ms : List StepMade) → Says ms (answer (Pending why)) → Leaves [] u false ms)
+        → ((ms : List StepMade) → Says ms (answer (Pending why)) → 1 ≤ length ms)
+        → (task : HeapCall) → (RanFrom h d k q (answer (Pending why)) → PendedIn h why k q task) → HasLeft h k q u why
+    progress_left u why is so some task was =
+        let told = subst (λ (x : Progress A). Tells k.known q.known (λ ms. Says ms (answer x))) is tells in
         left u why (tells_so told so) (stands_same A q.known why (subst (StandsAfterTurn q.known) is stands))
-        (record { task = task; is = pended; stepped = stepped_by k q told (some told.steps told.says) })
+        (record {
+          task = task;
+          is = was (subst (λ (x : Progress A). RanFrom h d k q (answer x)) is ran);
+          stepped = stepped_by k q told (some told.steps told.says);
+        })

@@ -59,9 +59,8 @@ module _ (s : Shape) where
       cases false w =
           let l : b ≤ a = ltb-false a b w in
           let e : b ≡ min a b = omega (arith, l) in
-          let one = h.1 in
           subst (λ (m : ℕ). IsLeastOf (length s.objects) (λ o. one_if (a == o) + count o) (Some m)) e
-          (h.0, omega (arith, one), λ j k. unnamed a j count (omega (arith, k, l)) (h.2 j k))
+          (h.0, omega (arith, h.1), λ j k. unnamed a j count (omega (arith, k, l)) (h.2 j k))
 
   all_words : (p : ℕ) (hs : List ℕ) → ((j : ℕ) → IsHold s (read_hold (slice_index hs j)))
       → IsLeastOf (length s.objects) (λ o. count_where (λ q h. names o h) p hs) (least_in hs)

@@ -37,7 +37,7 @@ use Rattle.plain_machine.specs.declared.monitor_call.NextEntry.TheVariants.{Call
 use Rattle.plain_machine.specs.declared.monitor_call.MonitorCall.{MonitorCall}
 use Rattle.plain_machine.specs.declared.monitor_call.MonitorCall.TheVariants as call
 use Rattle.plain_machine.specs.declared.monitor_call.Mode.{Mode}
-use Rattle.plain_machine.specs.declared.monitor_call.Mode.TheVariants.{Calling, Waiting, Unwinding, Ended}
+use Rattle.plain_machine.specs.declared.monitor_call.Mode.TheVariants.{Ended}
 use Rattle.plain_machine.specs.Asking.{ask, ask_in, fits}
 use Rattle.plain_machine.specs.Machine.{is_live}
 use Rattle.plain_machine.specs.Values.{IsValueOf}
@@ -64,7 +64,7 @@ same_end entry.Spent = refl
 same_end entry.Done = refl
 same_end e = refl
 
-same_ends : (log : List Logged) → ends log ≡ ends_by log
+pub same_ends : (log : List Logged) → ends log ≡ ends_by log
 same_ends [] = refl
 same_ends (l ∷ log) = λ i. same_end l.entry i || same_ends log i
 
@@ -92,13 +92,7 @@ two_at_most k w = omega arith
 
 same_self : (o : Operation) → same_op o o ≡ true
 same_self op.Enter = refl
-same_self op.Exit = refl
-same_self op.Wait = refl
-same_self op.Notify = refl
-same_self op.NotifyAll = refl
-same_self op.Hash = refl
-same_self op.Dump = refl
-same_self op.Create = refl
+same_self _ = refl
 
 goes_self : (w : Operation) (o : ℕ) (u : Option Unfinished) → u ≡ unfinished_on w o → goes_on_with w o u ≡ true
 goes_self w o u e = ap (goes_on_with w o) e ∙ and_from (same_op w w) (o == o) (same_self w) (eq-eqb o o refl)
@@ -112,16 +106,12 @@ at_most_none u v (inl e) n = ap is_none e
 at_most_none u v (inr e) n = ap is_none (e ∙ n)
 
 asks_lives : (s : ThreadState) (m : Mode) (a : NextEntry) → ask_in s m ≡ Some a → is_live (record s { mode = m }) ≡ true
-asks_lives s (Calling c) a h = refl
-asks_lives s (Waiting o) a h = refl
-asks_lives s (Unwinding e) a h = refl
 asks_lives s (Ended e) a h = absurd (cc h)
+asks_lives s _ a h = refl
 
 asks_work : (s : ThreadState) (m : Mode) (a : NextEntry) → ask_in s m ≡ Some a → 1 ≤ mode_work m
-asks_work s (Calling c) a h = omega arith
-asks_work s (Waiting o) a h = omega arith
-asks_work s (Unwinding e) a h = omega arith
 asks_work s (Ended e) a h = absurd (cc h)
+asks_work s _ a h = omega arith
 
 module _ (h : HeapSeen) (p : ProgramText) (fuel : ℕ) (k : PassSeen) (f : _) (of : IsHeapOf h p) (may : MayAdvance h p fuel k f) where
   abbrev s : ThreadState
@@ -284,8 +274,7 @@ module _ (h : HeapSeen) (p : ProgramText) (fuel : ℕ) (k : PassSeen) (f : _) (o
       may_do _ asks (task.Print v) (and_from _ _ (value_known v knows is) (act_ready _ asks (ap unfinished_of asks)))
   may_make_of (call.Dump n) asks other is =
       let dumps = dumps_are in
-      let next = is.0 in
-      (may_do _ asks task.Dump (op_ready _ asks op.Dump 0 (ap unfinished_of asks)), omega (arith, next, dumps), is.1)
+      (may_do _ asks task.Dump (op_ready _ asks op.Dump 0 (ap unfinished_of asks)), omega (arith, is.0, dumps), is.1)
 
   -- the call that it asks, if it isn't a wait
   pub may_make : (c : MonitorCall) → ask s ≡ Some (Calls c) → ((o : ℕ) → c ≡ call.Wait o → ⊥) → MayMake h k c

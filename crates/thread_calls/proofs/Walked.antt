@@ -7,7 +7,7 @@ use Rattle.lock_runtime.specs.Standing.{IsRunning}
 use Rattle.object_program.specs.Program.{ProgramText}
 use Rattle.plain_machine.specs.declared.monitor_call.MonitorCall.{MonitorCall}
 use Rattle.plain_machine.specs.declared.monitor_call.Mode.{Mode}
-use Rattle.plain_machine.specs.declared.monitor_call.Mode.TheVariants.{Calling, Waiting, Unwinding, Ended}
+use Rattle.plain_machine.specs.declared.monitor_call.Mode.TheVariants.{Calling, Unwinding}
 use Rattle.plain_machine.specs.Asking.{ask}
 use Rattle.plain_machine.specs.Thread.{ThreadState}
 use Rattle.thread_frame.specs.declared.walk.Walked.TheVariants.{Ran, Spent}
@@ -28,9 +28,7 @@ record IsLow (m : Option Mode) : Type 0 where
 after_local : (m : Option Mode) → IsAfterLocal m → IsLow m
 after_local None b = record { wait = refl; rank = omega arith }
 after_local (Some (Unwinding g)) b = record { wait = refl; rank = omega arith }
-after_local (Some (Calling c)) b = absurd b
-after_local (Some (Waiting o)) b = absurd b
-after_local (Some (Ended g)) b = absurd b
+after_local _ b = absurd b
 
 none_before : (m : Option Mode) → m ≡ None → is_some m ≡ true → ⊥
 none_before m e s = let z = ap is_some e in absurd (cc (z, s))

@@ -1,32 +1,18 @@
 -- A thread that hasn't ended has no ending entry in its log.
-use Rattle.std.proofs.Common.{◌≡◌, ℕ, zero, suc, ◌||◌, not, true, false, List, [], ◌∷◌, Option, Some, None, refl, sym, ap, ◌∙◌}
-use Rattle.plain_monitor.specs.declared.entry.Entry.{Entry}
-use Rattle.plain_monitor.specs.declared.entry.Entry.TheVariants.{Trap, Spent, Done}
-use Rattle.plain_monitor.specs.declared.entry.Logged.{Logged}
-use Rattle.core_world.specs.Clauses.Safepoints.{ends, is_ending}
+use Rattle.std.proofs.Common.{◌≡◌, ℕ, zero, suc, not, true, false, List, Option, Some, None, refl, sym, ap, ◌∙◌}
+use Rattle.core_world.specs.Clauses.Safepoints.{ends}
 use Rattle.heap_table.specs.Seen.{HeapSeen, PassSeen}
 use Rattle.object_program.specs.declared.program.Code.{Code}
 use Rattle.object_program.specs.Program.{ProgramText}
 use Rattle.plain_machine.specs.declared.monitor_call.Mode.{Mode}
-use Rattle.plain_machine.specs.declared.monitor_call.Mode.TheVariants.{Calling, Waiting, Unwinding, Ended}
+use Rattle.plain_machine.specs.declared.monitor_call.Mode.TheVariants.{Ended}
 use Rattle.plain_machine.specs.Machine.{code_of, is_live}
 use Rattle.plain_machine.specs.Running.{run_on, after_step, instruction_at}
 use Rattle.plain_machine.specs.Thread.{ThreadState, Step, Goes, Calls, Stops, step_of}
 use Rattle.thread_calls.specs.Between.{IsOn, state_by}
+use Rattle.thread_calls.proofs.May.{same_ends}
 use Rattle.thread_frame.specs.Frames.{FrameSeen, led_on, state_in, shown_mode, next_state, locals_of, has_ended, is_ended_mode}
-use Rattle.thread_logs.specs.Followed.{ends_by, is_end}
 use Rattle.thread_logs.proofs.Standing.{ends_told}
-
--- ENTRIES that end a thread, as a heap and as a program have them
-same_ending : (e : Entry) → is_ending e ≡ is_end e
-same_ending (Trap fault index) = refl
-same_ending Spent = refl
-same_ending Done = refl
-same_ending e = refl
-
-same_ends : (log : List Logged) → ends log ≡ ends_by log
-same_ends [] = refl
-same_ends (l ∷ log) = λ i. same_ending l.entry i || same_ends log i
 
 -- LOCAL INSTRUCTIONS lead to a call, or to where the thread unwinds.
 step_alive : (s : ThreadState) (n : ℕ) (step : Step) (go_on : ThreadState → ThreadState) → ((next : ThreadState) → is_live (go_on next) ≡ true)
@@ -44,10 +30,8 @@ runs_alive p code (suc n) s =
 led_alive : (p : ProgramText) (code : List Code) (mode : Option Mode) (s : ThreadState) → s.mode ≡ shown_mode mode → is_ended_mode mode ≡ false
     → is_live (led_on p code mode s) ≡ true
 led_alive p code None s shown live = runs_alive p code s.fuel s
-led_alive p code (Some (Calling c)) s shown live = ap (λ m. is_live (record s { mode = m })) shown
-led_alive p code (Some (Waiting o)) s shown live = ap (λ m. is_live (record s { mode = m })) shown
-led_alive p code (Some (Unwinding g)) s shown live = ap (λ m. is_live (record s { mode = m })) shown
 led_alive p code (Some (Ended g)) s shown live = absurd (cc live)
+led_alive p code _ s shown live = ap (λ m. is_live (record s { mode = m })) shown
 
 pub frame_alive : (p : ProgramText) (t : ℕ) (holds : List ℕ) (f : FrameSeen) → has_ended f ≡ false → is_live (next_state p t holds f) ≡ true
 frame_alive p t holds f live = led_alive p (code_of p t) f.mode (state_in (locals_of p t) holds f) refl live

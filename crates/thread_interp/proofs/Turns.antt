@@ -254,14 +254,13 @@ module _ (h : HeapSeen) (text : ProgramText) (fuel quantum : ℕ) (p q r : PassS
   pub gone_blocked : (why : PendingCause) → HasPolled h text fuel q r g g2 (Pending why)
       → HasGone h text fuel quantum p r f g2 (record { instructions = count; state = Blocked why })
   gone_blocked why did =
-      let e = did.spent.0 in
       let polls = polls_now did.stepped in
       record {
         on = did.on;
         unchecked = did.unchecked;
         thread = did.thread ∙ going.thread;
         most = omega (arith, going.few);
-        spent = omega (arith, going.spent, e);
+        spent = omega (arith, going.spent, did.spent.0);
         stepped = then_stepped p q r going.added did.stepped;
         polls = omega (arith, polls, going.polls);
         state = (did.spent.1, called_then p q r (PendedIn h why) h going.added did.called);
@@ -405,10 +404,8 @@ module _ (h : HeapSeen) (text : ProgramText) (fuel : ℕ) (p q : PassSeen) (f : 
   asked_still asks = subst (λ (x : PassSeen). IsAsking x.known) (sym (stood asks.runs)) asks
 
   stopped_stands : (state : RunState) → StandsGone p.known state → StandsAfter q.known state
-  stopped_stands Live so = was_stopped so
   stopped_stands (Blocked (Stopping word)) so = asked_still so
-  stopped_stands (Blocked why) so = was_stopped so
-  stopped_stands Ended so = was_stopped so
+  stopped_stands _ so = was_stopped so
 
   pub has_moved : (quantum : ℕ) (before ready : PassSeen) (first : FrameSeen) (set : IsSet h before ready)
       → ready.known.requesting ≡ before.known.requesting → (m : Moved) → HasGone h text fuel quantum ready p first f m

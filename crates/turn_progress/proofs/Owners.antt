@@ -1,9 +1,9 @@
 -- Where an enter or a wait of a thread left alone is pending for an owner, the owner word that it found names the object's plain owner.
-use Rattle.core_locks.proofs.Prelude.{◌≡◌, ◌≢◌, ℕ, ◌<◌, ◌==◌, ◌||◌, ◌++◌, cond, Bool, true, false, List, [], ◌∷◌, Option, Some, None, refl}
+use Rattle.core_locks.proofs.Prelude.{◌≡◌, ◌≢◌, ℕ, ◌<◌, ◌==◌, ◌||◌, cond, true, false, List, [], Option, Some, None, refl}
 use Rattle.core_locks.proofs.Prelude.{sym, ap, ◌∙◌, subst, arith, inl, inr, by_equal, or-false, same_Some, MarkForm, read_mark, mark_of}
-use Rattle.core_locks.proofs.Prelude.{PlainObject, Logged, Entry, WordId, Mark, Prototype, World, logs, logs_from, Fits, Shape, who, bears}
+use Rattle.core_locks.proofs.Prelude.{PlainObject, WordId, Mark, Prototype, World, logs, logs_from, Fits, Shape, who, bears}
 use Rattle.core_locks.proofs.Prelude.{owner_words, inflations, owner_at, monitor_of, hold_count, StepMade, ThreadView, Settled, revocation_in}
-use Rattle.std.proofs.Common.{Result, Ok, Err}
+use Rattle.std.proofs.Common.{Result, Ok}
 use Rattle.mark_word.specs.declared.mark.MarkForm.TheVariants as mark
 use Rattle.mark_word.specs.declared.owner.OwnerForm.{OwnerForm}
 use Rattle.mark_word.specs.declared.owner.OwnerForm.TheVariants.{Free, ByThread, ByRecord}
@@ -22,12 +22,10 @@ use Rattle.core_world.specs.declared.answer.Progress.TheVariants.{Done, Pending}
 use Rattle.core_world.specs.declared.answer.TooDeep.{TooDeep}
 use Rattle.core_world.specs.declared.heap_call.Operation.TheVariants as op
 use Rattle.core_world.specs.declared.heap_call.HeapCall.TheVariants as task
-use Rattle.core_world.specs.declared.plan.LogEffect.{LogEffect}
-use Rattle.core_world.specs.declared.plan.LogEffect.TheVariants.{Quiet, Log, LogGet, LogHash}
 use Rattle.core_world.specs.declared.word_id.WordId.TheVariants.{Owner, Waiting}
 use Rattle.core_world.specs.Locks.{holder, lock_form, owner_lock, prototype_of}
 use Rattle.core_world.specs.RevocationRules.{holds_in}
-use Rattle.core_world.specs.Steps.{is_idle, known_along, known_hit, known_miss, log_after}
+use Rattle.core_world.specs.Steps.{is_idle}
 use Rattle.core_world.specs.Threads.AtRest.{AtRest}
 use Rattle.core_world.specs.Threads.ThreadView.{Start}
 use Rattle.core_world.specs.Trees.Calls.{steps_of}
@@ -36,15 +34,14 @@ use Rattle.core_world.specs.Trees.Plans.{CallContext, call_context}
 use Rattle.core_world.specs.Trees.StepTree.{StepTree}
 use Rattle.core_world.specs.Trees.WaitSteps.{monitor_resume_steps, resume_at, resume_mark_at, resume_owner_at}
 use Rattle.core_world.specs.Valid.{IsValid}
-use Rattle.core_world.specs.Words.Acts.{hits}
-use Rattle.core_world.specs.Words.Forms.{hash_in, waits_on}
+use Rattle.core_world.specs.Words.Forms.{waits_on}
 use Rattle.core_world.specs.Words.Names.{class_by, same_name}
 use Rattle.core_world.specs.Words.Shape.{IsInLimits}
 use Rattle.core_world.proofs.bias.LookWhileRevoking.{forgotten}
 use Rattle.core_world.proofs.enter_exit.ObjectHolds.{same_owner}
 use Rattle.core_world.proofs.RefusedWorlds.{logs_same}
 use Rattle.core_calls.specs.CallsSay.{EnterSays, has_none, is_full}
-use Rattle.core_calls.specs.Paths.{noted, entries_of}
+use Rattle.core_calls.specs.Paths.{entries_of}
 use Rattle.core_calls.proofs.enter_exit.EntersSay.{enter_says}
 use Rattle.core_calls.proofs.Runs.{on_path}
 use Rattle.core_law.specs.Logic.{Heap}
@@ -57,55 +54,22 @@ use Rattle.solo_progress.specs.Answers.{LetsGo, PendsForOwner, RefusedWhere, who
 use Rattle.solo_progress.specs.LeftAlone.{IsLeftAlone, MayCallAlone, start_in}
 use Rattle.solo_progress.specs.Moves.{Moves, GetsThrough}
 use Rattle.solo_progress.proofs.Laws.{enters_any, fits}
-use Rattle.solo_progress.proofs.Mids.{Went, went, moved_comes}
+use Rattle.solo_progress.proofs.Mids.{Went, went, moved_comes, silent_log}
 use Rattle.solo_progress.proofs.OneRun.{Alone, alone_either, always_left, refused_or}
 use Rattle.solo_progress.proofs.Runs.{moves_found, gets_through}
 use Rattle.solo_progress.proofs.Worlds.{who_is_owner}
 use Rattle.turn_progress.specs.Barred.{named_by, NamesOwner}
 use Rattle.turn_progress.proofs.Shown.{NamesMonitor, ShowsIn, enters_shown}
 
--- STEPS THAT LOG NOTHING leave the log.
-both_none : {A : Type 0} (xs ys : List A) → xs ++ ys ≡ [] → (xs ≡ []) × (ys ≡ [])
-both_none [] ys e = (refl, e)
-both_none (x ∷ xs) ys e = absurd (cc e)
-
-silent_note : (note : LogEffect) (n : ℕ) (log : List Logged) → noted note n ≡ [] → log_after note n log ≡ log
-silent_note Quiet n log e = refl
-silent_note (Log entry) n log e = absurd (cc e)
-silent_note (LogGet o slot) n log e = absurd (cc e)
-silent_note (LogHash o) n log e = cases (hash_in n == 0) _ _ e
-  where
-    cases : (b : Bool) (entry : Entry) (x : List Logged) → cond b [] (entry ∷ []) ≡ [] → cond b log x ≡ log
-    cases true entry x e = refl
-    cases false entry x e = absurd (cc e)
-
-silent_log : (s : Shape) (start : ℕ) (ms : List StepMade) (k : ThreadView) → entries_of ms ≡ [] → (known_along s start ms k).log ≡ k.log
-silent_log s start [] k e = refl
-silent_log s start (m ∷ ms) k e =
-    let parts = both_none (entries_of ms) (cond (hits m.plan.act m.found) (noted m.plan.note m.found) []) e in
-    by_hit (hits m.plan.act m.found) parts.1 ∙ silent_log s start ms k parts.0
-  where
-    by_hit : (b : Bool) → cond b (noted m.plan.note m.found) [] ≡ []
-        → (cond b (known_hit s start m.plan m.found (known_along s start ms k)) (known_miss s start m.plan m.found (known_along s start ms k))).log
-        ≡ (known_along s start ms k).log
-    by_hit true h = silent_note m.plan.note m.found (known_along s start ms k).log h
-    by_hit false h = refl
-
 -- WORDS. A mark that is spelled as one that names a monitor is read so.
 same_form : (form : MarkForm) (n : ℕ) → mark_of form ≡ mark_of (mark.Inflated n) → form ≡ mark.Inflated n
-same_form mark.Inflating n e = absurd (omega (arith, e))
-same_form (mark.Neutral hash age) n e = absurd (omega (arith, e))
-same_form (mark.Anonymous epoch age) n e = absurd (omega (arith, e))
-same_form (mark.Biased thread epoch age) n e = absurd (omega (arith, e))
-same_form (mark.Locked thread place) n e = absurd (omega (arith, e))
 same_form (mark.Inflated monitor) n e = let same : monitor ≡ n = omega (arith, e) in ap mark.Inflated same
-same_form mark.Marked n e = absurd (omega (arith, e))
+same_form _ n e = absurd (omega (arith, e))
 
 holder_named : (form : Option OwnerForm) (count : ℕ → ℕ) → holder (owner_lock form) count ≡ named_by form
 holder_named None count = refl
 holder_named (Some Free) count = refl
-holder_named (Some (ByThread thread)) count = refl
-holder_named (Some (ByRecord thread place)) count = refl
+holder_named (Some _) count = refl
 
 -- A WORLD AFTER STEPS that logged nothing, of a thread that is at rest there: who has the lock of o by its monitor is the plain owner from before.
 module _ (heap : Heap) (limits : IsInLimits heap.shape) (w : World) (P : List PlainObject) (t : ℕ) (a : IsLeftAlone w t) (c : IsReachable heap w)
@@ -217,17 +181,10 @@ enters_named heap w objects t o now ready =
 
     by_answer : (a : Result (Progress Path) TooDeep) → ShowsIn o r.last.words a → EnterSays (start_in w t) o r.steps a
         → EnterNames (monitor_of objects o).owner a
-    by_answer (Err e) shown says = tt
-    by_answer (Ok (Done path)) shown says = tt
     by_answer (Ok (Pending (why.Owned word))) shown says =
         owner_then heap ready.call.limits w objects t ready.alone ready.call.reached ready.history r.steps r.last r.moves says.1.0.entries r.over o
         shown.0 word shown.1 shown.2
-    by_answer (Ok (Pending (why.NotNotified word))) shown says = tt
-    by_answer (Ok (Pending (why.Raced expected found))) shown says = tt
-    by_answer (Ok (Pending why.Inflating)) shown says = tt
-    by_answer (Ok (Pending (why.Stopping word))) shown says = tt
-    by_answer (Ok (Pending (why.Requested word))) shown says = tt
-    by_answer (Ok (Pending why.Halted)) shown says = tt
+    by_answer _ shown says = tt
 
 -- A WAIT that goes on, by the words that it begins with; one that begins lets go, and is pending for no owner.
 abbrev pub WaitNames : Option ℕ → Progress (Unit {0}) → Type 0

@@ -248,10 +248,8 @@ module _ (s : Shape) (e : CallContext) (k : Start) (o : ℕ) where
   enter_at_shown _ mark f reads is = tt
 
   unbiased_shown : (tried : BiasTry) (f : WordId → ℕ) → Stands e k.local o f tried → Alone T f (enter_unbiased tried s e k o)
-  unbiased_shown (Took path) f h = tt
   unbiased_shown (Unbiased mark) f is = enter_at_shown (read_mark mark) mark f refl is
-  unbiased_shown (Valid mark) f h = tt
-  unbiased_shown (Raced expected found) f h = tt
+  unbiased_shown _ f h = tt
 
   module _ (now : ℕ) (rebias : Bool) where
     abbrev b : Revocation

@@ -8,7 +8,7 @@ use Rattle.plain_monitor.specs.declared.entry.Path.TheVariants.{StackFirst}
 use Rattle.plain_monitor.specs.Monitor.{is_thread, is_listed}
 use Rattle.plain_machine.specs.declared.monitor_call.MonitorCall.TheVariants as call
 use Rattle.plain_machine.specs.declared.monitor_call.NextEntry.{NextEntry}
-use Rattle.plain_machine.specs.declared.monitor_call.NextEntry.TheVariants.{Calls, Resumes, Leaves, Ends}
+use Rattle.plain_machine.specs.declared.monitor_call.NextEntry.TheVariants.{Calls, Resumes}
 use Rattle.plain_machine.specs.declared.offer.Offer.TheVariants.{Waiting}
 use Rattle.plain_machine.specs.Thread.{ThreadState}
 use Rattle.plain_machine.specs.Asking.{ask}
@@ -55,17 +55,14 @@ no_hash_block o None = refl
 no_hash_block o (Some h) = refl
 
 asked_block : (m : PlainMachine) (u : ℕ) (a : Option NextEntry) (b : ℕ × ℕ) → blocker (asked_offer m u a) ≡ Some b → IsBlock m u (wish_of m u a) b
-asked_block m u None b h = absurd (cc h)
 asked_block m u (Some (Calls (call.Enter o))) b h = unless_block m u o (other_owner (monitor_at m o) u) (Enter o StackFirst) b refl h
 asked_block m u (Some (Calls (call.Hash x o))) b h = absurd (let none : None ≡ Some b = sym (no_hash_block o (object_at m o).hash) ∙ h in cc none)
-asked_block m u (Some (Calls c)) b h = absurd (cc h)
 asked_block m u (Some (Resumes o)) b h = by_test (is_listed (monitor_at m o).waits u) h where
   by_test : (w : Bool) → blocker (if w then Waiting o else unless_owned o (other_owner (monitor_at m o) u) (Resume o)) ≡ Some b
       → IsBlock m u (if w then None else Some o) b
   by_test true h = absurd (cc h)
   by_test false h = unless_block m u o (other_owner (monitor_at m o) u) (Resume o) b refl h
-asked_block m u (Some (Leaves o)) b h = absurd (cc h)
-asked_block m u (Some (Ends e)) b h = absurd (cc h)
+asked_block m u _ b h = absurd (cc h)
 
 -- whoever blocks a thread is waited for
 pub blocked_waits : (m : PlainMachine) (u : ℕ) (b : ℕ × ℕ) → blocker (offered m u) ≡ Some b → WaitsFor m u b.1 b.0
@@ -80,12 +77,10 @@ unless_given o w (Some v) e h = let same : v ≡ w = cc h in ap (λ (x : ℕ). S
 
 asked_given : (m : PlainMachine) (u w o : ℕ) (a : Option NextEntry) → wish_of m u a ≡ Some o
     → other_owner (monitor_at m o) u ≡ Some w → blocker (asked_offer m u a) ≡ Some (o, w)
-asked_given m u w o None e h = absurd (cc e)
 asked_given m u w o (Some (Calls (call.Enter k))) e h =
     let same : o ≡ k = cc e in
     let P : ℕ → Type 0 = λ x. blocker (unless_owned x (other_owner (monitor_at m x) u) (Enter x StackFirst)) ≡ Some (o, w) in
     subst P same (unless_given o w (other_owner (monitor_at m o) u) (Enter o StackFirst) h)
-asked_given m u w o (Some (Calls c)) e h = absurd (cc e)
 asked_given m u w o (Some (Resumes k)) e h = by_test (is_listed (monitor_at m k).waits u) e where
   by_test : (l : Bool) → (if l then None else Some k) ≡ Some o
       → blocker (if l then Waiting k else unless_owned k (other_owner (monitor_at m k) u) (Resume k)) ≡ Some (o, w)
@@ -94,8 +89,7 @@ asked_given m u w o (Some (Resumes k)) e h = by_test (is_listed (monitor_at m k)
       let same : o ≡ k = cc e in
       let P : ℕ → Type 0 = λ x. blocker (unless_owned x (other_owner (monitor_at m x) u) (Resume x)) ≡ Some (o, w) in
       subst P same (unless_given o w (other_owner (monitor_at m o) u) (Resume o) h)
-asked_given m u w o (Some (Leaves k)) e h = absurd (cc e)
-asked_given m u w o (Some (Ends g)) e h = absurd (cc e)
+asked_given m u w o _ e h = absurd (cc e)
 
 -- and whoever is waited for blocks the thread
 pub waiting_blocks : (m : PlainMachine) (u w o : ℕ) → WaitsFor m u w o → blocker (offered m u) ≡ Some (o, w)

@@ -21,11 +21,7 @@ enter_by o path e = if is_enter_by o path e then 1 else 0
 
 path_below : (path : Path) → path_number path < 6
 path_below BiasOwn = omega arith
-path_below BiasTaken = omega arith
-path_below StackFirst = omega arith
-path_below StackAgain = omega arith
-path_below MonitorFirst = omega arith
-path_below MonitorAgain = omega arith
+path_below _ = omega arith
 
 -- a path's count, where one was raised
 raised : (counts : List ℕ) (by path : Path) → length counts ≡ 6
@@ -91,11 +87,7 @@ counts_are o xs ns six is = six_counts ns six ∙ rw (is BiasOwn, is BiasTaken, 
 -- an object is entered where some path has an enter
 any_path : (f : Path → ℕ) (path : Path) → 1 ≤ f path → list_any (λ n. nat_le 1 n) (map f paths) ≡ true
 any_path f BiasOwn h = grind (arith, nat_tests)
-any_path f BiasTaken h = grind (arith, nat_tests)
-any_path f StackFirst h = grind (arith, nat_tests)
-any_path f StackAgain h = grind (arith, nat_tests)
-any_path f MonitorFirst h = grind (arith, nat_tests)
-any_path f MonitorAgain h = grind (arith, nat_tests)
+any_path f _ h = grind (arith, nat_tests)
 
 -- the path by which an object is entered
 record HasPath (o : ℕ) (xs : List (ℕ × Logged)) : Type 0 where

@@ -16,7 +16,7 @@ use Rattle.plain_machine.specs.declared.monitor_call.MonitorCall.TheVariants as 
 use Rattle.plain_machine.specs.declared.monitor_call.Mode.{Mode}
 use Rattle.plain_machine.specs.declared.monitor_call.Mode.TheVariants.{Calling, Waiting, Unwinding, Ended}
 use Rattle.plain_machine.specs.declared.monitor_call.NextEntry.{NextEntry}
-use Rattle.plain_machine.specs.declared.monitor_call.NextEntry.TheVariants.{Calls, Resumes, Leaves, Ends}
+use Rattle.plain_machine.specs.declared.monitor_call.NextEntry.TheVariants.{Calls, Resumes}
 use Rattle.plain_machine.specs.declared.offer.Offer.{Offer}
 use Rattle.plain_machine.specs.declared.offer.Offer.TheVariants as offer
 use Rattle.plain_machine.specs.Thread.{ThreadState}
@@ -71,10 +71,8 @@ owner_holds m o w s maker owns = by_place (cases_lt o (length m.objects)) where
 
 -- who has ended holds nothing
 holder_is_live : (p : ProgramText) (s : ThreadState) (mode : Mode) → IsModeOf p s mode → 1 ≤ sum s.holds → is_none (ending_in mode) ≡ true
-holder_is_live p s (Calling c) is held = refl
-holder_is_live p s (Waiting o) is held = refl
-holder_is_live p s (Unwinding e) is held = refl
 holder_is_live p s (Ended e) is held = absurd (omega (arith, is, held))
+holder_is_live p s _ is held = refl
 
 -- so an owner is live
 owner_is_live : (m : PlainMachine) (o w : ℕ) → IsReached m → (monitor_at m o).owner ≡ Some w → IsLive m w
@@ -130,10 +128,8 @@ resume_held m u o false at h = unless_held m u o (other_owner (monitor_at m o) u
 asked_held : (m : PlainMachine) (u : ℕ) (a : NextEntry) → is_next (asked_offer m u (Some a)) ≡ false → IsListedAt m u ⊎ IsBlock (asked_offer m u (Some a))
 asked_held m u (Calls (call.Enter o)) h = unless_held m u o (other_owner (monitor_at m o) u) (Enter o StackFirst) h
 asked_held m u (Calls (call.Hash x o)) h = absurd (true≢false (sym (hash_goes_on o (object_at m o).hash) ∙ h))
-asked_held m u (Calls c) h = absurd (true≢false h)
 asked_held m u (Resumes o) h = resume_held m u o (is_listed (monitor_at m o).waits u) refl h
-asked_held m u (Leaves o) h = absurd (true≢false h)
-asked_held m u (Ends e) h = absurd (true≢false h)
+asked_held m u _ h = absurd (true≢false h)
 
 live_held : (m : PlainMachine) (u : ℕ) (s : ThreadState) (mode : Mode) → is_none (ending_in mode) ≡ true → is_next (asked_offer m u (ask_in s mode)) ≡ false
     → IsListedAt m u ⊎ IsBlock (asked_offer m u (ask_in s mode))

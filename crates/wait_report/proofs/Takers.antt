@@ -4,7 +4,7 @@ use Rattle.std.proofs.Common.{◌∷◌, Option, Some, None, IsSome, option_and_
 use Rattle.plain_monitor.specs.declared.entry.Path.{Path}
 use Rattle.plain_monitor.specs.declared.entry.Entry.{Entry}
 use Rattle.plain_monitor.specs.declared.entry.Entry.TheVariants.{Enter, Exit, Get, Put, Wait, Resume, Notify, NotifyAll}
-use Rattle.plain_monitor.specs.declared.entry.Entry.TheVariants.{Hash, New, Print, Dump, Trap, Spent, Done}
+use Rattle.plain_monitor.specs.declared.entry.Entry.TheVariants.{Hash}
 use Rattle.plain_monitor.specs.declared.entry.Logged.{Logged}
 use Rattle.plain_monitor.specs.Monitor.{PlainMonitor}
 use Rattle.plain_monitor.specs.Objects.{PlainObject, take_entry}
@@ -117,12 +117,7 @@ entry_tallied o t (Put k i v) objects after y taker h =
     other_tallied o t k (Put k i v) objects after y taker (named_turns objects o t k (Put k i v) after h) (λ turn. turn)
 entry_tallied o t (Hash k v d) objects after y taker h =
     other_tallied o t k (Hash k v d) objects after y taker (named_turns objects o t k (Hash k v d) after h) (λ turn. turn)
-entry_tallied o t (New k c) objects after y taker h = untouched t (monitor_in objects o) (monitor_in after o) y taker (unnamed_turns objects o after h)
-entry_tallied o t (Print v) objects after y taker h = untouched t (monitor_in objects o) (monitor_in after o) y taker (unnamed_turns objects o after h)
-entry_tallied o t (Dump k) objects after y taker h = untouched t (monitor_in objects o) (monitor_in after o) y taker (unnamed_turns objects o after h)
-entry_tallied o t (Trap f i) objects after y taker h = untouched t (monitor_in objects o) (monitor_in after o) y taker (unnamed_turns objects o after h)
-entry_tallied o t Spent objects after y taker h = untouched t (monitor_in objects o) (monitor_in after o) y taker (unnamed_turns objects o after h)
-entry_tallied o t Done objects after y taker h = untouched t (monitor_in objects o) (monitor_in after o) y taker (unnamed_turns objects o after h)
+entry_tallied o t _ objects after y taker h = untouched t (monitor_in objects o) (monitor_in after o) y taker (unnamed_turns objects o after h)
 
 -- the handovers that are counted are those of the takings
 pub through_handovers : (o : ℕ) (xs : List (ℕ × Logged)) (objects : List PlainObject) (y : Tally)

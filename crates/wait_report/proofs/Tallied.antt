@@ -3,7 +3,7 @@ use Rattle.std.proofs.Common.{◌≡◌, ℕ, zero, suc, ◌+◌, ◌-◌, ◌<�
 use Rattle.std.proofs.Common.{List, [], ◌∷◌, ◌++◌, length, replicate, slice_set, refl, sym, ap, ◌∙◌, subst, arith}
 use Rattle.std.proofs.lemmas.List.{length-append, length-replicate, get_or-set_same, get_or-set_other}
 use Rattle.plain_monitor.specs.declared.entry.Path.{Path}
-use Rattle.plain_monitor.specs.declared.entry.Path.TheVariants.{BiasOwn, BiasTaken, StackFirst, StackAgain, MonitorFirst, MonitorAgain}
+use Rattle.plain_monitor.specs.declared.entry.Path.TheVariants.{BiasOwn}
 use Rattle.plain_monitor.specs.declared.entry.Entry.{Entry}
 use Rattle.plain_monitor.specs.declared.entry.Entry.TheVariants.{Enter, Resume}
 use Rattle.plain_monitor.specs.declared.entry.Logged.{Logged}
@@ -13,11 +13,7 @@ use Rattle.wait_report.specs.inner.Tallies.{new_tally, had_by, entered_by, tally
 -- nothing is counted at first
 pub none_yet : (path : Path) → count_at new_tally.paths path ≡ 0
 none_yet BiasOwn = refl
-none_yet BiasTaken = refl
-none_yet StackFirst = refl
-none_yet StackAgain = refl
-none_yet MonitorFirst = refl
-none_yet MonitorAgain = refl
+none_yet _ = refl
 
 -- the tally of object o after an entry of thread t
 abbrev pub tally_on : ℕ → Tally → ℕ → Entry → Tally

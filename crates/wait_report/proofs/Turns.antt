@@ -5,7 +5,7 @@ use Rattle.std.proofs.lemmas.List.{get_or-set_same, get_or-set_other}
 use Rattle.std.proofs.lemmas.Option.{cond_some, same_Some, none-some, slice_get_within, get_or_from_slice_get}
 use Rattle.plain_monitor.specs.declared.entry.Entry.{Entry}
 use Rattle.plain_monitor.specs.declared.entry.Entry.TheVariants.{Enter, Exit, Get, Put, Wait, Resume, Notify, NotifyAll}
-use Rattle.plain_monitor.specs.declared.entry.Entry.TheVariants.{Hash, New, Print, Dump, Trap, Spent, Done}
+use Rattle.plain_monitor.specs.declared.entry.Entry.TheVariants.{Hash}
 use Rattle.plain_monitor.specs.Monitor.{PlainMonitor, owns, is_thread, is_outside, only_if, enter, exit}
 use Rattle.plain_monitor.specs.Monitor.{wait, resume, resumed, count_of, calls, notify, notify_all}
 use Rattle.plain_monitor.specs.Objects.{PlainObject, new_object, take_at, take_named, with_monitor, with_hash, hashed}
@@ -93,12 +93,7 @@ object_turns x y t (Get o k v) h = let r = cond_some _ x y h in subst (λ (z : P
 object_turns x y t (Put o k v) h = let r = cond_some _ (record x { slots = slice_set x.slots k v }) y h in
     subst (λ (z : PlainObject). Keeps x.monitor z.monitor) r.1 (λ u e. e)
 object_turns x y t (Hash o v drawn) h = hash_stays x y (hashed x.hash v) h
-object_turns x y t (New o c) h = stays x y h
-object_turns x y t (Print v) h = stays x y h
-object_turns x y t (Dump k) h = stays x y h
-object_turns x y t (Trap f i) h = stays x y h
-object_turns x y t Spent h = stays x y h
-object_turns x y t Done h = stays x y h
+object_turns x y t _ h = stays x y h
 
 -- what an entry does to the owner of object o, by the object that it names
 pub record Turns (objects : List PlainObject) (o t k : ℕ) (e : Entry) (after : List PlainObject) : Type 0 where

@@ -12,13 +12,6 @@ use Rattle.wait_report.specs.inner.Walk.{blocker, link, links_from, cycle_from, 
 abbrev pub found_after : PlainMachine → ℕ → List Link → ℕ → ℕ → Option (List Link)
 found_after m first links n u = option_map (λ rest. links ++ rest) (links_from m first n u)
 
-after_none : (found : Option (List Link)) → found ≡ option_map (λ rest. [] ++ rest) found
-after_none None = refl
-after_none (Some links) = refl
-
-pub found_first : (m : PlainMachine) (first n : ℕ) → links_from m first n first ≡ found_after m first [] (n - 0) first
-found_first m first n = let same : n - 0 ≡ n = omega arith in rw same (after_none (links_from m first n first))
-
 -- a thread that waits for none leads nowhere
 pub found_none : (m : PlainMachine) (first n u : ℕ) (links : List Link) → 0 < n → blocker (offered m u) ≡ None → found_after m first links n u ≡ None
 found_none m first zero u links some at = absurd (omega arith)

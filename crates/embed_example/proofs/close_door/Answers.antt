@@ -20,22 +20,19 @@ close-requires-clause-order c =
 
 pub close-requires-clause-stopped : goal.close-requires-clause-stopped
 close-requires-clause-stopped c =
-    let two = c.in_ok-passes.ensures.passes in
-    subst (All (λ p. p.known.running ≡ false)) (sym two)
+    subst (All (λ p. p.known.running ≡ false)) (sym c.in_ok-passes.ensures.passes)
     (both (λ p. p.known.running ≡ false) c.args.first c.args.second c.requires.first.stopped.runs c.requires.second.stopped.runs)
 
 pub close-requires-clause-quiet : goal.close-requires-clause-quiet
 close-requires-clause-quiet c =
-    let two = c.in_ok-passes.ensures.passes in
-    inl (subst (All (λ p. p.known.requesting ≡ false)) (sym two)
+    inl (subst (All (λ p. p.known.requesting ≡ false)) (sym c.in_ok-passes.ensures.passes)
     (both (λ p. p.known.requesting ≡ false) c.args.first c.args.second c.requires.first.stopped.asks c.requires.second.stopped.asks))
 
 -- what is left are the whole logs
 pub returns-clause-legal : goal.returns-clause-legal
 returns-clause-legal c =
     let room = c.args.heap.room in
-    let two = c.in_ok-passes.ensures.passes in
-    let whole = c.close.ensures.whole (subst (All (λ (p : PassSeen). p.limit ≡ room)) (sym two)
+    let whole = c.close.ensures.whole (subst (All (λ (p : PassSeen). p.limit ≡ room)) (sym c.in_ok-passes.ensures.passes)
     (both (λ p. p.limit ≡ room) c.args.first c.args.second c.requires.first.whole c.requires.second.whole)) in
     subst (λ b. LegalObjects b.shape.objects c.close.result.logs) (sym c.close.ensures.heap)
     (subst (LegalObjects c.args.heap.heap.shape.objects) (sym whole) c.close.ensures.legal)
@@ -43,7 +40,6 @@ returns-clause-legal c =
 pub returns-clause-stamps : goal.returns-clause-stamps
 returns-clause-stamps c =
     let room = c.args.heap.room in
-    let two = c.in_ok-passes.ensures.passes in
-    let whole = c.close.ensures.whole (subst (All (λ (p : PassSeen). p.limit ≡ room)) (sym two)
+    let whole = c.close.ensures.whole (subst (All (λ (p : PassSeen). p.limit ≡ room)) (sym c.in_ok-passes.ensures.passes)
     (both (λ p. p.limit ≡ room) c.args.first c.args.second c.requires.first.whole c.requires.second.whole)) in
     subst StampsAreExact (sym whole) c.close.ensures.stamps

@@ -5,11 +5,10 @@ use Rattle.embed_example.proofs.end.Goals as goal
 
 pub finish-requires : goal.finish-requires
 finish-requires c =
-    let count = c.holds.ensures.holds in
     let none = c.if-holds-ne0.false in
     let room = c.room.ensures.room in
     let some = c.if-room-lt1.false in
-    may_finish c.args.heap.now c.args.pass.now _ c.holds.result c.requires count (grind (arith, none)) (grind (arith, room, some))
+    may_finish c.args.heap.now c.args.pass.now _ c.holds.result c.requires c.holds.ensures.holds (grind (arith, none)) (grind (arith, room, some))
 
 pub returns-clause-logged : goal.returns-clause-logged
 returns-clause-logged c =

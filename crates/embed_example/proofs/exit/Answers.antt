@@ -25,9 +25,8 @@ returns-in-Ok-Done c =
     let p = a.pass.now in
     let q = c.exit.new.pass in
     let e = c.in-Ok-Done.ensures in
-    let x = c.in-Ok-Done.field-0-0 in
     progress_done h p q c.requires.may.live e.rests e.run.limit (λ ms z. ExitSays (start_now h p) a.object ms (Ok z)) c.in-Ok-Done.field-0
-    e.says e.stands (IsDone act.Exit a.object) x (entry.Exit a.object ∷ []) c.in-Ok-Done.field-0-is (λ ms z. z.1) refl refl
+    e.says e.stands (IsDone act.Exit a.object) c.in-Ok-Done.field-0-0 (entry.Exit a.object ∷ []) c.in-Ok-Done.field-0-is (λ ms z. z.1) refl refl
 
 pub returns-in-Ok-Pending : goal.returns-in-Ok-Pending
 returns-in-Ok-Pending c =

@@ -38,8 +38,7 @@ returns-in-Pending c =
     let a = c.args in
     let h = a.heap.now in
     let p = a.pass.now in
-    let q = c.hash.new.pass in
     let e = c.in-Pending.ensures in
     let why = c.in-Pending.why in
-    progress_left h p q c.requires.may.live e.rests e.run.limit (λ ms z. HashSays (start_now h p) a.object ms z) (Pending why)
+    progress_left h p c.hash.new.pass c.requires.may.live e.rests e.run.limit (λ ms z. HashSays (start_now h p) a.object ms z) (Pending why)
     e.says e.stands (AllByRecursion (IsLeft act.Hash a.object)) op.Hash a.object why [] refl (λ ms z. z.0) tt refl

@@ -52,9 +52,7 @@ returns-in_err-give_way-in-Pending-clause-refused g c =
 
 pub give_way-requires : goal.give_way-requires
 give_way-requires g c =
-    let p = c.loop.pass in
-    let q = c.try_once.new.pass in
-    let t = tried_left c.args.act c.args.object c.args.heap.now p q c.in_ok-try_once.field-0 c.in-Pending.field-0
+    let t = tried_left c.args.act c.args.object c.args.heap.now c.loop.pass c.try_once.new.pass c.in_ok-try_once.field-0 c.in-Pending.field-0
     c.in_ok-try_once.ensures c.in-Pending.is in
     t.0.live.rests
 

@@ -22,9 +22,7 @@ wait-requires c =
       | then-waits_on w ↦ w.most-is ∙ ap (λ (b : Bool). cond b 1 2) (sym w.if-waits_on.true ∙ told)
       | else-waits_on w ↦ w.most-is ∙ ap (λ (b : Bool). cond b 1 2) (sym w.if-waits_on.false ∙ told)
     ] in
-    let room = c.room.ensures.room in
-    let some = c.if-room-most.false in
-    may_wait a.heap.now a.object 1 p c.requires.may c.requires.object (omega (arith, room, some, most))
+    may_wait a.heap.now a.object 1 p c.requires.may c.requires.object (omega (arith, c.room.ensures.room, c.if-room-most.false, most))
 
 pub returns-in-Ok-Done : goal.returns-in-Ok-Done
 returns-in-Ok-Done c =
@@ -33,9 +31,8 @@ returns-in-Ok-Done c =
     let p = a.pass.now in
     let q = c.wait.new.pass in
     let e = c.in-Ok-Done.ensures in
-    let x = c.in-Ok-Done.field-0-0 in
     progress_done h p q c.requires.may.live e.rests e.run.limit (λ ms z. WaitSays (start_now h p) a.object ms (Ok z)) c.in-Ok-Done.field-0
-    e.says e.stands (IsDone act.Wait a.object) x
+    e.says e.stands (IsDone act.Wait a.object) c.in-Ok-Done.field-0-0
     (begins_with (lets_go (start_now h p) a.object) a.object (entry.Resume a.object ∷ [])) c.in-Ok-Done.field-0-is (λ ms z. z.1)
     (wait_done a.object (lets_go (start_now h p) a.object)) (wait_over a.object (lets_go (start_now h p) a.object))
 

@@ -10,5 +10,4 @@ returns-in-None c =
 
 pub loop-t-preserved : goal.loop-t-preserved
 loop-t-preserved c =
-    let ss = c.args.machine.now.threads in
-    ended_goes ss c.loop-t.t c.in-Some.field-0 (sym c.in-Some.ensures) ∙ c.loop-t.invariant
+    ended_goes c.args.machine.now.threads c.loop-t.t c.in-Some.field-0 (sym c.in-Some.ensures) ∙ c.loop-t.invariant

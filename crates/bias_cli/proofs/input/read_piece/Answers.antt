@@ -8,8 +8,7 @@ use Rattle.bias_cli.proofs.input.read_piece.Goals.{After-read}
 -- a read leaves as long a buffer as it was given
 as_given : (g : Over) (c : After-read g) → length c.read.new.into ≡ c.min-room.result
 as_given g c =
-    let least = c.min-room.ensures in
-    let within : c.min-room.result ≤ 4096 = omega (arith, least) in
+    let within : c.min-room.result ≤ 4096 = omega (arith, c.min-room.ensures) in
     c.read.auto.into ∙ length-take-le c.min-room.result _ within
 
 pub overflow_add-most : goal.overflow_add-most
@@ -17,17 +16,14 @@ overflow_add-most g c = let limit = c.requires.limit in omega (arith, limit)
 
 pub overflow_sub-most : goal.overflow_sub-most
 overflow_sub-most g c =
-    let len = c.len.ensures in
-    let room = c.requires.room in
-    omega (arith, len, room)
+    omega (arith, c.len.ensures, c.requires.room)
 
 pub slice_bounds-buffer-end : goal.slice_bounds-buffer-end
 slice_bounds-buffer-end g c = let least = c.min-room.ensures in omega (arith, least)
 
 pub slice_bounds-read-end : goal.slice_bounds-read-end
 slice_bounds-read-end g c =
-    let least = c.min-room.ensures in
-    let within : c.min-room.result ≤ 4096 = omega (arith, least) in
+    let within : c.min-room.result ≤ 4096 = omega (arith, c.min-room.ensures) in
     sym (length-take-le c.min-room.result _ within)
 
 pub returns-in_default-clause-counted : goal.returns-in_default-clause-counted
@@ -70,14 +66,11 @@ returns-in-Ok-extend_from_slice-clause-more g c =
 
 pub returns-in-Ok-extend_from_slice-clause-most : goal.returns-in-Ok-extend_from_slice-clause-most
 returns-in-Ok-extend_from_slice-clause-most g c =
-    let len = c.len.ensures in
-    let room = c.requires.room in
-    let least = c.min-room.ensures in
     let long = as_given g (goal.at.returns-in-Ok-extend_from_slice-clause-most g c).After-read in
     let bound = c.in-Ok.ensures.bound in
     let more : vec_len c.extend_from_slice.new.self ≡ vec_len c.args.bytes.now + c.in-Ok.n =
     c.in-Ok-extend_from_slice.ensures.len ∙ ap (λ k. vec_len c.args.bytes.now + k) (front_length c.in-Ok.n c.read.new.into _ bound) in
-    omega (arith, len, room, least, long, bound, more)
+    omega (arith, c.len.ensures, c.requires.room, c.min-room.ensures, long, bound, more)
 
 pub returns-in-Ok-extend_from_slice-clause-took : goal.returns-in-Ok-extend_from_slice-clause-took
 returns-in-Ok-extend_from_slice-clause-took g c =
@@ -96,11 +89,8 @@ returns-in-Ok-extend_from_slice-clause-some g c =
 
 pub returns-in-Ok-extend_from_slice-clause-ended : goal.returns-in-Ok-extend_from_slice-clause-ended
 returns-in-Ok-extend_from_slice-clause-ended g c = λ none.
-    let len = c.len.ensures in
-    let room = c.requires.room in
-    let least = c.min-room.ensures in
     let long = as_given g (goal.at.returns-in-Ok-extend_from_slice-clause-ended g c).After-read in
-    c.in-Ok.ensures.ended none (omega (arith, len, room, least, long))
+    c.in-Ok.ensures.ended none (omega (arith, c.len.ensures, c.requires.room, c.min-room.ensures, long))
 
 pub returns-in-Err-clause-counted : goal.returns-in-Err-clause-counted
 returns-in-Err-clause-counted g c = c.read.ensures.counted

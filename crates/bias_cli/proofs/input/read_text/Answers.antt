@@ -17,17 +17,11 @@ read_piece-requires-clause-limit g c = c.requires
 
 pub read_piece-requires-clause-room : goal.read_piece-requires-clause-room
 read_piece-requires-clause-room g c =
-    let len = c.len.ensures in
-    let more = c.loop-source-test.true in
-    omega (arith, len, more)
+    omega (arith, c.len.ensures, c.loop-source-test.true)
 
 pub loop-source-smaller : goal.loop-source-smaller
 loop-source-smaller g c =
-    let len = c.len.ensures in
-    let room = c.loop-source-test.true in
-    let more = c.in_ok-read_piece.ensures.more in
-    let some = c.if-branch-eq0.false in
-    omega (arith, len, room, more, some)
+    omega (arith, c.len.ensures, c.loop-source-test.true, c.in_ok-read_piece.ensures.more, c.if-branch-eq0.false)
 
 pub loop-source-preserved : goal.loop-source-preserved
 loop-source-preserved g c =
@@ -63,9 +57,7 @@ returns-clause-took g c =
 
 pub returns-in_err-read_piece-clause-counted : goal.returns-in_err-read_piece-clause-counted
 returns-in_err-read_piece-clause-counted g c =
-    let before = c.loop-source.invariant.counted in
-    let more = c.read_piece.ensures.counted in
-    omega (arith, before, more)
+    omega (arith, c.loop-source.invariant.counted, c.read_piece.ensures.counted)
 
 pub returns-in_err-read_piece-clause-some : goal.returns-in_err-read_piece-clause-some
 returns-in_err-read_piece-clause-some g c =

@@ -23,9 +23,7 @@ push_reserved-requires g c =
     let left = c.in-Some.thing ∷ c.next.new.self.rest.items in
     let all = ap length (ap (λ l. before ++ l) (sym c.in-Some.ensures.steps.0) ∙ inv.whole) in
     let parts = length-append before left in
-    let len = inv.len in
-    let room = inv.room in
-    omega (arith, all, parts, len, room)
+    omega (arith, all, parts, inv.len, inv.room)
 
 pub loop-thing-preserved : goal.loop-thing-preserved
 loop-thing-preserved g c =
@@ -33,14 +31,12 @@ loop-thing-preserved g c =
     let before = c.loop-thing.yielded in
     let thing = c.in-Some.thing in
     let pushed = c.push_reserved.ensures in
-    let added = pushed.len in
-    let capacity = pushed.capacity in
     let len = inv.len in
     let room = inv.room in
     let more = length_push before thing in
     record {
       whole = append_assoc before (thing ∷ []) c.next.new.self.rest.items ∙ ap (λ l. before ++ l) (sym c.in-Some.ensures.steps.0) ∙ inv.whole;
       items = pushed.items ∙ ap (λ l. l ++ Some thing ∷ []) inv.items ∙ sym (map-append Some before (thing ∷ []));
-      len = omega (arith, added, len, more);
-      room = omega (arith, room, capacity);
+      len = omega (arith, pushed.len, len, more);
+      room = omega (arith, room, pushed.capacity);
     }

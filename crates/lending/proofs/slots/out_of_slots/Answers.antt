@@ -25,28 +25,23 @@ push_reserved-requires g c =
     let left = c.in-Some.slot ∷ c.next.new.self.rest.items in
     let all = ap length (ap (λ l. before ++ l) (sym c.in-Some.ensures.steps.0) ∙ inv.whole) in
     let parts = length-append before left in
-    let len = inv.len in
-    let room = inv.room in
-    omega (arith, all, parts, len, room)
+    omega (arith, all, parts, inv.len, inv.room)
 
 pub loop-slot-preserved-in-Some-slot : goal.loop-slot-preserved-in-Some-slot
 loop-slot-preserved-in-Some-slot g c =
     let inv = c.loop-slot.invariant in
     let before = c.loop-slot.yielded in
     let slot = c.in-Some.slot in
-    let thing = c.in-Some-slot.thing in
     let pushed = c.push_reserved.ensures in
-    let added = pushed.len in
-    let capacity = pushed.capacity in
     let len = inv.len in
     let room = inv.room in
     let more = length_push before slot in
     record {
       whole = append_assoc before (slot ∷ []) c.next.new.self.rest.items ∙ ap (λ l. before ++ l) (sym c.in-Some.ensures.steps.0) ∙ inv.whole;
-      items = λ xs e. ap (map Some) pushed.items ∙ map-append Some c.loop-slot.things.items (thing ∷ [])
+      items = λ xs e. ap (map Some) pushed.items ∙ map-append Some c.loop-slot.things.items (c.in-Some-slot.thing ∷ [])
           ∙ λ i. inv.items xs e i ++ sym c.in-Some-slot.is i ∷ [];
-      len = omega (arith, added, len, more);
-      room = omega (arith, room, capacity);
+      len = omega (arith, pushed.len, len, more);
+      room = omega (arith, room, pushed.capacity);
     }
 
 pub loop-slot-preserved : goal.loop-slot-preserved

@@ -44,7 +44,6 @@ loop-number-preserved c =
     let m = c.args.machine.now in
     let n : Numbering = numbering_of m.program in
     let objects = c.objects-objects.result.now in
-    let out = c.loop-number.out.items in
     let none : is_some (class_if_there n m.made c.loop-number.number) ≡ false =
     ap is_some (sym c.class_of.ensures) ∙ sym c.is_some.ensures ∙ c.if-is_some.false in
     let first : c.declared_total-first.result ≡ first_made n =
@@ -55,4 +54,4 @@ loop-number-preserved c =
     words_jump n m.made objects c.loop-number.number (λ o x at none.
     c.requires.untouched o x (subst (λ (xs : List PlainObject). slice_get xs o ≡ Some x) c.objects-objects.ensures at) none) none
     ∙ ap (λ (j : ℕ). objects_words j (drop j objects)) to in
-    ap (λ (zs : List ℕ). out ++ zs) (sym same) ∙ c.loop-number.invariant
+    ap (λ (zs : List ℕ). c.loop-number.out.items ++ zs) (sym same) ∙ c.loop-number.invariant

@@ -18,18 +18,17 @@ hold-requires c =
     let here : slice_get threads c.loop-t.t ≡ Some s =
     slice_get-get_or threads c.loop-t.t c.index-threads-t.result (omega (arith, c.loop-t-test.true, inv.count)) in
     let first : slice_get c.args.threads.now c.loop-t.t ≡ Some s =
-    sym (left_at (hold_step c.args.number c.args.object.now) c.args.threads.now [] c.loop-t.t threads [] inv c.loop-t.t (omega arith)) ∙ here in
+    sym (left_at inv c.loop-t.t (omega arith)) ∙ here in
     all_at (λ (s : ThreadState). c.args.number < length s.holds) c.args.threads.now c.loop-t.t s c.requires.number first
 
 pub loop-t-preserved : goal.loop-t-preserved
 loop-t-preserved c =
     let inv = c.loop-t.invariant in
     let within : c.loop-t.t < length c.loop-t.threads = omega (arith, c.loop-t-test.true, inv.count) in
-    walks_more (hold_step c.args.number c.args.object.now) c.args.threads.now [] c.loop-t.t c.loop-t.threads [] c.hold.new.thread
-    c.index-threads-t.result [] within c.in_ok-hold.ensures.held refl inv
+    walks_more c.hold.new.thread c.index-threads-t.result [] inv within c.in_ok-hold.ensures.held refl
 
 pub returns : goal.returns
 returns c =
     let inv = c.loop-t.invariant in
     let past : length c.loop-t.threads ≤ c.loop-t.t = omega (arith, c.loop-t-test.false, inv.count) in
-    record { lost = tt; held = sym (walks_all (hold_step c.args.number c.args.object.now) c.args.threads.now [] c.loop-t.t c.loop-t.threads [] past inv).0 }
+    record { lost = tt; held = sym (walks_all inv past).0 }

@@ -13,11 +13,10 @@ pub loop-t-preserved : goal.loop-t-preserved
 loop-t-preserved c =
     let inv = c.loop-t.invariant in
     let within : c.loop-t.t < length c.loop-t.threads = omega (arith, c.loop-t-test.true, inv.count) in
-    walks_more (place_step c.args.program.now c.args.fuel) c.args.threads.now [] c.loop-t.t c.loop-t.threads [] c.place_thread.new.thread
-    c.index-threads-t.result [] within c.place_thread.ensures refl inv
+    walks_more c.place_thread.new.thread c.index-threads-t.result [] inv within c.place_thread.ensures refl
 
 pub returns : goal.returns
 returns c =
     let inv = c.loop-t.invariant in
     let past : length c.loop-t.threads ≤ c.loop-t.t = omega (arith, c.loop-t-test.false, inv.count) in
-    sym (walks_all (place_step c.args.program.now c.args.fuel) c.args.threads.now [] c.loop-t.t c.loop-t.threads [] past inv).0
+    sym (walks_all inv past).0

@@ -42,7 +42,6 @@ pub returns-in_err-read_threads-clause-lost : goal.returns-in_err-read_threads-c
 returns-in_err-read_threads-clause-lost c =
     let p = c.args.program.now in
     let ws = c.args.words.now in
-    let old : PlainMachine = record { program = p; objects = c.args.objects.now; made = c.args.register.now.made; threads = c.args.threads.now } in
     let lost : IsLost ((m : PlainMachine) × IsReached m × HasNumbers m × (m.program ≡ p) × (words_of m ≡ ws)) c.in_err-read_threads.field-0.0 =
     lost_by c.in_err-read_threads.field-0.0
     (λ h.
@@ -59,7 +58,6 @@ pub returns-in_err-read_made-clause-lost : goal.returns-in_err-read_made-clause-
 returns-in_err-read_made-clause-lost c =
     let p = c.args.program.now in
     let ws = c.args.words.now in
-    let old : PlainMachine = record { program = p; objects = c.args.objects.now; made = c.args.register.now.made; threads = c.args.threads.now } in
     let lost : IsLost ((m : PlainMachine) × IsReached m × HasNumbers m × (m.program ≡ p) × (words_of m ≡ ws)) c.in_err-read_made.field-0.0 =
     lost_by c.in_err-read_made.field-0.0
     (λ h.

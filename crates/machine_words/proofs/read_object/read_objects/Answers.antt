@@ -30,7 +30,6 @@ pub loop-at-preserved : goal.loop-at-preserved
 loop-at-preserved c =
     let inv = c.loop-at.invariant in
     let ws = c.args.words.now in
-    let first = c.args.objects.now in
     let objects = c.loop-at.objects in
     let next : ℕ = slice_index_or ws c.loop-at.at 0 in
     let rest : List ℕ = drop c.loop-at.at ws in
@@ -40,26 +39,23 @@ loop-at-preserved c =
     let within : next < length objects = omega (arith, c.if-next-objects.false, inv.walks.count) in
     let here : rest ≡ next ∷ drop (c.loop-at.at + 1) ws = drop_more ws c.loop-at.at 0 c.loop-at-test.true in
     let before =
-    read_jump first objects (drop c.args.at.now ws) rest c.loop-at.number next c.requires.new c.if-next-number.false
-    (λ j lt. begins_later next j rest (drop (c.loop-at.at + 1) ws) here lt) inv.walks in
+    read_jump next c.requires.new c.if-next-number.false (λ j lt. begins_later next j rest (drop (c.loop-at.at + 1) ws) here lt) inv.walks in
     let reads = step_reads next old rest (begins_here next rest (drop (c.loop-at.at + 1) ws) here) in
     let same : placed ≡ new = get_or-set_same objects next new c.index-objects-number-in-loop-at.result within in
     record {
       within = omega (arith, within, inv.walks.count);
       walks =
-          walks_more object_step first (drop c.args.at.now ws) next objects rest new c.index-objects-number.result (drop c.read_at.new.at ws) within
+          walks_more new c.index-objects-number.result (drop c.read_at.new.at ws) before within
           (c.in_ok-read_at.ensures.object ∙ ap (λ (r : PlainObject × List ℕ). r.0) reads)
-          (c.in_ok-read_at.ensures.rest ∙ ap (λ (r : PlainObject × List ℕ). r.1) reads)
-          before;
+          (c.in_ok-read_at.ensures.rest ∙ ap (λ (r : PlainObject × List ℕ). r.1) reads);
       threads =
           held_more next placed objects c.args.threads.now c.loop-at.threads c.place_object.new.threads inv.threads c.in_ok-place_object.ensures.held
           ∙ ap (λ (x : PlainObject). beside (slice_set objects next x) 0 c.args.threads.now) same;
       told = λ xs are is.
           let was = inv.told xs are is in
           let g = goes_on_with c.loop-at.number xs next (drop (c.loop-at.at + 1) ws) (sym was.1 ∙ here) in
-          let old_is : slice_get first next ≡ Some old =
-          sym (left_at object_step first (drop c.args.at.now ws) next objects rest before next (omega arith))
-          ∙ slice_get-get_or objects next c.index-objects-number.result within in
+          let old_is : slice_get c.args.objects.now next ≡ Some old =
+          sym (left_at before next (omega arith)) ∙ slice_get-get_or objects next c.index-objects-number.result within in
           let back = object_read old g.object rest (drop (c.loop-at.at + 1) ws) _ next here g.rest (are.slots next g.object old g.at old_is)
           (are.values next g.object g.at) in
           let is_read : new ≡ g.object = c.in_ok-read_at.ensures.object ∙ ap (λ (r : PlainObject × List ℕ). r.0) back in (
@@ -84,16 +80,13 @@ pub returns-then-next-number-clause-lost : goal.returns-then-next-number-clause-
 returns-then-next-number-clause-lost c =
     let inv = c.loop-at.invariant in
     let ws = c.args.words.now in
-    let first = c.args.objects.now in
-    let objects = c.loop-at.objects in
     let next : ℕ = slice_index_or ws c.loop-at.at 0 in
     let rest : List ℕ = drop c.loop-at.at ws in
     let here : rest ≡ next ∷ drop (c.loop-at.at + 1) ws = drop_more ws c.loop-at.at 0 c.loop-at-test.true in
-    let either = c.then-next-number.either in
     λ h.
     let was = inv.told h.0 h.1 h.2 in
     let g = goes_on_with c.loop-at.number h.0 next (drop (c.loop-at.at + 1) ws) (sym was.1 ∙ here) in
-    omega (arith, g.from, got_within h.0 next g.object g.at, h.1.count, inv.walks.count, either)
+    omega (arith, g.from, got_within h.0 next g.object g.at, h.1.count, inv.walks.count, c.then-next-number.either)
 
 pub returns-in_err-read_at-clause-lost : goal.returns-in_err-read_at-clause-lost
 returns-in_err-read_at-clause-lost c =
@@ -107,11 +100,9 @@ returns-in_err-read_at-clause-lost c =
     let old = slice_index_or objects next c.index-objects-number.result in
     let within : next < length objects = omega (arith, c.if-next-objects.false, inv.walks.count) in
     let before =
-    read_jump first objects (drop c.args.at.now ws) rest c.loop-at.number next c.requires.new c.if-next-number.false
-    (λ j lt. begins_later next j rest (drop (c.loop-at.at + 1) ws) here lt) inv.walks in
+    read_jump next c.requires.new c.if-next-number.false (λ j lt. begins_later next j rest (drop (c.loop-at.at + 1) ws) here lt) inv.walks in
     let old_is : slice_get first next ≡ Some old =
-    sym (left_at object_step first (drop c.args.at.now ws) next objects rest before next (omega arith))
-    ∙ slice_get-get_or objects next c.index-objects-number.result within in
+    sym (left_at before next (omega arith)) ∙ slice_get-get_or objects next c.index-objects-number.result within in
     let lost : IsLost ((xs : List PlainObject) × AreTold (length c.args.threads.now) first xs × (drop c.args.at.now ws ≡ objects_words 0 xs))
     c.in_err-read_at.field-0.0 =
     lost_by c.in_err-read_at.field-0.0
@@ -135,11 +126,9 @@ returns-in_err-place_object-clause-lost c =
     let old = slice_index_or objects next c.index-objects-number.result in
     let within : next < length objects = omega (arith, c.if-next-objects.false, inv.walks.count) in
     let before =
-    read_jump first objects (drop c.args.at.now ws) rest c.loop-at.number next c.requires.new c.if-next-number.false
-    (λ j lt. begins_later next j rest (drop (c.loop-at.at + 1) ws) here lt) inv.walks in
+    read_jump next c.requires.new c.if-next-number.false (λ j lt. begins_later next j rest (drop (c.loop-at.at + 1) ws) here lt) inv.walks in
     let old_is : slice_get first next ≡ Some old =
-    sym (left_at object_step first (drop c.args.at.now ws) next objects rest before next (omega arith))
-    ∙ slice_get-get_or objects next c.index-objects-number.result within in
+    sym (left_at before next (omega arith)) ∙ slice_get-get_or objects next c.index-objects-number.result within in
     let new = c.read_at.new.object in
     let placed = slice_index_or (slice_set objects next new) next c.index-objects-number-in-loop-at.result in
     let same : placed ≡ new = get_or-set_same objects next new c.index-objects-number-in-loop-at.result within in
@@ -166,11 +155,8 @@ pub returns-clause-objects : goal.returns-clause-objects
 returns-clause-objects c =
     let inv = c.loop-at.invariant in
     let ws = c.args.words.now in
-    let first = c.args.objects.now in
-    let objects = c.loop-at.objects in
     let rest : List ℕ = drop c.loop-at.at ws in
     let none : rest ≡ [] = drop_all c.loop-at.at ws c.loop-at-test.false in
     let all =
-    read_jump first objects (drop c.args.at.now ws) rest c.loop-at.number (length objects) c.requires.new (omega (arith, inv.within, inv.walks.count))
-    (λ j lt. ap (begins j) none) inv.walks in
-    sym (walks_all object_step first (drop c.args.at.now ws) (length objects) objects rest (omega arith) all).0
+    read_jump (length c.loop-at.objects) c.requires.new (omega (arith, inv.within, inv.walks.count)) (λ j lt. ap (begins j) none) inv.walks in
+    sym (walks_all all (omega arith)).0

@@ -1,12 +1,11 @@
-use Rattle.std.proofs.Common.{◌≡◌, ◌-◌, drop}
+use Rattle.std.proofs.Common.{ℕ, List, drop}
+use Rattle.plain_monitor.specs.Objects.{PlainObject}
 use Rattle.machine_words.specs.Readers.{read_pairs}
-use Rattle.machine_words.specs.inner.Reading.{Reads}
 use Rattle.machine_words.specs.inner.Telling.{TellsPairs}
+use Rattle.machine_words.proofs.Loops.{Fills}
 use Rattle.machine_words.proofs.read_object.read_waiting.Given as goal
 
 abbrev pub invariant-loop : goal.invariant-loop
-invariant-loop l = record {
-  same : l.object ≡ record l.initial.object { monitor = record l.initial.object.monitor { waits = l.object.monitor.waits } };
-  reads : Reads read_pairs l.initial.object.monitor.waits l.count (drop l.initial.at l.words) l.object.monitor.waits (l.count - l.counter) (drop l.at l.words);
-  told : TellsPairs l.count (drop l.initial.at l.words) → TellsPairs (l.count - l.counter) (drop l.at l.words);
-}
+invariant-loop l =
+    Fills (λ (x : PlainObject). x.monitor.waits) (λ (x : PlainObject) (ps : List (ℕ × ℕ)). record x { monitor = record x.monitor { waits = ps } })
+    read_pairs TellsPairs l.initial.object l.count (drop l.initial.at l.words) l.object l.counter (drop l.at l.words)

@@ -30,8 +30,7 @@ loop-t-preserved c =
     let after : List ℕ = drop c.read_row.new.at ws in
     let within : c.loop-t.t < length c.loop-t.register.made = omega (arith, inv.walks.count, inv.end) in
     let more =
-    walks_more row_step first (drop c.args.at.now ws) c.loop-t.t c.loop-t.register.made rest (read_row rest).0 [] after within refl
-    c.in_ok-read_row.ensures.rest inv.walks in
+    walks_more (read_row rest).0 [] after inv.walks within refl c.in_ok-read_row.ensures.rest in
     record {
       numbering = c.in_ok-read_row.ensures.numbering ∙ inv.numbering;
       end = inv.end;
@@ -56,17 +55,13 @@ returns-in_err-read_row-clause-lost c =
 pub returns-clause-made : goal.returns-clause-made
 returns-clause-made c =
     let inv = c.loop-t.invariant in
-    let first = c.args.register.now.made in
     let words : List ℕ = drop c.args.at.now c.args.words.now in
     let past : length c.loop-t.register.made ≤ c.loop-t.t = omega (arith, inv.walks.count, inv.end) in
-    let all = walks_all row_step first words c.loop-t.t c.loop-t.register.made (drop c.loop-t.at c.args.words.now) past inv.walks in
-    sym all.0 ∙ ap (λ (r : List (List ℕ) × List ℕ). r.0) (rows_walked 0 first words)
+    sym (walks_all inv.walks past).0 ∙ ap (λ (r : List (List ℕ) × List ℕ). r.0) (rows_walked 0 c.args.register.now.made words)
 
 pub returns-clause-rest : goal.returns-clause-rest
 returns-clause-rest c =
     let inv = c.loop-t.invariant in
-    let first = c.args.register.now.made in
     let words : List ℕ = drop c.args.at.now c.args.words.now in
     let past : length c.loop-t.register.made ≤ c.loop-t.t = omega (arith, inv.walks.count, inv.end) in
-    let all = walks_all row_step first words c.loop-t.t c.loop-t.register.made (drop c.loop-t.at c.args.words.now) past inv.walks in
-    sym all.1 ∙ ap (λ (r : List (List ℕ) × List ℕ). r.1) (rows_walked 0 first words)
+    sym (walks_all inv.walks past).1 ∙ ap (λ (r : List (List ℕ) × List ℕ). r.1) (rows_walked 0 c.args.register.now.made words)

@@ -24,10 +24,8 @@ loop-thread-preserved c =
     let left : length first - c.loop-thread.thread-index ≡ suc less = omega (arith, within, inv.count) in
     record {
       walks =
-          walks_more (thread_step c.args.fuel) c.args.threads.now
-          (drop c.args.at.now c.args.words.now) c.loop-thread.thread-index c.loop-thread.threads (drop c.loop-thread.at c.args.words.now)
-          c.read_thread.new.thread c.thread-item.result
-          (drop c.read_thread.new.at c.args.words.now) within c.in_ok-read_thread.ensures.thread c.in_ok-read_thread.ensures.rest inv;
+          walks_more c.read_thread.new.thread c.thread-item.result
+          (drop c.read_thread.new.at c.args.words.now) inv within c.in_ok-read_thread.ensures.thread c.in_ok-read_thread.ensures.rest;
       told = λ h. subst (TellsThreads less) (sym c.in_ok-read_thread.ensures.rest)
           (thread_next (length first - c.loop-thread.thread-index) less here left (c.loop-thread.invariant.told h)).1;
     }
@@ -48,12 +46,10 @@ pub returns-clause-threads : goal.returns-clause-threads
 returns-clause-threads c =
     let inv = c.loop-thread.invariant.walks in
     let past : length c.loop-thread.threads ≤ c.loop-thread.thread-index = omega (arith, c.loop-thread-test.false, inv.count) in
-    sym (walks_all (thread_step c.args.fuel) c.args.threads.now (drop c.args.at.now c.args.words.now) c.loop-thread.thread-index c.loop-thread.threads
-    (drop c.loop-thread.at c.args.words.now) past inv).0
+    sym (walks_all inv past).0
 
 pub returns-clause-rest : goal.returns-clause-rest
 returns-clause-rest c =
     let inv = c.loop-thread.invariant.walks in
     let past : length c.loop-thread.threads ≤ c.loop-thread.thread-index = omega (arith, c.loop-thread-test.false, inv.count) in
-    sym (walks_all (thread_step c.args.fuel) c.args.threads.now (drop c.args.at.now c.args.words.now) c.loop-thread.thread-index c.loop-thread.threads
-    (drop c.loop-thread.at c.args.words.now) past inv).1
+    sym (walks_all inv past).1

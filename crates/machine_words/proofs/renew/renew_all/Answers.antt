@@ -49,8 +49,7 @@ loop-number-preserved-then-is_some c =
     record {
       walks =
           subst (λ (xs : List PlainObject). Walks renew_step first [] (number + 1) xs []) (sym c.in_ok-renew_at.ensures.objects)
-          (walks_more renew_step first [] number objects [] (renewed (slice_index_or objects number (new_object 0))) (new_object 0) [] within refl refl
-          inv.walks);
+          (walks_more (renewed (slice_index_or objects number (new_object 0))) (new_object 0) [] inv.walks within refl refl);
       threads =
           c.in_ok-renew_at.ensures.threads ∙ ap (beside new 0) inv.threads ∙ beside_again new objects 0 c.args.threads.now;
       below = subst (λ (xs : List PlainObject). HeldBelow xs first) (sym c.in_ok-renew_at.ensures.objects)
@@ -88,5 +87,4 @@ pub returns-clause-objects : goal.returns-clause-objects
 returns-clause-objects c =
     let inv = c.loop-number.invariant in
     let past : length c.loop-number.objects ≤ c.loop-number.number = omega (arith, c.loop-number-test.false, inv.walks.count) in
-    sym (walks_all renew_step c.args.objects.now [] c.loop-number.number c.loop-number.objects [] past inv.walks).0
-    ∙ renewed_walked 0 c.args.objects.now []
+    sym (walks_all inv.walks past).0 ∙ renewed_walked 0 c.args.objects.now []

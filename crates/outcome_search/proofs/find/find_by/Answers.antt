@@ -14,6 +14,5 @@ returns g c =
     let search : IsSearch (next_key w.program w.fuel w.steps) (length w.program.threads) (first_key w.program w.fuel w.steps) c.args.limit f =
     subst (λ (key : List ℕ). IsSearch (next_key w.program w.fuel w.steps) (length w.program.threads) key c.args.limit f) c.requires.first
     c.in_ok-found.ensures.found in
-    let same = c.search.new.moves.same in
     is_counted w.program w.fuel w.steps c.args.limit f c.in_ok-outcomes.outcomes search
-    (c.in_ok-outcomes.ensures.counted ∙ ap (λ (z : Ways). counted (uncounted f) 0 (ends_of z.program z.fuel f.keys)) same)
+    (c.in_ok-outcomes.ensures.counted ∙ ap (λ (z : Ways). counted (uncounted f) 0 (ends_of z.program z.fuel f.keys)) c.search.new.moves.same)

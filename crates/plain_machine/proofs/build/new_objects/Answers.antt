@@ -26,5 +26,4 @@ returns-clause-total c =
     let all = ap length c.in_ok-push_objects.ensures in
     let joined = length-append c.in_ok-objects.objects.items (replicate (c.objects_total.result - c.declared_total.result) (new_object c.made_slots.result)) in
     let more = length-replicate (c.objects_total.result - c.declared_total.result) (new_object c.made_slots.result) in
-    let declared = c.in_ok-objects.ensures.total in
-    omega (arith, all, joined, more, declared, many c, c.push_objects.new.objects.ok.0, c.in_ok-objects.objects.ok.0)
+    omega (arith, all, joined, more, c.in_ok-objects.ensures.total, many c, c.push_objects.new.objects.ok.0, c.in_ok-objects.objects.ok.0)

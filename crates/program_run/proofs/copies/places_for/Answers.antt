@@ -11,7 +11,4 @@ loop-preserved c =
 
 pub returns : goal.returns
 returns c =
-    let many = c.loop.invariant in
-    let all = c.loop-test.false in
-    let fits = c.loop.auto.index-end in
-    omega (arith, many, all, fits)
+    omega (arith, c.loop.invariant, c.loop-test.false, c.loop.auto.index-end)

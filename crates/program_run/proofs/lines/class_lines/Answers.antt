@@ -10,8 +10,7 @@ loop-class-init c = c.in_ok-lines.ensures.items
 pub class_line-requires-clause-class : goal.class_line-requires-clause-class
 class_line-requires-clause-class c =
     let many : c.classes-classes.result ≡ c.args.closed.now.heap.shape.classes = c.classes-classes.ensures ∙ ap (λ (s : Shape). s.classes) c.shape.ensures in
-    let within = c.loop-class-test.true in
-    omega (arith, many, within)
+    omega (arith, many, c.loop-class-test.true)
 
 pub class_line-requires-clause-small : goal.class_line-requires-clause-small
 class_line-requires-clause-small c = c.requires
@@ -22,7 +21,5 @@ loop-class-preserved c = line_more c.args.closed.now c.loop-class.class _ _ _ c.
 pub returns : goal.returns
 returns c =
     let many : c.classes-classes.result ≡ c.args.closed.now.heap.shape.classes = c.classes-classes.ensures ∙ ap (λ (s : Shape). s.classes) c.shape.ensures in
-    let over = c.loop-class-test.false in
-    let fits = c.loop-class.auto.class-end in
-    let all : c.loop-class.class ≡ c.args.closed.now.heap.shape.classes = omega (arith, many, over, fits) in
+    let all : c.loop-class.class ≡ c.args.closed.now.heap.shape.classes = omega (arith, many, c.loop-class-test.false, c.loop-class.auto.class-end) in
     c.of.ensures ∙ c.loop-class.invariant ∙ ap (lines_below c.args.closed.now) all

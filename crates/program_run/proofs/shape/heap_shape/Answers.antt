@@ -12,8 +12,7 @@ with_made-requires-clause-room c =
 
 pub with_made-requires-clause-class : goal.with_made-requires-clause-class
 with_made-requires-clause-class c =
-    let shape = c.in_ok-shape.ensures.shape in
-    subst (λ (s : Shape). 1 ≤ s.classes) (sym shape) (has_class c.args.program.now c.in_ok-shape.ensures.program
+    subst (λ (s : Shape). 1 ≤ s.classes) (sym c.in_ok-shape.ensures.shape) (has_class c.args.program.now c.in_ok-shape.ensures.program
     (λ e. c.if-total-declared.false (c.objects_total-total.ensures ∙ e ∙ sym c.declared_total-declared.ensures)))
 
 pub with_made-requires-clause-slots : goal.with_made-requires-clause-slots

@@ -12,7 +12,5 @@ loop-preserved c =
 
 pub returns : goal.returns
 returns c =
-    let over = c.loop-test.false in
-    let fits = c.loop.auto.counter-end in
-    let all : c.loop.counter ≡ c.args.size = omega (arith, over, fits) in
+    let all : c.loop.counter ≡ c.args.size = omega (arith, c.loop-test.false, c.loop.auto.counter-end) in
     c.loop.invariant ∙ ap (λ n. c.args.classes.now.items ++ replicate n c.args.class) all

@@ -25,6 +25,5 @@ loop-class-preserved c =
 pub returns : goal.returns
 returns c =
     let inv = c.loop-class.invariant in
-    let all = c.items-class-items.result.now in
-    all_pushed (λ (d : ClassDef). d.slots) all c.loop-class.class-index _ c.loop-class-test.false inv.slots
+    all_pushed (λ (d : ClassDef). d.slots) c.items-class-items.result.now c.loop-class.class-index _ c.loop-class-test.false inv.slots
     ∙ ap (λ (ds : List ClassDef). map (λ d. d.slots) ds) inv.items

@@ -15,8 +15,6 @@ loop-pass-preserved c =
     let inv = c.loop-pass.invariant in
     let before = c.loop-pass.yielded in
     let pushed = c.push_reserved.ensures in
-    let added = pushed.len in
-    let capacity = pushed.capacity in
     let len = inv.len in
     let room = inv.room in
     let more = length_push before c.in-Some.pass in
@@ -26,8 +24,8 @@ loop-pass-preserved c =
       items =
           pushed_on (runner_on c.args.fuel) before c.in-Some.pass c.new.result c.loop-pass.runners.items c.push_reserved.new.self.items
           inv.items pushed.items c.new.ensures;
-      len = omega (arith, added, len, more);
-      room = omega (arith, room, capacity);
+      len = omega (arith, pushed.len, len, more);
+      room = omega (arith, room, pushed.capacity);
     }
 
 pub returns : goal.returns

@@ -28,8 +28,6 @@ loop-runner-preserved c =
     let inv = c.loop-runner.invariant in
     let before = c.loop-runner.yielded in
     let pushed = c.push_reserved.ensures in
-    let added = pushed.len in
-    let capacity = pushed.capacity in
     let len = inv.len in
     let room = inv.room in
     let more = length_push before c.in-Some.runner in
@@ -40,8 +38,8 @@ loop-runner-preserved c =
       items =
           pushed_on (λ (r : RunnerSeen). r.pass) before c.in-Some.runner c.into_pass.result c.loop-runner.passes.items c.push_reserved.new.self.items
           inv.items pushed.items c.into_pass.ensures;
-      len = omega (arith, added, len, more);
-      room = omega (arith, room, capacity);
+      len = omega (arith, pushed.len, len, more);
+      room = omega (arith, room, pushed.capacity);
     }
 
 pub returns : goal.returns

@@ -40,11 +40,10 @@ close-requires-clause-order g c =
 
 pub close-requires-clause-stopped : goal.close-requires-clause-stopped
 close-requires-clause-stopped g c =
-    let done = c.in_ok-runners.ensures in
     let rs = c.in_ok-runners.runners.items in
     let same : c.of.result ≡ passes rs = c.of.ensures ∙ c.into_passes-passes.ensures in
     subst (All (λ (p : PassSeen). p.known.running ≡ false)) (sym same)
-    (all_still c.args.heap c.args.terms.now.program.now c.args.terms.now.fuel rs done.runners)
+    (all_still c.args.heap c.args.terms.now.program.now c.args.terms.now.fuel rs c.in_ok-runners.ensures.runners)
 
 pub close-requires-clause-quiet : goal.close-requires-clause-quiet
 close-requires-clause-quiet g c =

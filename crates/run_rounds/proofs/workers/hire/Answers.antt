@@ -10,8 +10,7 @@ hire-requires-clause-table g c = c.loop-i.invariant.table ∙ c.requires.table
 
 pub hire-requires-clause-knows : goal.hire-requires-clause-knows
 hire-requires-clause-knows g c =
-    let few = c.requires.few in
-    (all_parts - c.loop-i.i, false, omega (arith, few), c.loop-i.invariant.free)
+    (all_parts - c.loop-i.i, false, omega (arith, c.requires.few), c.loop-i.invariant.free)
 
 pub loop-i-preserved : goal.loop-i-preserved
 loop-i-preserved g c =
@@ -19,12 +18,11 @@ loop-i-preserved g c =
     let pushed = c.push_reserved.ensures in
     let table = c.args.pool.now.slots.shared.table_id in
     let room = inv.room in
-    let capacity = pushed.capacity in
     let less : all_parts - c.loop-i.i - 1 ≡ all_parts - (c.loop-i.i + 1) = omega arith in
     record {
       table = c.hire.ensures.seat.0 ∙ c.loop-i.invariant.table;
       len = c.push_reserved.ensures.len ∙ ap (λ n. n + 1) c.loop-i.invariant.len;
-      room = omega (arith, room, capacity);
+      room = omega (arith, room, pushed.capacity);
       free = parts_left c.loop-i.own.me c.hire.new.seat.me (all_parts - c.loop-i.i) (all_parts - (c.loop-i.i + 1)) inv.free c.hire.ensures.seat.1 less;
       all = all_with (λ (w : Worker). (w.seat.table_id ≡ table) × (w.seat.me ≡ (seat_view 1 None false, []))) c.loop-i.workers.items
           c.push_reserved.new.self.items (record { seat = c.hire.result }) pushed.items inv.all

@@ -21,9 +21,7 @@ first_from-requires-clause-next g c = c.loop.invariant.next
 
 pub overflow_add-next : goal.overflow_add-next
 overflow_add-next g c =
-    let p = c.in-Some-first_from.ensures.0 in
-    let s = c.args.work.now.pool.now.sized.2 in
-    omega (arith, p, s)
+    omega (arith, c.in-Some-first_from.ensures.0, c.args.work.now.pool.now.sized.2)
 
 pub visit-moved-requires-clause-course : goal.visit-moved-requires-clause-course
 visit-moved-requires-clause-course g c = c.requires.course
@@ -39,9 +37,7 @@ visit-moved-requires-clause-table g c = c.notes-stalled.ensures.table ∙ c.loop
 
 pub visit-moved-requires-clause-place : goal.visit-moved-requires-clause-place
 visit-moved-requires-clause-place g c =
-    let p = c.in-Some-first_from.ensures.0 in
-    let s = c.args.work.now.pool.now.sized.1 in
-    omega (arith, p, s)
+    omega (arith, c.in-Some-first_from.ensures.0, c.args.work.now.pool.now.sized.1)
 
 pub visit-moved-requires-clause-free : goal.visit-moved-requires-clause-free
 visit-moved-requires-clause-free g c = c.notes-stalled.ensures.free
@@ -92,9 +88,7 @@ first_from-requires-else-not-stand_still-clause-next g c = c.loop.invariant.next
 
 pub overflow_add-next-in-Some-first_from-2 : goal.overflow_add-next-in-Some-first_from-2
 overflow_add-next-in-Some-first_from-2 g c =
-    let p = c.in-Some-first_from-2.ensures.0 in
-    let s = c.args.work.now.pool.now.sized.2 in
-    omega (arith, p, s)
+    omega (arith, c.in-Some-first_from-2.ensures.0, c.args.work.now.pool.now.sized.2)
 
 pub look-moved-requires-clause-course : goal.look-moved-requires-clause-course
 look-moved-requires-clause-course g c = c.requires.course
@@ -107,9 +101,7 @@ look-moved-requires-clause-table g c = c.sees_over.ensures.table ∙ c.notes-sta
 
 pub look-moved-requires-clause-place : goal.look-moved-requires-clause-place
 look-moved-requires-clause-place g c =
-    let p = c.in-Some-first_from-2.ensures.0 in
-    let s = c.args.work.now.pool.now.sized.1 in
-    omega (arith, p, s)
+    omega (arith, c.in-Some-first_from-2.ensures.0, c.args.work.now.pool.now.sized.1)
 
 pub look-moved-requires-clause-free : goal.look-moved-requires-clause-free
 look-moved-requires-clause-free g c = c.if-sees_over.ensures.seen

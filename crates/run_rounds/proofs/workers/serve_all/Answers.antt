@@ -74,6 +74,4 @@ end-requires-clause-empty g c = c.requires.room.0
 
 pub end-requires-clause-room : goal.end-requires-clause-room
 end-requires-clause-room g c =
-    let slots = c.in-Ok.ensures.ok.0 in
-    let room = c.requires.room.1 in
-    omega (arith, slots, room)
+    omega (arith, c.in-Ok.ensures.ok.0, c.requires.room.1)

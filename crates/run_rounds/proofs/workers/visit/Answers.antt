@@ -45,11 +45,8 @@ note-requires-clause-table g c = c.give_turn-outcome.ensures.table ∙ c.take.en
 
 pub note-requires-clause-place : goal.note-requires-clause-place
 note-requires-clause-place g c =
-    let p = c.requires.place in
     let s = c.args.work.now.pool.now.sized in
-    let slots = s.1 in
-    let few = s.2 in
-    omega (arith, p, slots, few)
+    omega (arith, c.requires.place, s.1, s.2)
 
 pub note-requires-clause-free : goal.note-requires-clause-free
 note-requires-clause-free g c = ap (λ (m : Me RunnerSeen SeatView). m.1) c.give_turn-outcome.ensures.free

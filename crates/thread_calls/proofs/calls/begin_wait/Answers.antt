@@ -42,8 +42,7 @@ unreachable-requires g c =
     let s = state_by run.heap.now run.program.now a.pass.now f in
     let paid = asked_of run.program.now s (Calls w) (thread_is run.heap.now run.program.now run.fuel a.pass.now f r.heap r.may) asks in
     let one = held_is run.heap.now run.program.now run.fuel a.pass.now f r.heap r.may a.object paid.call in
-    let none = c.in-Err.ensures.owner in
-    absurd (omega (arith, one, none))
+    absurd (omega (arith, one, c.in-Err.ensures.owner))
 
 pub returns-in-Done-clause-advanced : goal.returns-in-Done-clause-advanced
 returns-in-Done-clause-advanced g c =
@@ -84,33 +83,18 @@ returns-else-has_let_go-clause-advanced g c =
 
 pub returns-in-Done-clause-timed : goal.returns-in-Done-clause-timed
 returns-in-Done-clause-timed g c =
-    let a = c.args in
-    let run = a.run.now in
-    let h = run.heap.now in
-    let k = a.pass.now in
-    let q = c.wait.new.pass in
-    let now = c.time_now.result in
-    timed_at run.tick (task.Wait a.object now) k.known q.known now refl c.time_now.ensures
-    (called (wait_named h.heap.shape (start_now h k) a.object now) c.in-Ok.ensures.run.ran)
+    let run = c.args.run.now in
+    timed_at run.tick (task.Wait c.args.object c.time_now.result) _ _ c.time_now.result refl c.time_now.ensures
+    (called (wait_named run.heap.now.heap.shape (start_now run.heap.now c.args.pass.now) c.args.object c.time_now.result) c.in-Ok.ensures.run.ran)
 
 pub returns-then-has_let_go-clause-timed : goal.returns-then-has_let_go-clause-timed
 returns-then-has_let_go-clause-timed g c =
-    let a = c.args in
-    let run = a.run.now in
-    let h = run.heap.now in
-    let k = a.pass.now in
-    let q = c.wait.new.pass in
-    let now = c.time_now.result in
-    timed_at run.tick (task.Wait a.object now) k.known q.known now refl c.time_now.ensures
-    (called (wait_named h.heap.shape (start_now h k) a.object now) c.in-Ok.ensures.run.ran)
+    let run = c.args.run.now in
+    timed_at run.tick (task.Wait c.args.object c.time_now.result) _ _ c.time_now.result refl c.time_now.ensures
+    (called (wait_named run.heap.now.heap.shape (start_now run.heap.now c.args.pass.now) c.args.object c.time_now.result) c.in-Ok.ensures.run.ran)
 
 pub returns-else-has_let_go-clause-timed : goal.returns-else-has_let_go-clause-timed
 returns-else-has_let_go-clause-timed g c =
-    let a = c.args in
-    let run = a.run.now in
-    let h = run.heap.now in
-    let k = a.pass.now in
-    let q = c.wait.new.pass in
-    let now = c.time_now.result in
-    timed_at run.tick (task.Wait a.object now) k.known q.known now refl c.time_now.ensures
-    (called (wait_named h.heap.shape (start_now h k) a.object now) c.in-Ok.ensures.run.ran)
+    let run = c.args.run.now in
+    timed_at run.tick (task.Wait c.args.object c.time_now.result) _ _ c.time_now.result refl c.time_now.ensures
+    (called (wait_named run.heap.now.heap.shape (start_now run.heap.now c.args.pass.now) c.args.object c.time_now.result) c.in-Ok.ensures.run.ran)

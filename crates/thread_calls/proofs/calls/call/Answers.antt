@@ -32,9 +32,8 @@ returns-in-Enter-clause-advanced g c =
 
 pub returns-in-Enter-clause-timed : goal.returns-in-Enter-clause-timed
 returns-in-Enter-clause-timed g c =
-    let i = c.in-Enter in
     let now = c.time_now.result in
-    timed_at c.args.run.now.tick (task.Enter i.object now) c.args.pass.now.known c.enter-progress.new.pass.known now refl c.time_now.ensures
+    timed_at c.args.run.now.tick (task.Enter c.in-Enter.object now) c.args.pass.now.known c.enter-progress.new.pass.known now refl c.time_now.ensures
     c.enter-progress.ensures.called
 
 pub exit-progress-requires-clause-may : goal.exit-progress-requires-clause-may
@@ -141,11 +140,10 @@ pub returns-in_default : goal.returns-in_default
 returns-in_default g c =
     let a = c.args in
     let run = a.run.now in
-    let d = c.in_default in
     let b = c.go_past-in_default in
     record {
       advanced = came_after run.heap.now run.program.now run.fuel a.pass.now a.frame.now a.call a.call refl c.requires.heap c.requires.may
-          (no_wait a.call (λ o e. d.not-Wait o e)) c.call_runtime-progress.new.pass b.new.frame c.call_runtime-progress.result
+          (no_wait a.call (λ o e. c.in_default.not-Wait o e)) c.call_runtime-progress.new.pass b.new.frame c.call_runtime-progress.result
           (progress_of b.result b.new.cause)
           c.call_runtime-progress.ensures.made b.ensures;
       timed = c.call_runtime-progress.ensures.timed;

@@ -1,13 +1,10 @@
 use Rattle.std.proofs.Common.{◌≡◌, eq-eqb, eqb-true, length, Ok, refl, sym, ◌∙◌, subst, arith}
-use Rattle.core_world.specs.declared.answer.Progress.TheVariants.{Done, Pending}
 use Rattle.core_world.specs.declared.heap_call.Operation.TheVariants as op
 use Rattle.core_world.specs.declared.heap_call.HeapCall.TheVariants as task
-use Rattle.core_world.specs.Trees.Operations.{dump_steps}
 use Rattle.plain_monitor.specs.declared.entry.Entry.TheVariants as entry
 use Rattle.core_calls.specs.CallsSay.{DumpSays}
 use Rattle.core_calls.specs.Paths.{Tells}
 use Rattle.heap_table.specs.Resting.{start_now}
-use Rattle.thread_calls.specs.Advances.{RanFrom}
 use Rattle.thread_calls.specs.Asked.{unfinished_on}
 use Rattle.thread_calls.proofs.After.{came_dumped, cause_some, progress_done, progress_left}
 use Rattle.core_calls.proofs.Called.{called}
@@ -27,14 +24,12 @@ returns-in-Done-clause-made c =
     let q = c.dump.new.pass in
     let e = c.in-Ok.ensures in
     let x = c.in-Done.number in
-    let is : c.in-Ok.progress ≡ Done x = c.in-Done.is in
-    let ran = subst (λ z. RanFrom h (dump_steps h.heap.shape (start_now h k)) k q (Ok z)) is e.run.ran in
-    let told = subst (λ z. Tells k.known q.known (λ ms. DumpSays (start_now h k) ms (Ok z))) is e.says in
+    let told = subst (λ z. Tells k.known q.known (λ ms. DumpSays (start_now h k) ms (Ok z))) c.in-Done.is e.says in
     let number : a.number ≡ x = c.requires.number ∙ sym told.says.1.0 in
     record {
       logged = entry.Dump x;
-      is = progress_done h k q (came_dumped e.rests e.run) (λ ms z. DumpSays (start_now h k) ms (Ok z)) c.in-Ok.progress
-          e.says e.stands x (entry.Dump x) is (λ ms z. z.1.1) task.Dump (x, ran);
+      is = progress_done h k q (came_dumped e.rests e.run) (DumpSays (start_now h k)) c.in-Ok.progress (λ z. Ok z)
+          e.says e.stands e.run.ran x (entry.Dump x) c.in-Done.is (λ ms z. z.1.1) task.Dump (λ r. (x, r));
       of = record { is = eq-eqb a.number x number; value = tt };
       same = λ f. refl;
     }
@@ -44,27 +39,18 @@ returns-in-Pending-clause-made c =
     let a = c.args in
     let h = a.heap.now in
     let k = a.pass.now in
-    let q = c.dump.new.pass in
     let e = c.in-Ok.ensures in
-    let why = c.in-Pending.why in
-    let is : c.in-Ok.progress ≡ Pending why = c.in-Pending.is in
-    let ran = subst (λ z. RanFrom h (dump_steps h.heap.shape (start_now h k)) k q (Ok (z))) is e.run.ran in (
-      progress_left h k q (came_dumped e.rests e.run) (λ ms z. DumpSays (start_now h k) ms (Ok z)) c.in-Ok.progress
-          e.says e.stands (unfinished_on op.Dump 0) why is (λ ms z. z.1.0)
-          (λ ms z. cause_some k.known.thread 0 why ms z.1.1.0.cause) task.Dump ran,
+    let why = c.in-Pending.why in (
+      progress_left h k c.dump.new.pass (came_dumped e.rests e.run) (DumpSays (start_now h k)) c.in-Ok.progress (λ z. Ok z)
+          e.says e.stands e.run.ran (unfinished_on op.Dump 0) why c.in-Pending.is (λ ms z. z.1.0)
+          (λ ms z. cause_some k.known.thread 0 why ms z.1.1.0.cause) task.Dump (λ r. r),
       refl,
     )
 
 pub returns-in-Done-clause-called : goal.returns-in-Done-clause-called
 returns-in-Done-clause-called c =
-    let a = c.args in
-    let h = a.heap.now in
-    let k = a.pass.now in
-    called (dump_named h.heap.shape (start_now h k)) c.in-Ok.ensures.run.ran
+    called (dump_named c.args.heap.now.heap.shape (start_now c.args.heap.now c.args.pass.now)) c.in-Ok.ensures.run.ran
 
 pub returns-in-Pending-clause-called : goal.returns-in-Pending-clause-called
 returns-in-Pending-clause-called c =
-    let a = c.args in
-    let h = a.heap.now in
-    let k = a.pass.now in
-    called (dump_named h.heap.shape (start_now h k)) c.in-Ok.ensures.run.ran
+    called (dump_named c.args.heap.now.heap.shape (start_now c.args.heap.now c.args.pass.now)) c.in-Ok.ensures.run.ran

@@ -1,12 +1,9 @@
-use Rattle.std.proofs.Common.{◌≡◌, eq-eqb, Ok, refl, subst}
-use Rattle.core_world.specs.declared.answer.Progress.TheVariants.{Done, Pending}
+use Rattle.std.proofs.Common.{eq-eqb, Ok, refl}
 use Rattle.core_world.specs.declared.heap_call.Operation.TheVariants as op
 use Rattle.core_world.specs.declared.heap_call.HeapCall.TheVariants as task
-use Rattle.core_world.specs.Trees.Operations.{enter_steps}
 use Rattle.plain_monitor.specs.declared.entry.Entry.TheVariants as entry
 use Rattle.core_calls.specs.CallsSay.{EnterSays}
 use Rattle.heap_table.specs.Resting.{start_now}
-use Rattle.thread_calls.specs.Advances.{RanFrom}
 use Rattle.thread_calls.specs.Asked.{unfinished_on}
 use Rattle.thread_calls.proofs.After.{came, enter_some, progress_done, progress_left}
 use Rattle.core_calls.proofs.Called.{called}
@@ -21,16 +18,13 @@ returns-in-Done-clause-made c =
     let a = c.args in
     let h = a.heap.now in
     let k = a.pass.now in
-    let q = c.enter.new.pass in
     let e = c.in-Ok.ensures in
     let x = c.in-Done.path in
     let entry = entry.Enter a.object x in
-    let is : c.in-Ok.progress ≡ Done x = c.in-Done.is in
-    let ran = subst (λ z. RanFrom h (enter_steps h.heap.shape (start_now h k) a.object a.now) k q (Ok z)) is e.run.ran in
     record {
       logged = entry;
-      is = progress_done h k q (came e.rests e.run) (λ ms z. EnterSays (start_now h k) a.object ms (Ok z)) c.in-Ok.progress
-          e.says e.stands x entry is (λ ms z. z.1) (task.Enter a.object a.now) (x, ran);
+      is = progress_done h k c.enter.new.pass (came e.rests e.run) (EnterSays (start_now h k) a.object) c.in-Ok.progress (λ z. Ok z)
+          e.says e.stands e.run.ran x entry c.in-Done.is (λ ms z. z.1) (task.Enter a.object a.now) (λ r. (x, r));
       of = record { is = eq-eqb _ _ refl; value = tt };
       same = λ f. refl;
     }
@@ -40,27 +34,18 @@ returns-in-Pending-clause-made c =
     let a = c.args in
     let h = a.heap.now in
     let k = a.pass.now in
-    let q = c.enter.new.pass in
     let e = c.in-Ok.ensures in
-    let why = c.in-Pending.why in
-    let is : c.in-Ok.progress ≡ Pending why = c.in-Pending.is in
-    let ran = subst (λ z. RanFrom h (enter_steps h.heap.shape (start_now h k) a.object a.now) k q (Ok (z))) is e.run.ran in (
-      progress_left h k q (came e.rests e.run) (λ ms z. EnterSays (start_now h k) a.object ms (Ok z)) c.in-Ok.progress
-          e.says e.stands (unfinished_on op.Enter a.object) why is (λ ms z. z.1.0)
-          (λ ms z. enter_some k.known.requesting k.known.thread a.object why ms z.1.1) (task.Enter a.object a.now) ran,
+    let why = c.in-Pending.why in (
+      progress_left h k c.enter.new.pass (came e.rests e.run) (EnterSays (start_now h k) a.object) c.in-Ok.progress (λ z. Ok z)
+          e.says e.stands e.run.ran (unfinished_on op.Enter a.object) why c.in-Pending.is (λ ms z. z.1.0)
+          (λ ms z. enter_some k.known.requesting k.known.thread a.object why ms z.1.1) (task.Enter a.object a.now) (λ r. r),
       refl,
     )
 
 pub returns-in-Done-clause-called : goal.returns-in-Done-clause-called
 returns-in-Done-clause-called c =
-    let a = c.args in
-    let h = a.heap.now in
-    let k = a.pass.now in
-    called (enter_named h.heap.shape (start_now h k) a.object a.now) c.in-Ok.ensures.run.ran
+    called (enter_named c.args.heap.now.heap.shape (start_now c.args.heap.now c.args.pass.now) c.args.object c.args.now) c.in-Ok.ensures.run.ran
 
 pub returns-in-Pending-clause-called : goal.returns-in-Pending-clause-called
 returns-in-Pending-clause-called c =
-    let a = c.args in
-    let h = a.heap.now in
-    let k = a.pass.now in
-    called (enter_named h.heap.shape (start_now h k) a.object a.now) c.in-Ok.ensures.run.ran
+    called (enter_named c.args.heap.now.heap.shape (start_now c.args.heap.now c.args.pass.now) c.args.object c.args.now) c.in-Ok.ensures.run.ran

@@ -13,13 +13,11 @@ pub returns-clause-made : goal.returns-clause-made
 returns-clause-made c =
     let a = c.args in
     let h = a.heap.now in
-    let k = a.pass.now in
-    let q = c.get_held-value.new.pass in
     let e = c.get_held-value.ensures in
     let entry = entry.Get a.object a.slot c.get_held-value.result in
     record {
       logged = entry;
-      is = logged h k q (came e.rests e.run) entry (tells_so e.says (λ ms z. z.1.0)) e.stands
+      is = logged h a.pass.now c.get_held-value.new.pass (came e.rests e.run) entry (tells_so e.says (λ ms z. z.1.0)) e.stands
           (task.Get a.object a.slot) (c.get_held-value.result, e.run.ran);
       of = record {
         is = and_from _ _ (eq-eqb a.object a.object refl) (eq-eqb a.slot a.slot refl);
@@ -30,7 +28,4 @@ returns-clause-made c =
 
 pub returns-clause-called : goal.returns-clause-called
 returns-clause-called c =
-    let a = c.args in
-    let h = a.heap.now in
-    let k = a.pass.now in
-    called (get_named (start_now h k) a.object a.slot) c.get_held-value.ensures.run.ran
+    called (get_named (start_now c.args.heap.now c.args.pass.now) c.args.object c.args.slot) c.get_held-value.ensures.run.ran

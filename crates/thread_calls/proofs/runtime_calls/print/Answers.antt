@@ -11,21 +11,15 @@ use Rattle.thread_calls.proofs.runtime_calls.print.Goals as goal
 pub returns-clause-made : goal.returns-clause-made
 returns-clause-made c =
     let a = c.args in
-    let h = a.heap.now in
-    let k = a.pass.now in
-    let q = c.print.new.pass in
     let e = c.print.ensures in
     let entry = entry.Print a.value in
     record {
       logged = entry;
-      is = logged h k q (came e.rests e.run) entry e.says e.stands (task.Print a.value) e.run.ran;
+      is = logged a.heap.now a.pass.now c.print.new.pass (came e.rests e.run) entry e.says e.stands (task.Print a.value) e.run.ran;
       of = record { is = same_itself a.value; value = tt };
       same = λ f. refl;
     }
 
 pub returns-clause-called : goal.returns-clause-called
 returns-clause-called c =
-    let a = c.args in
-    let h = a.heap.now in
-    let k = a.pass.now in
-    called (print_named (start_now h k) a.value) c.print.ensures.run.ran
+    called (print_named (start_now c.args.heap.now c.args.pass.now) c.args.value) c.print.ensures.run.ran

@@ -12,14 +12,11 @@ use Rattle.thread_calls.proofs.runtime_calls.put.Goals as goal
 pub returns-clause-made : goal.returns-clause-made
 returns-clause-made c =
     let a = c.args in
-    let h = a.heap.now in
-    let k = a.pass.now in
-    let q = c.put_held.new.pass in
     let e = c.put_held.ensures in
     let entry = entry.Put a.object a.slot a.value in
     record {
       logged = entry;
-      is = logged h k q (came e.rests e.run) entry (tells_so e.says (λ ms z. z.1.0)) e.stands
+      is = logged a.heap.now a.pass.now c.put_held.new.pass (came e.rests e.run) entry (tells_so e.says (λ ms z. z.1.0)) e.stands
           (task.Put a.object a.slot a.value) e.run.ran;
       of = record { is = and_from _ _ (and_from _ _ (eq-eqb a.object a.object refl) (eq-eqb a.slot a.slot refl)) (same_itself a.value); value = tt };
       same = λ f. refl;
@@ -27,7 +24,4 @@ returns-clause-made c =
 
 pub returns-clause-called : goal.returns-clause-called
 returns-clause-called c =
-    let a = c.args in
-    let h = a.heap.now in
-    let k = a.pass.now in
-    called (put_named (start_now h k) a.object a.slot a.value) c.put_held.ensures.run.ran
+    called (put_named (start_now c.args.heap.now c.args.pass.now) c.args.object c.args.slot c.args.value) c.put_held.ensures.run.ran

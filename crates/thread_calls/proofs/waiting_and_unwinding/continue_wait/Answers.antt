@@ -47,8 +47,7 @@ unreachable-requires g c =
     let mode = mode_is run.heap.now p run.fuel k a.frame.now r.heap r.may (Waiting a.object) r.at in
     let one = waits_held p t r.heap.program run.fuel a.object k.known.log s on.values on.follows mode in
     let told = holds_told p run.fuel t a.object k.known.log s on.follows there in
-    let none = c.in-Err.ensures.owner in
-    absurd (omega (arith, one, told, none))
+    absurd (omega (arith, one, told, c.in-Err.ensures.owner))
 
 pub returns-in-Done-clause-advanced : goal.returns-in-Done-clause-advanced
 returns-in-Done-clause-advanced g c =
@@ -73,22 +72,12 @@ returns-in-Pending-clause-advanced g c =
 
 pub returns-in-Done-clause-timed : goal.returns-in-Done-clause-timed
 returns-in-Done-clause-timed g c =
-    let a = c.args in
-    let run = a.run.now in
-    let h = run.heap.now in
-    let k = a.pass.now in
-    let q = c.wait.new.pass in
-    let now = c.time_now.result in
-    timed_at run.tick (task.Wait a.object now) k.known q.known now refl c.time_now.ensures
-    (called (wait_named h.heap.shape (start_now h k) a.object now) c.in-Ok.ensures.run.ran)
+    let run = c.args.run.now in
+    timed_at run.tick (task.Wait c.args.object c.time_now.result) _ _ c.time_now.result refl c.time_now.ensures
+    (called (wait_named run.heap.now.heap.shape (start_now run.heap.now c.args.pass.now) c.args.object c.time_now.result) c.in-Ok.ensures.run.ran)
 
 pub returns-in-Pending-clause-timed : goal.returns-in-Pending-clause-timed
 returns-in-Pending-clause-timed g c =
-    let a = c.args in
-    let run = a.run.now in
-    let h = run.heap.now in
-    let k = a.pass.now in
-    let q = c.wait.new.pass in
-    let now = c.time_now.result in
-    timed_at run.tick (task.Wait a.object now) k.known q.known now refl c.time_now.ensures
-    (called (wait_named h.heap.shape (start_now h k) a.object now) c.in-Ok.ensures.run.ran)
+    let run = c.args.run.now in
+    timed_at run.tick (task.Wait c.args.object c.time_now.result) _ _ c.time_now.result refl c.time_now.ensures
+    (called (wait_named run.heap.now.heap.shape (start_now run.heap.now c.args.pass.now) c.args.object c.time_now.result) c.in-Ok.ensures.run.ran)

@@ -2,7 +2,6 @@ use Rattle.std.proofs.Common.{false, Ok, refl, sym, ap, subst, arith}
 use Rattle.core_world.specs.declared.answer.Progress.TheVariants.{Done}
 use Rattle.core_world.specs.declared.heap_call.Operation.TheVariants as op
 use Rattle.core_world.specs.declared.heap_call.HeapCall.TheVariants as task
-use Rattle.core_world.specs.Trees.Operations.{exit_steps}
 use Rattle.plain_monitor.specs.declared.entry.Entry.TheVariants as entry
 use Rattle.plain_machine.specs.declared.monitor_call.NextEntry.TheVariants.{Leaves as Left}
 use Rattle.plain_machine.specs.declared.monitor_call.Mode.TheVariants.{Unwinding}
@@ -11,7 +10,7 @@ use Rattle.core_calls.proofs.Called.{called}
 use Rattle.core_calls.proofs.NamedCalls.{exit_named}
 use Rattle.core_calls.specs.CallsSay.{ExitSays}
 use Rattle.heap_table.specs.Resting.{start_now}
-use Rattle.thread_calls.specs.Advances.{RanFrom, HasAdvanced}
+use Rattle.thread_calls.specs.Advances.{HasAdvanced}
 use Rattle.thread_calls.specs.Asked.{unfinished_of, unfinished_on}
 use Rattle.thread_calls.specs.Between.{state_by}
 use Rattle.thread_calls.proofs.Advanced.{asks_leave, leave_done, still_waits}
@@ -39,8 +38,7 @@ unreachable-requires g c =
     let s = state_by run.heap.now run.program.now a.pass.now a.frame.now in
     let held = (asked_of run.program.now s (Left a.object) (thread_is run.heap.now run.program.now run.fuel a.pass.now a.frame.now r.heap r.may) asks).held in
     let one = held_is run.heap.now run.program.now run.fuel a.pass.now a.frame.now r.heap r.may a.object held in
-    let none = c.in-Err.ensures.owner in
-    absurd (omega (arith, one, none))
+    absurd (omega (arith, one, c.in-Err.ensures.owner))
 
 pub returns-in-Done-clause-advanced : goal.returns-in-Done-clause-advanced
 returns-in-Done-clause-advanced g c =
@@ -51,9 +49,8 @@ returns-in-Done-clause-advanced g c =
     let k = a.pass.now in
     let q = c.exit.new.pass in
     let e = c.in-Ok.ensures in
-    let ran = subst (λ z. RanFrom h (exit_steps (start_now h k) a.object) k q (Ok z)) c.in-Done.is e.run.ran in
-    let one = progress_done h k q (came e.rests e.run) (λ ms z. ExitSays (start_now h k) a.object ms (Ok z)) c.in-Ok.progress e.says e.stands
-    c.in-Done.field-0 (entry.Exit a.object) c.in-Done.is (λ ms z. z.1) (task.Exit a.object) ran in
+    let one = progress_done h k q (came e.rests e.run) (ExitSays (start_now h k) a.object) c.in-Ok.progress (λ z. Ok z) e.says e.stands e.run.ran
+    c.in-Done.field-0 (entry.Exit a.object) c.in-Done.is (λ ms z. z.1) (task.Exit a.object) (λ r. r) in
     subst (λ g. HasAdvanced h run.program.now run.fuel k q a.frame.now g (Done false)) (sym c.follow.ensures)
     (leave_done h run.program.now run.fuel k a.frame.now r.heap r.may q a.ending a.object r.at r.least one)
 
@@ -67,26 +64,19 @@ returns-in-Pending-clause-advanced g c =
     let q = c.exit.new.pass in
     let e = c.in-Ok.ensures in
     let why = c.in-Pending.why in
-    let ran = subst (λ z. RanFrom h (exit_steps (start_now h k) a.object) k q (Ok z)) c.in-Pending.is e.run.ran in
     let asks = asks_leave h run.program.now run.fuel k a.frame.now r.heap r.may a.ending a.object r.at r.least in
-    let one = progress_left h k q (came e.rests e.run) (λ ms z. ExitSays (start_now h k) a.object ms (Ok z)) c.in-Ok.progress e.says e.stands
+    let one = progress_left h k q (came e.rests e.run) (ExitSays (start_now h k) a.object) c.in-Ok.progress (λ z. Ok z) e.says e.stands e.run.ran
     (unfinished_on op.Exit a.object) why c.in-Pending.is (λ ms z. z.1.0)
-    (λ ms z. cause_some k.known.thread a.object why ms z.1.1.cause) (task.Exit a.object) ran in
+    (λ ms z. cause_some k.known.thread a.object why ms z.1.1.cause) (task.Exit a.object) (λ r. r) in
     still_waits h run.program.now run.fuel k a.frame.now r.heap r.may q why (Unwinding a.ending) (unfinished_on op.Exit a.object) r.at one
     (sym (ap unfinished_of asks)) refl
 
 pub returns-in-Done-clause-timed : goal.returns-in-Done-clause-timed
 returns-in-Done-clause-timed g c = λ tick.
-    let a = c.args in
-    let run = a.run.now in
-    let k = a.pass.now in
-    let q = c.exit.new.pass in
-    timed_still tick (task.Exit a.object) k.known q.known refl (called (exit_named (start_now run.heap.now k) a.object) c.in-Ok.ensures.run.ran)
+    timed_still tick (task.Exit c.args.object) _ _ refl
+    (called (exit_named (start_now c.args.run.now.heap.now c.args.pass.now) c.args.object) c.in-Ok.ensures.run.ran)
 
 pub returns-in-Pending-clause-timed : goal.returns-in-Pending-clause-timed
 returns-in-Pending-clause-timed g c = λ tick.
-    let a = c.args in
-    let run = a.run.now in
-    let k = a.pass.now in
-    let q = c.exit.new.pass in
-    timed_still tick (task.Exit a.object) k.known q.known refl (called (exit_named (start_now run.heap.now k) a.object) c.in-Ok.ensures.run.ran)
+    timed_still tick (task.Exit c.args.object) _ _ refl
+    (called (exit_named (start_now c.args.run.now.heap.now c.args.pass.now) c.args.object) c.in-Ok.ensures.run.ran)

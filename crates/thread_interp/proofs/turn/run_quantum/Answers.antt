@@ -84,8 +84,7 @@ loop-cause-preserved g c =
 
 pub loop-cause-smaller : goal.loop-cause-smaller
 loop-cause-smaller g c =
-    let a = c.args in
-    let run = a.run.now in
+    let run = c.args.run.now in
     let l = c.loop-cause in
     let w = c.poll_and_advance-went.result in
     let did = subst (HasPolled run.heap.now run.program.now run.fuel l.pass c.poll_and_advance-went.new.pass l.frame c.poll_and_advance-went.new.frame)

@@ -38,8 +38,7 @@ returns-in-Pending-clause-moved g c =
 
 pub returns-clause-runner : goal.returns-clause-runner
 returns-clause-runner g c =
-    let a = c.args in
-    let run = a.run.now in
+    let run = c.args.run.now in
     is_runner run.heap.now run.program.now run.fuel c.run_quantum-moved.new.pass
     c.set_stopped.new.pass c.run_quantum-moved.new.frame c.set_stopped.ensures.still
 

@@ -8,35 +8,28 @@ returns-then-later-ne0 c =
     let n = c.args.count in
     let m = c.args.next in
     let few = c.requires.few in
-    let low = c.requires.next in
     let all : 1 * 2 ^ n % 2 ^ 64 ≡ 2 ^ n = one_shl n 64 (omega (arith, few)) in
-    let first : 1 * 2 ^ m % 2 ^ 64 ≡ 2 ^ m = one_shl m 64 low in
+    let first : 1 * 2 ^ m % 2 ^ 64 ≡ 2 ^ m = one_shl m 64 c.requires.next in
     let small : 1 * 2 ^ m % 2 ^ 64 - 1 < 2 ^ 64 = omega arith in
-    let some = c.if-later-ne0.true in
-    from_later c.args.word m n (1 * 2 ^ n % 2 ^ 64) (1 * 2 ^ m % 2 ^ 64) few c.ranges.word.fits all first small (omega (arith, some))
+    from_later c.args.word m n (1 * 2 ^ n % 2 ^ 64) (1 * 2 ^ m % 2 ^ 64) few c.ranges.word.fits all first small (omega (arith, c.if-later-ne0.true))
 
 pub returns-then-here-ne0 : goal.returns-then-here-ne0
 returns-then-here-ne0 c =
     let n = c.args.count in
     let m = c.args.next in
     let few = c.requires.few in
-    let low = c.requires.next in
     let all : 1 * 2 ^ n % 2 ^ 64 ≡ 2 ^ n = one_shl n 64 (omega (arith, few)) in
-    let first : 1 * 2 ^ m % 2 ^ 64 ≡ 2 ^ m = one_shl m 64 low in
+    let first : 1 * 2 ^ m % 2 ^ 64 ≡ 2 ^ m = one_shl m 64 c.requires.next in
     let small : 1 * 2 ^ m % 2 ^ 64 - 1 < 2 ^ 64 = omega arith in
-    let none = c.if-later-ne0.false in
-    let some = c.if-here-ne0.true in
     from_here c.args.word m n (1 * 2 ^ n % 2 ^ 64) (1 * 2 ^ m % 2 ^ 64) few c.ranges.word.fits all first small
-    (omega (arith, none)) (omega (arith, some))
+    (omega (arith, c.if-later-ne0.false)) (omega (arith, c.if-here-ne0.true))
 
 pub returns : goal.returns
 returns c =
     let n = c.args.count in
     let m = c.args.next in
     let few = c.requires.few in
-    let low = c.requires.next in
     let all : 1 * 2 ^ n % 2 ^ 64 ≡ 2 ^ n = one_shl n 64 (omega (arith, few)) in
-    let first : 1 * 2 ^ m % 2 ^ 64 ≡ 2 ^ m = one_shl m 64 low in
+    let first : 1 * 2 ^ m % 2 ^ 64 ≡ 2 ^ m = one_shl m 64 c.requires.next in
     let small : 1 * 2 ^ m % 2 ^ 64 - 1 < 2 ^ 64 = omega arith in
-    let none = c.if-here-ne0.false in
-    nowhere c.args.word m n (1 * 2 ^ n % 2 ^ 64) (1 * 2 ^ m % 2 ^ 64) few c.ranges.word.fits all first small (omega (arith, none))
+    nowhere c.args.word m n (1 * 2 ^ n % 2 ^ 64) (1 * 2 ^ m % 2 ^ 64) few c.ranges.word.fits all first small (omega (arith, c.if-here-ne0.false))

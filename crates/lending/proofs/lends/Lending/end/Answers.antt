@@ -7,7 +7,6 @@ use Rattle.lending.proofs.lends.Lending.end.Goals as goal
 pub loop-i-init : goal.loop-i-init
 loop-i-init g c =
     let n = c.slot_count-count.ensures in
-    let slots = c.close-closed.ensures.counts.1 in
     let counted : vec_len c.args.things ≡ length c.args.things.items = c.args.things.ok.0 in
     let empty = ap length c.requires.empty in
     let room = c.requires.room in
@@ -17,25 +16,23 @@ loop-i-init g c =
       len = sym n;
       taken = λ k lt. absurd (omega (arith, lt));
       full = λ k low lt. c.close-closed.ensures.values.1 k low (subst (λ (m : ℕ). k < m) n lt);
-      room = (omega (arith, counted, empty), omega (arith, room, n, slots));
+      room = (omega (arith, counted, empty), omega (arith, room, n, c.close-closed.ensures.counts.1));
       so_far = none_yet (g.P.LendRule.may_lie c.args.self.table.shared.key) c.args.things.items c.requires.empty;
     }
 
 pub take_home-requires-clause-word : goal.take_home-requires-clause-word
 take_home-requires-clause-word g c =
-    let n = c.slot_count-count.ensures in
     let words = c.close-closed.ensures.counts.0 in
     let slots = c.close-closed.ensures.counts.1 in
     let sized = c.args.self.sized in
     let more = c.loop-i-test.true in
-    let inside : c.loop-i.i < slots_len c.close-closed.result.words = omega (arith, n, words, slots, sized, more) in
+    let inside : c.loop-i.i < slots_len c.close-closed.result.words = omega (arith, c.slot_count-count.ensures, words, slots, sized, more) in
     subst (λ ws. (c.loop-i.i < slots_len ws) × IsFull ws) (sym c.loop-i.invariant.words) (inside, c.close-closed.ensures.values.0)
 
 pub take_home-requires-clause-slot : goal.take_home-requires-clause-slot
 take_home-requires-clause-slot g c =
     let more = c.loop-i-test.true in
-    let len = c.loop-i.invariant.len in
-    (omega (arith, more, len), c.loop-i.invariant.full c.loop-i.i (omega arith) more)
+    (omega (arith, more, c.loop-i.invariant.len), c.loop-i.invariant.full c.loop-i.i (omega arith) more)
 
 pub loop-i-preserved : goal.loop-i-preserved
 loop-i-preserved g c =
@@ -68,9 +65,7 @@ loop-i-preserved g c =
 
 pub free-requires : goal.free-requires
 free-requires g c = λ k lt.
-    let over = c.loop-i-test.false in
-    let len = c.loop-i.invariant.len in
-    c.loop-i.invariant.taken k (omega (arith, lt, len, over))
+    c.loop-i.invariant.taken k (omega (arith, lt, c.loop-i.invariant.len, c.loop-i-test.false))
 
 pub returns-then-len-count-clause-all : goal.returns-then-len-count-clause-all
 returns-then-len-count-clause-all g c =
@@ -84,13 +79,9 @@ pub returns-else-len-count-clause-some : goal.returns-else-len-count-clause-some
 returns-else-len-count-clause-some g c =
     let n = c.slot_count-count.ensures in
     let slots = c.close-closed.ensures.counts.1 in
-    let len = c.len.ensures in
-    let differs = c.if-len-count.false in
-    let few = c.loop-i.invariant.room.0 in
     let within = c.loop-i.auto.i-end in (
-      omega (arith, n, slots, len, differs, few, within),
+      omega (arith, n, slots, c.len.ensures, c.if-len-count.false, c.loop-i.invariant.room.0, within),
       λ j y e.
           let k = c.loop-i.invariant.so_far.some j y e in
-          let low = k.1 in
-          (k.0, omega (arith, low, within, n, slots), k.2),
+          (k.0, omega (arith, k.1, within, n, slots), k.2),
     )

@@ -5,9 +5,7 @@ use Rattle.lending.proofs.lends.Lending.new.Goals as goal
 
 pub into_slots-requires-clause-room : goal.into_slots-requires-clause-room
 into_slots-requires-clause-room g c =
-    let count = c.len-count.ensures in
-    let room = c.in-Ok.ensures.capacity in
-    omega (arith, count, room)
+    omega (arith, c.len-count.ensures, c.in-Ok.ensures.capacity)
 
 pub new-requires : goal.new-requires
 new-requires g c =
@@ -17,8 +15,7 @@ pub invariant_of-result : goal.invariant_of-result
 invariant_of-result g c =
     let e = c.in-Ok-new.ensures.ok in
     let slots = e.1 ∙ ap length c.into_slots.ensures ∙ length-map c.args.things.items Some ∙ sym c.args.things.ok.0 in
-    let few = c.requires.few in
-    record { sized = (e.0, omega (arith, slots, few)) }
+    record { sized = (e.0, omega (arith, slots, c.requires.few)) }
 
 pub returns-in-Ok-new-clause-ok : goal.returns-in-Ok-new-clause-ok
 returns-in-Ok-new-clause-ok g c =
@@ -27,13 +24,9 @@ returns-in-Ok-new-clause-ok g c =
 
 pub out_of_slots-requires-clause-room : goal.out_of_slots-requires-clause-room
 out_of_slots-requires-clause-room g c =
-    let slots = c.in-Err.field-0.slots.ok.0 in
     let same = ap length (c.in-Err.ensures.err ∙ c.into_slots.ensures) in
     let mapped = length-map c.args.things.items Some in
-    let things = c.args.things.ok.0 in
-    let count = c.len-count.ensures in
-    let room = c.in-Ok-with_capacity.ensures.capacity in
-    omega (arith, slots, same, mapped, things, count, room)
+    omega (arith, c.in-Err.field-0.slots.ok.0, same, mapped, c.args.things.ok.0, c.len-count.ensures, c.in-Ok-with_capacity.ensures.capacity)
 
 pub returns-in-Err-clause-err : goal.returns-in-Err-clause-err
 returns-in-Err-clause-err g c = c.out_of_slots.ensures c.args.things.items (c.in-Err.ensures.err ∙ c.into_slots.ensures)

@@ -5,11 +5,10 @@ use Rattle.lending.proofs.lends.Lending.take.Goals as goal
 pub swap_new_seat-found-requires : goal.swap_new_seat-found-requires
 swap_new_seat-found-requires g c =
     let key = c.args.self.now.table.shared.key in
-    let n = c.args.self.now.table.shared.table_id.slots in
     let sized = c.args.self.now.sized in
     let inside = c.requires in (
       omega (arith, sized, inside),
-      taken (g.P.LendRule.may_lie key) n c.args.place key inside (omega (arith, sized, inside)),
+      taken (g.P.LendRule.may_lie key) c.args.self.now.table.shared.table_id.slots c.args.place key inside (omega (arith, sized, inside)),
     )
 
 pub exchange-requires : goal.exchange-requires

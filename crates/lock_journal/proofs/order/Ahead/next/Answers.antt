@@ -13,10 +13,9 @@ first_head-requires-clause-stamps c =
 
 pub returns-in_err-first-clause-first : goal.returns-in_err-first-clause-first
 returns-in_err-first-clause-first c =
-    let logs = c.args.run.now.logs in
     let places = c.args.self.now.places in
     rw c.from_residual.ensures
-    (given_by_first logs c.first_logs-logs.result.now places places None c.requires.few c.first_logs-logs.ensures.first
+    (given_by_first c.args.run.now.logs c.first_logs-logs.result.now places places None c.requires.few c.first_logs-logs.ensures.first
     (none_left _ _ (rw c.in_err-first.was at c.first_head.ensures)))
 
 pub returns-clause-first : goal.returns-clause-first

@@ -26,14 +26,13 @@ join_seat-requires g c =
 pub returns : goal.returns
 returns g c =
     let e = c.join_seat.ensures in
-    let h = c.requires.knows in
     let theirs = ap (λ (m : Me g.row.T.Denot SeatView). m.0.parts) c.requires.worker.1 in
     record {
       seat = (
         e.0,
         e.2 ∙ λ i. (
           seat_view (c.args.seat.now.me.0.parts + theirs i) None (c.args.seat.now.me.0.over || c.args.worker.me.0.over),
-          (h.2 i).1,
+          (c.requires.knows.2 i).1,
         ),
       );
     }

@@ -13,13 +13,12 @@ use Rattle.turn_pool.proofs.pool.Pool.give.Goals as goal
 pub fetch_or-requires : goal.fetch_or-requires
 fetch_or-requires g c =
     let h = c.requires.knows in
-    let s = c.args.self.now.sized in
     let n = c.args.self.now.slots.shared.table_id.slots in
     let k = c.args.place in
     let b = number c.args.word in
     let low = below c.args.word in (
       c.requires.table,
-      (let a = s.0 in let e = c.place.ensures in omega (arith, a, low, e)),
+      (let a = c.args.self.now.sized.0 in let e = c.place.ensures in omega (arith, a, low, e)),
       subst (λ (w : ℕ). Allows (Pooled (by_number g.P.TurnRule.may_be)) n c.args.seat.now.id c.args.seat.now.me w (λ x. bit_or x (bit_of k))
           (λ found after. after ≡ (seat_view c.args.seat.now.me.0.parts None c.args.seat.now.me.0.over, []))) (sym c.place.ensures)
           (subst (λ (m : Me g.row.T.Denot SeatView). Allows (Pooled (by_number g.P.TurnRule.may_be)) n c.args.seat.now.id m (16 * b)

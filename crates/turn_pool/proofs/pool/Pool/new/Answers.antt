@@ -8,8 +8,7 @@ use Rattle.turn_pool.proofs.pool.Pool.new.Goals as goal
 
 pub new-requires : goal.new-requires
 new-requires g c =
-    let e = c.len-count.ensures in
     subst (λ (n : ℕ). Pooled (by_number g.P.TurnRule.may_be) (opening
     (slice_set (replicate width 0) 0 (1 * 2 ^ n % 18446744073709551616 - 1)) c.args.things.items (seat_view all_parts None false)))
-    (sym (e ∙ c.args.things.ok.0))
+    (sym (c.len-count.ensures ∙ c.args.things.ok.0))
     (opens (by_number g.P.TurnRule.may_be) c.args.things.items (let f = c.requires.few in let o = c.args.things.ok.0 in omega (arith, f, o)) c.requires.are)

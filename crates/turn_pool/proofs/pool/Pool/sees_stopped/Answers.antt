@@ -13,10 +13,9 @@ use Rattle.turn_pool.proofs.pool.Pool.sees_stopped.Goals as goal
 pub load-requires : goal.load-requires
 load-requires g c =
     let h = c.requires.knows in
-    let s = c.args.self.now.sized in
     let n = c.args.self.now.slots.shared.table_id.slots in (
       c.requires.table,
-      (let a = s.0 in omega (arith, a)),
+      (let a = c.args.self.now.sized.0 in omega (arith, a)),
       subst (λ (m : Me g.row.T.Denot SeatView). Allows (Pooled (by_number g.P.TurnRule.may_be)) n c.args.seat.now.id m 32 (λ x. x)
           (SawStopped (step n 32 0 0 none) m)) (sym h.2)
           (sees_stopped (by_number g.P.TurnRule.may_be) n c.args.seat.now.id h.0 h.1),

@@ -12,11 +12,10 @@ use Rattle.turn_pool.proofs.pool.Pool.take.Goals as goal
 pub fetch_and-found-requires : goal.fetch_and-found-requires
 fetch_and-found-requires g c =
     let h = c.requires.knows in
-    let s = c.args.self.now.sized in
     let n = c.args.self.now.slots.shared.table_id.slots in
     let k = c.args.place in (
       c.requires.table,
-      (let a = s.0 in omega (arith, a)),
+      (let a = c.args.self.now.sized.0 in omega (arith, a)),
       subst (λ (m : Me g.row.T.Denot SeatView). Allows (Pooled (by_number g.P.TurnRule.may_be)) n c.args.seat.now.id m 0 (λ x. bit_and x (all_but k))
           (Took (by_number g.P.TurnRule.may_be) (step n 0 (all_but k) 0 none) m)) (sym h.3)
           (took (by_number g.P.TurnRule.may_be) n c.args.seat.now.id h.0 k h.1 h.2 c.requires.place),

@@ -7,6 +7,5 @@ bounds-logs-i c = c.requires
 
 pub returns : goal.returns
 returns c =
-    let logs = c.captures.logs.now in
-    let at = slice_get_read logs _ c.args.i c.index-logs-i.result refl c.requires c.index-logs-i.is in
+    let at = slice_get_read c.captures.logs.now _ c.args.i c.index-logs-i.result refl c.requires c.index-logs-i.is in
     IfSome_then c.copy_log.result c.copy_log.ensures (λ copied is. at ∙ ap Some (sym is))
