@@ -56,9 +56,9 @@ static inline void pause_a_moment(void) {
 }
 
 /* Between two tries of a call, of which so many were made. An owner mostly lets go soon: so the first tries follow one another on the processor, each
-   after twice the time of the one before, in which the owner works undisturbed. After these, others may run. */
+   after twice the time of the one before, in which the owner works undisturbed: the last after half a millisecond or so. After these, others may run. */
 static inline void give_way_after(biasrun_handle *pass, unsigned tries) {
-    const unsigned most_tries = 8, fewest_moments = 8;
+    const unsigned most_tries = 12, fewest_moments = 8;
     if (tries >= most_tries) {
         give_way(pass);
         return;
